@@ -1,0 +1,4 @@
+mod Kept
+mod OneFlaw
+mod Places
+mod Ranked

@@ -1,0 +1,29 @@
+use Rattle.std.proofs.Common.{[], length, slice_index_or, refl, arith}
+use Rattle.std.proofs.lemmas.Option.{slice_get_within, slice_get_read}
+use Rattle.completion_check.specs.Relations.{KeepsEach, IsFirstBrokenOf}
+use Rattle.completion_check.proofs.Kept.{each_at_more}
+use Rattle.completion_check.proofs.Ranked.{keeps_given, first_broken}
+use Rattle.completion_check.proofs.check.check_given.Goals as goal
+
+pub returns-in-Some-clause-err : goal.returns-in-Some-clause-err
+returns-in-Some-clause-err c =
+    let at = slice_get_read c.args.relations.now (length c.args.relations.now) c.loop-at.at c.index-relations-at.result refl c.loop-at-test.true c.index-relations-at.is in
+    let here : IsFirstBrokenOf c.index-relations-at.result (slice_index_or c.args.completion.now c.loop-at.at []) c.in-Some.pair =
+    rw (c.as_slice-rankings.ensures, c.relation.ensures) at c.in-Some.ensures.some in
+    (c.requires.ranked, first_broken c.args.relations.now c.args.completion.now c.loop-at.at c.index-relations-at.result c.in-Some.pair at c.loop-at.invariant here)
+
+pub loop-at-preserved : goal.loop-at-preserved
+loop-at-preserved c =
+    let at = slice_get_read c.args.relations.now (length c.args.relations.now) c.loop-at.at c.index-relations-at.result refl c.loop-at-test.true c.index-relations-at.is in
+    let here : KeepsEach (slice_index_or c.args.completion.now c.loop-at.at []) c.index-relations-at.result.given =
+    rw (c.as_slice-rankings.ensures, c.relation.ensures) at c.in_default.ensures.none in
+    each_at_more (λ rel r. KeepsEach (slice_index_or c.args.completion.now rel []) r.given) c.args.relations.now c.loop-at.at c.index-relations-at.result at here
+    c.loop-at.invariant
+
+pub returns-clause-ok : goal.returns-clause-ok
+returns-clause-ok c =
+    record {
+      completion = c.requires.ranked;
+      given = keeps_given c.args.relations.now c.args.completion.now
+          (λ rel r at. c.loop-at.invariant rel r (omega (arith, slice_get_within c.args.relations.now rel r at)) at);
+    }

@@ -1,0 +1,10 @@
+//! The check of a completion: is it consistent, and if not, what does it fail first?
+#![tactic(auto)]
+
+mod check;
+mod marks;
+mod relations;
+mod scratch;
+
+pub use check::{check_completion, first_flaw_is_one, flaw_rules_out};
+pub use scratch::CheckScratch;

@@ -1,0 +1,3 @@
+pub mod ErrorCode
+pub mod Lists
+pub mod Number

@@ -1,0 +1,40 @@
+//! The values that every layer speaks of: names, typed values, tuples, rows, ids, pairs of rows, and
+//! the lists that hold them.
+//!
+//! Contracts see a [`Name`] as its bytes and every list as the list of its items.
+#![tactic(auto)]
+
+mod error_code;
+mod ids;
+mod list;
+mod memory;
+mod name;
+mod number;
+mod pair;
+mod row;
+mod value;
+
+pub use error_code::ErrorCode;
+pub use ids::{AttrId, EntId, RelId, RowId};
+pub use list::ItemList;
+pub use memory::NoMemory;
+pub use name::{Name, is_text};
+pub use number::read_int;
+pub use pair::Pair;
+pub use row::Row;
+pub use value::{Cmp, Kind, Value};
+
+/// Bytes of a text.
+pub type ByteList = ItemList<u8>;
+/// Names, in the order in which they were given.
+pub type NameList = ItemList<Name>;
+/// Values of one row, one per attribute, in the order of the attributes.
+pub type Tuple = ItemList<Value>;
+/// Tuples, in the order of the records that they were read from.
+pub type TupleList = ItemList<Tuple>;
+/// The rows of a relation; the place of a row is its [`RowId`].
+pub type Rows = ItemList<Row>;
+/// Rows of one relation by their ids, as a ranking lists them: the oldest first.
+pub type RowList = ItemList<RowId>;
+/// Pairs of rows of one relation.
+pub type PairList = ItemList<Pair>;

@@ -1,0 +1,41 @@
+-- How the program ends: with which status, and what its sink got.
+use Rattle.std.specs.Prelude.{◌≡◌, ◌⊎◌, ℕ, List, Option, Some, IfSome, Result, Ok, Err}
+use Rattle.std.specs.Io.KnownBytes.{Appends}
+use Rattle.currency_edge.specs.Fault.{Rose}
+use Rattle.currency_edge.specs.Sink.{AppendsPrefix}
+use Rattle.spec_model.specs.Consistent.{IsSatisfiable}
+use Rattle.spec_model.specs.declared.relation.Relation.{Relation}
+use Rattle.currency_cli.specs.Due.{IsSpecRead, IsDue}
+use Rattle.currency_cli.specs.Texts.{accepted_text, trouble_text, trouble_status}
+use Rattle.currency_cli.specs.Words.{Documents, documents_in}
+use Rattle.currency_cli.specs.declared.trouble.Trouble.{Trouble}
+
+-- what an outcome writes
+abbrev pub output_of : Result (Unit {0}) Trouble → List ℕ
+output_of (Ok done) = accepted_text
+output_of (Err e) = trouble_text e
+
+-- the status of an outcome whose text was written
+abbrev pub status_of : Result (Unit {0}) Trouble → ℕ
+status_of (Ok done) = 0
+status_of (Err e) = trouble_status e
+
+-- the status of an outcome whose text met a failing sink: a refusal comes earlier, so it keeps its own
+abbrev pub failed_status_of : Result (Unit {0}) Trouble → ℕ
+failed_status_of (Ok done) = 8
+failed_status_of (Err e) = trouble_status e
+
+-- an outcome ends with a status, its text written whole; or the sink failed, or memory ran out, after a prefix of it
+abbrev pub EndsWith : Option (List ℕ) → Option (List ℕ) → ℕ → ℕ → Result (Unit {0}) Trouble → ℕ → Type 0
+EndsWith old new before now outcome status =
+    ((status ≡ status_of outcome) × Appends old new (output_of outcome))
+    ⊎ (((status ≡ failed_status_of outcome) × Rose before now × AppendsPrefix old new (output_of outcome))
+    ⊎ ((status ≡ 9) × AppendsPrefix old new (output_of outcome)))
+
+-- the words name documents of which the first is read as a specification that has a consistent completion
+pub record NamesConsistent (told : List (List ℕ × List ℕ)) (words : List (List ℕ)) : Type 0 where
+  pub documents : Documents
+  pub named : documents_in words ≡ Some documents
+  pub relations : List Relation
+  pub read : IsSpecRead told documents.spec (Ok relations)
+  pub satisfiable : IsSatisfiable relations

@@ -1,0 +1,29 @@
+-- What the code's own types say.
+use Rattle.std.specs.Prelude.{ℕ, List, Result, Ok, Err}
+use Rattle.currency_cli.specs.Words.{Documents}
+use Rattle.currency_cli.specs.declared.words.Documents.{Documents as Names}
+use Rattle.currency_cli.specs.declared.trouble.Trouble.{Trouble}
+use Rattle.currency_cli.specs.declared.trouble.Trouble.TheVariants.{Words, Unshown, Refused, Limit, ReadFault, NoMemory}
+
+-- the names of documents, as bytes
+abbrev pub documents_of : Names → Documents
+documents_of d = record { spec = d.spec.now; question = d.question.now; report = d.report.now }
+
+-- a trouble that the words and the documents determine: no fault of the outside, and no want of memory
+abbrev pub IsDetermined : Trouble → Type 0
+IsDetermined Words = Unit {0}
+IsDetermined (Unshown check document line) = Unit {0}
+IsDetermined (Refused code document line) = Unit {0}
+IsDetermined (Limit k) = Unit {0}
+IsDetermined (ReadFault document) = ⊥
+IsDetermined NoMemory = ⊥
+
+-- an outcome that the words and the documents determine
+abbrev pub IsSettled : {A : Type 0} → Result A Trouble → Type 0
+IsSettled (Ok a) = Unit {0}
+IsSettled (Err e) = IsDetermined e
+
+-- a document could not be read
+abbrev pub IsReadFault : {A : Type 0} → Result A Trouble → Type 0
+IsReadFault (Err (ReadFault name)) = Unit {0}
+IsReadFault other = ⊥

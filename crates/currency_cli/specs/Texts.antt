@@ -1,0 +1,44 @@
+-- What is written for each outcome, and the status that goes with it.
+use Rattle.std.specs.Prelude.{ℕ, List, [], ◌∷◌, ◌++◌, codes, Result, Ok, Err}
+use Rattle.std.specs.Fmt.{decimal}
+use Rattle.currency_base.specs.ErrorCode.{code_text}
+use Rattle.currency_base.specs.declared.error_code.ErrorCode.{ErrorCode}
+use Rattle.currency_cli.specs.declared.trouble.Check.{Check}
+use Rattle.currency_cli.specs.declared.trouble.Check.TheVariants.{V1, V3}
+use Rattle.currency_cli.specs.declared.trouble.Trouble.{Trouble}
+use Rattle.currency_cli.specs.declared.trouble.Trouble.TheVariants.{Words, Unshown, Refused, Limit, ReadFault, NoMemory}
+
+-- the line of a report that shows its verdict `consistent`
+abbrev pub accepted_text : List ℕ
+accepted_text = codes "accepted consistent\n"
+
+-- which check a report fails
+abbrev pub check_text : Check → List ℕ
+check_text V1 = codes "refused V1"
+check_text V3 = codes "refused V3"
+
+-- which fault a document has
+abbrev pub error_text : ErrorCode → List ℕ
+error_text code = codes "error " ++ code_text code
+
+-- what is said of a document, its name and a line in it, with blanks between
+abbrev pub document_text : List ℕ → List ℕ → ℕ → List ℕ
+document_text said name line = said ++ 32 ∷ [] ++ name ++ (32 ∷ decimal line ++ 10 ∷ [])
+
+-- the line of a refusal; for want of memory nothing is written
+abbrev pub trouble_text : Trouble → List ℕ
+trouble_text Words = codes "words refused\n"
+trouble_text (Unshown check document line) = document_text (check_text check) document line
+trouble_text (Refused code document line) = document_text (error_text code) document line
+trouble_text (Limit k) = codes "limit " ++ decimal k ++ 10 ∷ []
+trouble_text (ReadFault document) = codes "read fault " ++ document ++ 10 ∷ []
+trouble_text NoMemory = []
+
+-- the status that a refusal ends with
+abbrev pub trouble_status : Trouble → ℕ
+trouble_status Words = 2
+trouble_status (Unshown check document line) = 4
+trouble_status (Refused code document line) = 5
+trouble_status (Limit k) = 6
+trouble_status (ReadFault document) = 7
+trouble_status NoMemory = 9

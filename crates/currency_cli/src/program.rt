@@ -1,0 +1,93 @@
+ghost use Rattle.std.specs.Prelude.{◌≡◌, ◌≢◌, ◌⊎◌, ◌≤◌, ℕ, List, IfSome, Ok, Err, Result, map, string_bytes};
+ghost use Rattle.std.specs.Io.KnownBytes.{Appends};
+ghost use Rattle.currency_edge.specs.Fault.{Rose};
+ghost use Rattle.currency_edge.specs.Sink.{AppendsPrefix};
+ghost use Rattle.currency_cli.specs.Due.{IsDue};
+ghost use Rattle.currency_cli.specs.Ends.{EndsWith, NamesConsistent};
+ghost use Rattle.currency_cli.specs.Named.{IsSettled, IsReadFault};
+ghost use Rattle.currency_cli.specs.Texts.{accepted_text, trouble_status};
+ghost use Rattle.currency_cli.specs.declared.trouble.Trouble.{Trouble};
+
+use crate::Trouble;
+use crate::stages::outcome;
+use crate::texts::text_of;
+use currency_edge::{Shelf, Sink, SinkFault, put_all};
+use std::alloc::Global;
+
+// The line of a report that shows its verdict.
+const ACCEPTED: &str = "accepted consistent\n";
+
+// Writes the text of a job that was done.
+fn hand_out<K: Sink>(alloc: Global, out: &mut K) -> u8
+    ensures { EndsWith (K.written out.old) (K.written out.new) (K.faults out.old) (K.faults out.new) (Ok tt) result }
+{
+    match put_all(alloc, out, ACCEPTED.as_bytes()) {
+        Ok(()) => 0,
+        Err(SinkFault::Failed) => 8,
+        Err(SinkFault::NoMemory) => 9,
+    }
+}
+
+// The status of a refusal whose text is written.
+fn status_of(trouble: &Trouble) -> u8
+    ensures { result ≡ trouble_status trouble.now }
+{
+    match trouble {
+        Trouble::Words => 2,
+        Trouble::Unshown { .. } => 4,
+        Trouble::Refused { .. } => 5,
+        Trouble::Limit(_) => 6,
+        Trouble::ReadFault(_) => 7,
+        Trouble::NoMemory => 9,
+    }
+}
+
+// Writes the text of a refusal. Where the sink fails, the status stays that of the refusal.
+fn refuse<K: Sink>(alloc: Global, out: &mut K, trouble: &Trouble) -> u8
+    ensures { EndsWith (K.written out.old) (K.written out.new) (K.faults out.old) (K.faults out.new) (Err trouble.now) result }
+{
+    let Ok(text) = text_of(alloc, trouble) else {
+        return 9;
+    };
+    match put_all(alloc, out, text.as_str().as_bytes()) {
+        Ok(()) => status_of(trouble),
+        Err(SinkFault::Failed) => status_of(trouble),
+        Err(SinkFault::NoMemory) => 9,
+    }
+}
+
+/// Runs the program: reads the documents that the words name, does the job, and writes its text. The
+/// whole text is made first. The answer is the exit status:
+///
+/// | status | comes |
+/// |---|---|
+/// | 0 | the report shows its verdict, so the specification has a consistent completion |
+/// | 2 | the words are not a program's name, `verify` and three words |
+/// | 4 | the report does not show its verdict |
+/// | 5 | a document is refused |
+/// | 6 | a document is longer than its bound |
+/// | 7 | the shelf could not give a document |
+/// | 8 | the sink could not take the text of status 0 |
+/// | 9 | want of memory |
+pub fn run<S: Shelf, K: Sink>(alloc: Global, words: &[String], shelf: &mut S, out: &mut K) -> u8
+    // Whatever comes, it is what is due for the words and the told documents, with its text and status.
+    ensures ends { (outcome : Result (Unit {0}) Trouble)
+        × (IsSettled outcome → IfSome (S.texts shelf.old) (λ told. IsDue told (map (λ w. string_bytes w) words.now) outcome))
+        × (IsReadFault outcome → Rose (S.faults shelf.old) (S.faults shelf.new))
+        × EndsWith (K.written out.old) (K.written out.new) (K.faults out.old) (K.faults out.new) outcome result }
+
+    // The job was done.
+    ensures accepted { result ≡ 0 → IfSome (S.texts shelf.old) (λ told. IsDue told (map (λ w. string_bytes w) words.now) (Ok tt)) }
+    ensures consistent { result ≡ 0 → IfSome (S.texts shelf.old) (λ told. NamesConsistent told (map (λ w. string_bytes w) words.now)) }
+    ensures accepted_text { result ≡ 0 → Appends (K.written out.old) (K.written out.new) accepted_text }
+
+    // Faults of the outside.
+    ensures read_fault { result ≡ 7 → Rose (S.faults shelf.old) (S.faults shelf.new) }
+    ensures write_fault { result ≡ 8 → Rose (K.faults out.old) (K.faults out.new) }
+    ensures write_fault_text { result ≡ 8 → AppendsPrefix (K.written out.old) (K.written out.new) accepted_text }
+{
+    match outcome(alloc, words, shelf) {
+        Ok(()) => hand_out(alloc, out),
+        Err(trouble) => refuse(alloc, out, &trouble),
+    }
+}

@@ -1,0 +1,35 @@
+use currency_base::{ErrorCode, Name};
+
+/// Which check a report fails, as a refusal prints it.
+#[derive(Clone, Copy, Debug, PartialEq, Eq)]
+pub enum Check {
+    /// A listed completion is not consistent.
+    V1,
+    /// What is listed does not show the verdict.
+    V3,
+}
+
+/// Why a command does not do its job.
+#[derive(Debug, Drop, PartialEq)]
+pub enum Trouble {
+    /// The words are none that the program takes.
+    Words,
+    /// The report does not show its verdict.
+    Unshown {
+        check: Check,
+        document: Name,
+        line: u32,
+    },
+    /// A document is refused. For a table the line is the number of the record.
+    Refused {
+        code: ErrorCode,
+        document: Name,
+        line: u32,
+    },
+    /// A quantity is above its bound; the number is that of the limit.
+    Limit(u8),
+    /// The shelf could not give this document.
+    ReadFault(Name),
+    /// Want of memory.
+    NoMemory,
+}

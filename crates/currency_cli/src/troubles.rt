@@ -1,0 +1,96 @@
+ghost use Rattle.std.specs.Prelude.{◌≡◌, ◌⊎◌, unwrap_or};
+ghost use Rattle.currency_cli.specs.Due.{text_trouble, bind_trouble, report_trouble, check_of};
+
+use crate::{Check, Trouble};
+use currency_base::{ErrorCode, Name};
+use currency_report::ReportFault;
+use report_verify::Unshown;
+use spec_bind::{BindFault, Refusal};
+use std::alloc::Global;
+use text_tokens::TextFault;
+
+// The refusal of a document that the words name.
+fn refused(alloc: Global, code: ErrorCode, name: &str, line: u32) -> Trouble
+    ensures { (result ≡ Trouble.NoMemory) ⊎ (result ≡ Trouble.Refused code name.now line) }
+{
+    match Name::from_bytes(alloc, name.as_bytes()) {
+        Ok(document) => Trouble::Refused {
+            code,
+            document,
+            line,
+        },
+        Err(_) => Trouble::NoMemory,
+    }
+}
+
+/// The trouble that a fault of a document's text is.
+pub fn of_text(alloc: Global, name: &str, fault: TextFault) -> Trouble
+    ensures { (result ≡ Trouble.NoMemory) ⊎ (result ≡ text_trouble name.now fault) }
+{
+    match fault {
+        TextFault::NotUtf8 { line } => refused(alloc, ErrorCode::NotUtf8, name, line),
+        TextFault::Syntax { line } => refused(alloc, ErrorCode::Syntax, name, line),
+        TextFault::Unbuilt { line } => refused(alloc, ErrorCode::Unbuilt, name, line),
+        TextFault::NoMemory => Trouble::NoMemory,
+    }
+}
+
+// The refusal of a table, or of the text that the words name.
+fn of_refusal(alloc: Global, name: &str, refusal: Refusal) -> Trouble
+    ensures { (result ≡ Trouble.NoMemory)
+        ⊎ (result ≡ Trouble.Refused refusal.code (unwrap_or refusal.document name.now) refusal.line) }
+{
+    let Refusal {
+        code,
+        document,
+        line,
+    } = refusal;
+    match document {
+        None => refused(alloc, code, name, line),
+        Some(document) => Trouble::Refused {
+            code,
+            document,
+            line,
+        },
+    }
+}
+
+/// The trouble that a fault of binding a specification is; where it names no table it is in the text.
+pub fn of_binding(alloc: Global, name: &str, fault: BindFault) -> Trouble
+    ensures { (result ≡ Trouble.NoMemory) ⊎ (result ≡ bind_trouble name.now fault) }
+{
+    match fault {
+        BindFault::Refused(refusal) => of_refusal(alloc, name, refusal),
+        BindFault::Limit(limit) => Trouble::Limit(limit),
+        BindFault::ReadFault(document) => Trouble::ReadFault(document),
+        BindFault::NoMemory => Trouble::NoMemory,
+    }
+}
+
+/// The trouble that a fault of a report is.
+pub fn of_report(alloc: Global, name: &str, fault: ReportFault) -> Trouble
+    ensures { (result ≡ Trouble.NoMemory) ⊎ (result ≡ report_trouble name.now fault) }
+{
+    match fault {
+        ReportFault::Refused { code, line } => refused(alloc, code, name, line),
+        ReportFault::NoMemory => Trouble::NoMemory,
+    }
+}
+
+/// The trouble that a report does not show its verdict, at the line of the part at fault.
+pub fn of_unshown(alloc: Global, name: &str, why: Unshown, line: u32) -> Trouble
+    ensures { (result ≡ Trouble.NoMemory) ⊎ (result ≡ Trouble.Unshown (check_of why) name.now line) }
+{
+    let check = match why {
+        Unshown::BadCompletion(_) => Check::V1,
+        Unshown::NotShown(_) => Check::V3,
+    };
+    match Name::from_bytes(alloc, name.as_bytes()) {
+        Ok(document) => Trouble::Unshown {
+            check,
+            document,
+            line,
+        },
+        Err(_) => Trouble::NoMemory,
+    }
+}

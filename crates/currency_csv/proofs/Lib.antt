@@ -1,0 +1,6 @@
+mod AllOk
+mod Fields
+mod OneList
+mod Places
+mod Steps
+mod Whole

@@ -1,0 +1,4 @@
+pub mod Fault
+pub mod Shelf
+pub mod Sink
+pub mod States

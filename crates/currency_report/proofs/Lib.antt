@@ -1,0 +1,5 @@
+mod Places
+mod Shapes
+mod Rankings
+mod Listed
+mod Outcomes

@@ -1,0 +1,18 @@
+use Rattle.std.proofs.Math.Facts.{Fits-of_lt}
+use Rattle.currency_report.proofs.Places.{attr_fits, entity_fits, is_place}
+use Rattle.currency_report.proofs.place.place_named.Goals as goal
+
+pub overflow_cast-result-2 : goal.overflow_cast-result-2
+overflow_cast-result-2 c =
+    Fits-of_lt (attr_fits c.args.spec.now c.args.names.now c.in_ok-rel.rel c.relation-parts.result.now c.relations-relations.ensures.facts c.requires
+    c.relation-parts.ensures c.args.ranking.now.attr.name c.in_ok-attr.attr c.in_ok-attr.ensures.place)
+
+pub overflow_cast-result-3 : goal.overflow_cast-result-3
+overflow_cast-result-3 c =
+    Fits-of_lt (entity_fits c.args.spec.now c.args.names.now c.in_ok-rel.rel c.relation-parts.result.now c.relations-relations.ensures.facts c.requires
+    c.relation-parts.ensures c.args.ranking.now.entity.name c.in_ok-ent.ent c.in_ok-ent.ensures.place)
+
+pub returns : goal.returns
+returns c =
+    is_place c.args.spec.now c.args.names.now c.args.ranking.now c.in_ok-rel.rel c.in_ok-attr.attr c.in_ok-ent.ent c.relation-parts.result.now c.requires
+    c.relation-parts.ensures (rw c.relations.ensures at c.in_ok-rel.ensures.place) c.in_ok-attr.ensures.place c.in_ok-ent.ensures.place

@@ -1,0 +1,4 @@
+pub mod Lines
+pub mod Completed
+pub mod Steps
+pub mod Reads

@@ -1,0 +1,98 @@
+ghost use Rattle.std.specs.Prelude.{◌≡◌};
+ghost use Rattle.currency_report.specs.Lines.{HasPart, line_of};
+
+use currency_base::{ErrorCode, ItemList, NoMemory};
+use spec_model::Completion;
+use text_tokens::TextFault;
+
+/// What a report claims.
+#[derive(Clone, Copy, Debug, PartialEq, Eq)]
+pub enum Verdict {
+    /// The specification is consistent.
+    Consistent,
+}
+
+/// Completions, in the order of the text.
+pub type CompletionList = ItemList<Completion>;
+
+/// A verdict and the completions that are listed for it.
+#[derive(Debug, Drop)]
+pub struct Report {
+    pub verdict: Verdict,
+    pub completions: CompletionList,
+}
+
+/// A part of a report, as a refusal names it.
+#[derive(Clone, Copy, Debug, PartialEq, Eq)]
+pub enum Part {
+    Verdict,
+    /// A listed completion, by its place, counted from 0.
+    Completion(u32),
+}
+
+/// Lines of a text, counted from 1.
+pub type LineList = ItemList<u32>;
+
+/// The lines on which the parts of a report begin.
+#[derive(Debug, Drop)]
+pub struct Lines {
+    pub verdict: u32,
+    pub completions: LineList,
+}
+
+impl Lines {
+    /// The line of a part's first word.
+    pub fn of(&self, part: Part) -> u32
+        requires { HasPart self.now part }
+        ensures { result ≡ line_of self.now part }
+    {
+        match part {
+            Part::Verdict => self.verdict,
+            Part::Completion(place) => *self.completions.get(place as usize),
+        }
+    }
+}
+
+/// A report as it was read, with the lines of its parts.
+#[derive(Debug, Drop)]
+pub struct ReadReport {
+    pub report: Report,
+    pub lines: Lines,
+}
+
+/// Why a text is no report on a specification.
+#[derive(Clone, Copy, Debug, PartialEq, Eq)]
+pub enum ReportFault {
+    Refused { code: ErrorCode, line: u32 },
+    /// Want of memory.
+    NoMemory,
+}
+
+impl From<NoMemory> for ReportFault {
+    ghost use Rattle.std.specs.Prelude.{◌≡◌};
+    ghost use Rattle.currency_report.specs.declared.report.ReportFault.TheVariants;
+
+    ghost from_gives = { λ _ e. e ≡ TheVariants.NoMemory };
+
+    fn from(_: NoMemory) -> Self {
+        ReportFault::NoMemory
+    }
+}
+
+impl From<TextFault> for ReportFault {
+    ghost use Rattle.std.specs.Prelude.{◌≡◌};
+    ghost use Rattle.currency_report.specs.Reads.{fault_of};
+
+    ghost from_gives = { λ fault e. e ≡ fault_of fault };
+
+    /// The refusal of a text that is no report.
+    fn from(fault: TextFault) -> Self {
+        let (code, line) = match fault {
+            TextFault::NotUtf8 { line } => (ErrorCode::NotUtf8, line),
+            TextFault::Syntax { line } => (ErrorCode::Syntax, line),
+            TextFault::Unbuilt { line } => (ErrorCode::Unbuilt, line),
+            TextFault::NoMemory => return ReportFault::NoMemory,
+        };
+        ReportFault::Refused { code, line }
+    }
+}

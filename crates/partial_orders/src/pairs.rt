@@ -1,0 +1,78 @@
+ghost use Rattle.std.specs.Prelude.{◌≡◌, ◌<◌, [], length, IsErrOf, OnOk, OnErr};
+ghost use Rattle.std.specs.BTreeSet.{insert_key};
+ghost use Rattle.partial_orders.specs.Pairs.{pair_cmp, AreOfOneEntity};
+
+use currency_base::{NoMemory, Pair, Rows};
+use std::alloc::Global;
+use std::collections::BTreeSet;
+use std::collections::btree_set::Iter;
+use std::marker::Model;
+
+/// A set of pairs of rows of one relation, each of two different rows of one entity. Contracts see it
+/// as the list of its pairs, which ascend by attribute, earlier row and later row.
+#[derive(Drop)]
+pub struct Pairs {
+    set: BTreeSet<Pair>,
+}
+
+impl Model for Pairs {
+    ghost use Rattle.std.specs.Prelude.{List};
+    ghost use Rattle.currency_base.specs.declared.pair.Pair.{Pair};
+
+    ghost Value = { List Pair };
+
+    ghost view = { λ p. p.set.keys };
+}
+
+/// Why a pair is not added.
+#[derive(Clone, Copy, Debug, PartialEq, Eq)]
+pub enum PairFault {
+    /// The rows are one row, or of two entities.
+    NotOneEntity,
+    /// Want of memory.
+    NoMemory,
+}
+
+impl Pairs {
+    /// A set with no pair.
+    pub fn new(alloc: Global) -> Pairs
+        ensures { result ≡ [] }
+    {
+        Pairs {
+            set: BTreeSet::new(alloc),
+        }
+    }
+
+    /// Adds a pair. One that is there already changes nothing, and so does a refusal.
+    pub fn add(&mut self, rows: &Rows, pair: Pair) -> Result<(), PairFault>
+        requires earlier { pair.earlier.0 < length rows.now }
+        requires later { pair.later.0 < length rows.now }
+        ensures ok { OnOk result (self.new ≡ insert_key pair_cmp self.old pair) }
+        ensures one_entity { OnOk result (AreOfOneEntity rows.now pair) }
+        ensures refused { IsErrOf result PairFault.NotOneEntity → AreOfOneEntity rows.now pair → ⊥ }
+        ensures err { OnErr result (self.new ≡ self.old) }
+    {
+        let one_entity = rows.row(pair.earlier).entity == rows.row(pair.later).entity;
+        if pair.earlier == pair.later || !one_entity {
+            return Err(PairFault::NotOneEntity);
+        }
+        match self.set.insert(pair) {
+            Ok(_) => Ok(()),
+            Err(_) => Err(PairFault::NoMemory),
+        }
+    }
+
+    /// How many pairs there are.
+    pub fn len(&self) -> usize
+        ensures { result ≡ length self.now }
+    {
+        self.set.len()
+    }
+
+    /// The pairs, in order.
+    pub fn iter(&self) -> Iter<'_, Pair>
+        ensures { result ≡ self.now }
+    {
+        self.set.iter()
+    }
+}

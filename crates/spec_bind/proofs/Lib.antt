@@ -1,0 +1,9 @@
+pub mod Places
+pub mod Heads
+pub mod Tables
+pub mod Longer
+pub mod OrderFaults
+pub mod Binding
+pub mod OneOutcome
+pub mod OrderLemmas
+pub mod OrderPairs

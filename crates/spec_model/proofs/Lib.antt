@@ -1,0 +1,3 @@
+mod AddedPairs
+mod BlankLists
+mod Shapes

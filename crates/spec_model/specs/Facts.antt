@@ -1,0 +1,41 @@
+-- What every specification keeps.
+use Rattle.std.specs.Prelude.{◌≡◌, ◌+◌, ◌^◌, ◌<◌, ℕ, List, length, map, All, Some, slice_get, slice_set}
+use Rattle.std.specs.BTreeSet.{insert_key}
+use Rattle.currency_base.specs.Lists.{OnlyOnce}
+use Rattle.partial_orders.specs.Pairs.{AreOfOneEntity, pair_cmp}
+use Rattle.currency_base.specs.declared.pair.Pair.{Pair}
+use Rattle.currency_base.specs.declared.row.Row.{Row}
+use Rattle.spec_model.specs.declared.relation.Relation.{Relation}
+
+-- a given pair of a relation: of one of its attributes, and of two different rows of one entity
+pub record IsGivenPair (r : Relation) (p : Pair) : Type 0 where
+  pub attr : p.attr.0 < length r.attrs
+  pub earlier : p.earlier.0 < length r.rows
+  pub later : p.later.0 < length r.rows
+  pub one_entity : AreOfOneEntity r.rows p
+
+-- a relation whose ids are numbers of 32 bits, whose rows stand for its entities, whose attributes, rows and entities
+-- have a name each of their own, and whose given pairs are such pairs
+pub record IsRelation (r : Relation) : Type 0 where
+  pub few_attrs : length r.attrs + 1 < 2 ^ 32
+  pub few_rows : length r.rows + 1 < 2 ^ 32
+  pub few_entities : length r.entities + 1 < 2 ^ 32
+  pub entities : All (λ row. row.entity.0 < length r.entities) r.rows
+  pub attr_names : OnlyOnce (map (λ a. a.name) r.attrs)
+  pub row_names : OnlyOnce (map (λ row. row.name) r.rows)
+  pub entity_names : OnlyOnce r.entities
+  pub given : All (IsGivenPair r) r.given
+
+-- a list of such relations, which are numbered by 32 bits and have a name each of their own
+pub record IsSpecification (relations : List Relation) : Type 0 where
+  pub few : length relations + 1 < 2 ^ 32
+  pub each : All IsRelation relations
+  pub names : OnlyOnce (map (λ r. r.name) relations)
+
+-- the relation with one more given pair
+abbrev pub with_given : Relation → Pair → Relation
+with_given r pair = record r { given = insert_key pair_cmp r.given pair }
+
+-- new is old with one more given pair at one of its relations
+abbrev pub AddsGiven : List Relation → List Relation → ℕ → Pair → Type 0
+AddsGiven old new rel pair = (r : Relation) → slice_get old rel ≡ Some r → new ≡ slice_set old rel (with_given r pair)

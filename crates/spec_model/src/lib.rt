@@ -1,0 +1,18 @@
+//! Specifications and their completions: what is asked about, and what the answers quantify over.
+//!
+//! The definitions are those of Wenfei Fan, Floris Geerts and Jef Wijsen, "Determining the Currency of
+//! Data", ACM Transactions on Database Systems 37(4), 2012, sections 2 and 3.
+#![tactic(auto)]
+
+mod completion;
+mod flaw;
+mod question;
+mod relation;
+mod specification;
+
+pub use completion::{AttributeRankings, Completion, RelationRankings, set_keeps_shape};
+pub use flaw::Flaw;
+pub use partial_orders::Pairs;
+pub use question::Question;
+pub use relation::{Attr, AttrList, Relation, RelationList};
+pub use specification::Specification;

@@ -1,0 +1,8 @@
+-- What contracts see of the names of a specification.
+use Rattle.std.specs.Prelude.{ℕ, List}
+use Rattle.spec_names.specs.declared.names.RelationNames.{RelationNames}
+
+-- the names of all relations, and those of the parts of each
+pub record NameLists : Type 0 where
+  pub relations : List (List ℕ)
+  pub each : List RelationNames

@@ -1,0 +1,7 @@
+//! The names of a specification's parts, each found again without a scan.
+#![tactic(auto)]
+
+mod named;
+mod names;
+
+pub use names::{RelationNames, SpecNames};

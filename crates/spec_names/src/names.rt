@@ -1,0 +1,177 @@
+ghost use Rattle.std.specs.Prelude.{◌≡◌, ◌<◌, ◌∷◌, ◌++◌, [], length, map, slice_get, Some, Contains, IfOk, OnOk};
+ghost use Rattle.currency_base.specs.Lists.{OnlyOnce};
+ghost use Rattle.spec_names.specs.Names.{names_of, all_names_of};
+
+use crate::named::index_of;
+use currency_base::{Name, NoMemory};
+use name_index::NameIndex;
+use spec_model::{Relation, Specification};
+use std::alloc::Global;
+use std::marker::Model;
+
+/// The names of a relation's parts; the place of a name is the id of its part.
+#[derive(Drop)]
+pub struct RelationNames {
+    pub attrs: NameIndex,
+    pub rows: NameIndex,
+    pub entities: NameIndex,
+}
+
+/// The names of a specification's relations and of the parts of each; the place of a relation's name
+/// is its id.
+#[derive(Drop)]
+pub struct SpecNames {
+    relations: NameIndex,
+    each: Vec<RelationNames>,
+}
+
+impl Model for SpecNames {
+    ghost use Rattle.spec_names.specs.NameLists.{NameLists};
+
+    ghost Value = { NameLists };
+
+    ghost view = { λ n. record { relations = n.relations; each = n.each.items } };
+}
+
+impl RelationNames {
+    /// The names of a relation's parts, copied. Of attributes, rows and entities, no two have one name.
+    pub fn of(alloc: Global, relation: &Relation) -> Result<RelationNames, NoMemory>
+        requires attrs { OnlyOnce (map (λ a. a.name) relation.now.attrs) }
+        requires rows { OnlyOnce (map (λ row. row.name) relation.now.rows) }
+        requires entities { OnlyOnce relation.now.entities }
+        ensures { IfOk result (λ names. names ≡ names_of relation.now) }
+    {
+        let attrs = index_of(alloc, relation.attrs.as_slice())?;
+        let rows = index_of(alloc, relation.rows.as_slice())?;
+        let entities = index_of(alloc, relation.entities.as_slice())?;
+        Ok(RelationNames {
+            attrs,
+            rows,
+            entities,
+        })
+    }
+}
+
+impl SpecNames {
+    /// No names.
+    pub fn new(alloc: Global) -> SpecNames
+        ensures { result ≡ record { relations = []; each = [] } }
+    {
+        SpecNames {
+            relations: NameIndex::new(alloc),
+            each: Vec::new(alloc),
+        }
+    }
+
+    /// The names of a specification and its parts, copied.
+    pub fn of(alloc: Global, spec: &Specification) -> Result<SpecNames, NoMemory>
+        ensures { IfOk result (λ names. names ≡ all_names_of spec.now) }
+    {
+        let relations = index_of(alloc, spec.relations())?;
+        let mut each = Vec::new(alloc);
+        for relation in spec.relations() {
+            each.push(RelationNames::of(alloc, relation)?)?;
+        }
+        Ok(SpecNames { relations, each })
+    }
+
+    /// Adds a relation after the others. After a refusal the names are of no more use.
+    pub fn add(&mut self, name: Name, parts: RelationNames) -> Result<(), NoMemory>
+        requires { Contains self.old.relations name → ⊥ }
+        ensures relations { OnOk result (self.new.relations ≡ self.old.relations ++ name ∷ []) }
+        ensures each { OnOk result (self.new.each ≡ self.old.each ++ parts ∷ []) }
+    {
+        let _ = self.relations.add(name)?;
+        self.each.push(parts)?;
+        Ok(())
+    }
+
+    /// The names of the relations.
+    pub fn relations(&self) -> &NameIndex
+        ensures { result.now ≡ self.now.relations }
+    {
+        &self.relations
+    }
+
+    /// The names of the parts of the relation at a place.
+    pub fn relation(&self, place: usize) -> &RelationNames
+        requires { place < length self.now.each }
+        ensures { slice_get self.now.each place ≡ Some result.now }
+    {
+        &self.each[place]
+    }
+}
+
+#[cfg(test)]
+mod tests {
+    use super::*;
+    use currency_base::{EntId, ItemList, Kind, Row, Tuple};
+    use spec_model::{Attr, Pairs};
+    use std::test::Fail;
+
+    fn one<T: Drop>(alloc: Global, item: T) -> Result<ItemList<T>, NoMemory>
+        ensures { IfOk result (λ list. list ≡ item ∷ []) }
+    {
+        let mut list = ItemList::new(alloc);
+        list.push(item)?;
+        Ok(list)
+    }
+
+    fn name(alloc: Global, text: &str) -> Result<Name, NoMemory> {
+        Name::from_bytes(alloc, text.as_bytes())
+    }
+
+    #[tactic(auto, using(crate::proofs::Small::is_small))]
+    fn small(alloc: Global) -> Result<Specification, NoMemory>
+        ensures { IfOk result (λ spec. length spec ≡ 1) }
+    {
+        let salary = Attr {
+            name: name(alloc, "salary")?,
+            kind: Kind::Int,
+        };
+        let row = Row {
+            name: name(alloc, "s1")?,
+            entity: EntId(0),
+            values: Tuple::new(alloc),
+        };
+        let relation = Relation {
+            name: name(alloc, "emp")?,
+            attrs: one(alloc, salary)?,
+            rows: one(alloc, row)?,
+            entities: one(alloc, name(alloc, "Mary")?)?,
+            given: Pairs::new(alloc),
+        };
+        let mut spec = Specification::new(alloc);
+        spec.add_relation(relation)?;
+        Ok(spec)
+    }
+
+    #[test]
+    fn names_are_found_at_their_places(rt: HostRuntime) -> Result<(), Fail> {
+        let alloc = rt.alloc();
+        let spec = small(alloc)?;
+        let names = SpecNames::of(alloc, &spec)?;
+        assert_eq!(rt; names.relations().find(&name(alloc, "emp")?), Some(0));
+        assert_eq!(rt; names.relations().find(&name(alloc, "dept")?), None);
+        let parts = names.relation(0);
+        assert_eq!(rt; parts.attrs.find(&name(alloc, "salary")?), Some(0));
+        assert_eq!(rt; parts.rows.find(&name(alloc, "s1")?), Some(0));
+        assert_eq!(rt; parts.entities.find(&name(alloc, "Mary")?), Some(0));
+        Ok(())
+    }
+
+    #[test]
+    fn a_relation_is_added(rt: HostRuntime) -> Result<(), Fail> {
+        let alloc = rt.alloc();
+        let mut names = SpecNames::new(alloc);
+        let parts = RelationNames {
+            attrs: NameIndex::new(alloc),
+            rows: NameIndex::new(alloc),
+            entities: NameIndex::new(alloc),
+        };
+        names.add(name(alloc, "dept")?, parts)?;
+        assert_eq!(rt; names.relations().find(&name(alloc, "dept")?), Some(0));
+        assert_eq!(rt; names.relation(0).rows.names().len(), 0);
+        Ok(())
+    }
+}

@@ -1,0 +1,66 @@
+-- The grammars of specifications and questions.
+use Rattle.std.specs.Prelude.{Bool, ◌||◌, if◌then◌else◌, Option, Some, None, codes}
+use Rattle.text_tokens.specs.Lexeme.{Lexeme}
+use Rattle.text_grammar.specs.Words.{is_word}
+use Rattle.text_grammar.specs.Grammar.{Language, ◌⋅◌, Says, IsWord, IsSymbol, SpellsName, SpellsString, Maybe, Many, Listed}
+use Rattle.text_grammar.specs.declared.named.NamedPair.{NamedPair}
+use Rattle.currency_base.specs.declared.value.Kind.{Kind}
+use Rattle.currency_base.specs.declared.value.Kind.TheVariants.{Text, Int}
+use Rattle.spec_syntax.specs.declared.trees.AttrTree.{AttrTree}
+use Rattle.spec_syntax.specs.declared.trees.OrderingTree.{OrderingTree}
+use Rattle.spec_syntax.specs.declared.trees.StatementTree.{StatementTree}
+use Rattle.spec_syntax.specs.declared.trees.StatementTree.TheVariants.{Relation, Order}
+use Rattle.spec_syntax.specs.declared.trees.SpecTree.{SpecTree}
+use Rattle.spec_syntax.specs.declared.trees.QuestionTree.{QuestionTree}
+use Rattle.spec_syntax.specs.declared.trees.QuestionTree.TheVariants.{Consistent}
+
+-- ---- specifications
+
+-- the kind that a word names
+abbrev pub kind_named : Lexeme → Option Kind
+kind_named t = if is_word (codes "text") t then Some Text else (if is_word (codes "int") t then Some Int else None)
+
+-- attr = name ":" ( "text" | "int" )
+abbrev pub SpellsAttr : AttrTree → Language
+SpellsAttr a = SpellsName a.name ⋅ IsSymbol (codes ":") ⋅ Says kind_named a.kind
+
+-- pair = name "<" name
+abbrev pub SpellsPair : NamedPair → Language
+SpellsPair p = SpellsName p.first ⋅ IsSymbol (codes "<") ⋅ SpellsName p.second
+
+-- ordering = name "." name ":" pair { "," pair }
+abbrev pub SpellsOrdering : OrderingTree → Language
+SpellsOrdering o =
+    SpellsName o.relation ⋅ IsSymbol (codes ".") ⋅ SpellsName o.attr ⋅ IsSymbol (codes ":") ⋅ Listed (IsSymbol (codes ",")) SpellsPair o.pairs
+
+-- statement = "relation" name "from" string [ "row" name ] "entity" name "(" attr { "," attr } ")"
+--           | "order" ordering
+abbrev pub SpellsStatement : StatementTree → Language
+SpellsStatement (Relation name document row entity attrs) =
+    IsWord (codes "relation") ⋅ SpellsName name ⋅ IsWord (codes "from") ⋅ SpellsString document
+    ⋅ Maybe (λ column. IsWord (codes "row") ⋅ SpellsName column) row
+    ⋅ IsWord (codes "entity") ⋅ SpellsName entity
+    ⋅ IsSymbol (codes "(") ⋅ Listed (IsSymbol (codes ",")) SpellsAttr attrs ⋅ IsSymbol (codes ")")
+SpellsStatement (Order ordering) = IsWord (codes "order") ⋅ SpellsOrdering ordering
+
+-- statement ";"
+abbrev pub SpellsEndedStatement : StatementTree → Language
+SpellsEndedStatement s = SpellsStatement s ⋅ IsSymbol (codes ";")
+
+-- spec = { statement ";" }
+abbrev pub SpellsSpec : SpecTree → Language
+SpellsSpec spec = Many SpellsEndedStatement spec.statements
+
+-- the words of the statements that aren't built: orders, rules and copies
+abbrev pub is_unbuilt_statement : Lexeme → Bool
+is_unbuilt_statement t = is_word (codes "orders") t || is_word (codes "rule") t || is_word (codes "copy") t
+
+-- ---- questions
+
+-- question = "consistent" ";"
+abbrev pub SpellsQuestion : QuestionTree → Language
+SpellsQuestion Consistent = IsWord (codes "consistent") ⋅ IsSymbol (codes ";")
+
+-- the words of the questions that aren't built
+abbrev pub is_unbuilt_question : Lexeme → Bool
+is_unbuilt_question t = is_word (codes "certain") t || is_word (codes "same") t || is_word (codes "answers") t

@@ -1,0 +1,21 @@
+//! The languages of specifications and questions: their trees, and the reading of their texts.
+#![tactic(auto)]
+
+mod attr;
+mod laws;
+mod ordering;
+mod question;
+mod read;
+mod relation;
+mod statement;
+#[cfg(test)]
+mod tests;
+mod trees;
+
+pub use laws::{one_question, one_specification};
+pub use read::{read_question, read_spec};
+pub use text_grammar::{Named, NamedPair, NamedPairList};
+pub use text_tokens::{TextFault, Token, TokenKind, TokenList, tokens};
+pub use trees::{
+    AttrTree, AttrTreeList, OrderingTree, QuestionTree, SpecTree, StatementTree, StatementTreeList,
+};

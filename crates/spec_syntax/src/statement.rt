@@ -1,0 +1,121 @@
+ghost use Rattle.std.specs.Prelude.{◌≡◌, ℕ, List, map, true};
+ghost use Rattle.text_tokens.specs.Lexeme.{lexeme_of};
+ghost use Rattle.spec_syntax.specs.Grammar;
+
+use crate::ordering::OrderingRule;
+use crate::relation::RelationRule;
+use crate::{SpecTree, StatementTree};
+use std::alloc::Global;
+use text_grammar::{Refusal, Repeats, Rule, is_fixed, many, symbol, word};
+use text_tokens::{Token, TokenKind};
+
+/// A specification: statements to the end of the text.
+pub enum SpecRule {}
+
+impl Rule for SpecRule {
+    ghost use Rattle.spec_syntax.specs.Reading.{spec_at};
+
+    type Tree = SpecTree;
+
+    ghost reader = { spec_at };
+
+    #[tactic(auto, unfolding(crate::specs::Reading::spec_at))]
+    fn read<'a>(
+        alloc: Global,
+        tokens: &'a [Token<'a>],
+    ) -> Result<(SpecTree, &'a [Token<'a>]), Refusal<'a>> {
+        let (statements, rest) = many::<EndedStatementRule>(alloc, tokens)?;
+        Ok((SpecTree { statements }, rest))
+    }
+}
+
+/// A statement and the semicolon that ends it.
+enum EndedStatementRule {}
+
+impl Rule for EndedStatementRule {
+    ghost use Rattle.spec_syntax.specs.Reading.{ended_statement_at};
+
+    type Tree = StatementTree;
+
+    ghost reader = { ended_statement_at };
+
+    #[tactic(auto, unfolding(crate::specs::Reading::ended_statement_at))]
+    fn read<'a>(
+        alloc: Global,
+        tokens: &'a [Token<'a>],
+    ) -> Result<(StatementTree, &'a [Token<'a>]), Refusal<'a>> {
+        let (statement, rest) = StatementRule::read(alloc, tokens)?;
+        let rest = symbol(b";", rest)?;
+        Ok((statement, rest))
+    }
+}
+
+impl Repeats for EndedStatementRule {
+    ghost begins = { λ _. true };
+
+    fn begins_with(_: &Token) -> bool {
+        true
+    }
+}
+
+/// A statement.
+enum StatementRule {}
+
+impl Rule for StatementRule {
+    ghost use Rattle.spec_syntax.specs.Reading.{statement_at};
+
+    type Tree = StatementTree;
+
+    ghost reader = { statement_at };
+
+    #[tactic(auto, unfolding(crate::specs::Reading::statement_at))]
+    fn read<'a>(
+        alloc: Global,
+        tokens: &'a [Token<'a>],
+    ) -> Result<(StatementTree, &'a [Token<'a>]), Refusal<'a>> {
+        match tokens {
+            [] => Err(Refusal::Syntax(tokens)),
+            [first, ..] => {
+                if is_fixed(TokenKind::Word, b"relation", first) {
+                    RelationRule::read(alloc, tokens)
+                } else if is_fixed(TokenKind::Word, b"order", first) {
+                    OrderRule::read(alloc, tokens)
+                } else if is_unbuilt(first) {
+                    Err(Refusal::Unbuilt(tokens))
+                } else {
+                    Err(Refusal::Syntax(tokens))
+                }
+            }
+        }
+    }
+}
+
+/// Is this the word of a statement that is not built yet?
+fn is_unbuilt(token: &Token) -> bool
+    ensures { result ≡ Grammar.is_unbuilt_statement (lexeme_of token.now) }
+{
+    is_fixed(TokenKind::Word, b"orders", token)
+        || is_fixed(TokenKind::Word, b"rule", token)
+        || is_fixed(TokenKind::Word, b"copy", token)
+}
+
+/// Given pairs of rows, from the word `order` on.
+enum OrderRule {}
+
+impl Rule for OrderRule {
+    ghost use Rattle.spec_syntax.specs.Reading.{order_at};
+
+    type Tree = StatementTree;
+
+    ghost reader = { order_at };
+
+    #[tactic(auto, unfolding(crate::specs::Reading::order_at))]
+    fn read<'a>(
+        alloc: Global,
+        tokens: &'a [Token<'a>],
+    ) -> Result<(StatementTree, &'a [Token<'a>]), Refusal<'a>> {
+        let rest = word(b"order", tokens)?;
+        let (ordering, rest) = OrderingRule::read(alloc, rest)?;
+        Ok((StatementTree::Order(ordering), rest))
+    }
+}

@@ -1,0 +1,52 @@
+use currency_base::{ItemList, Kind};
+use text_grammar::{Named, NamedPairList};
+
+/// A specification: its statements, in the order of the text.
+#[derive(Debug, Drop, PartialEq)]
+pub struct SpecTree {
+    pub statements: StatementTreeList,
+}
+
+/// A statement of a specification.
+#[derive(Debug, Drop, PartialEq)]
+pub enum StatementTree {
+    /// A relation, the document of its rows, the columns of the rows' names, where there is one, and of
+    /// the entities' names, and its attributes in order.
+    Relation {
+        name: Named,
+        document: Named,
+        row: Option<Named>,
+        entity: Named,
+        attrs: AttrTreeList,
+    },
+    /// Given pairs of rows.
+    Order(OrderingTree),
+}
+
+/// Statements, in the order of the text.
+pub type StatementTreeList = ItemList<StatementTree>;
+
+/// An attribute of a relation, and what kind of values it holds.
+#[derive(Debug, Drop, PartialEq)]
+pub struct AttrTree {
+    pub name: Named,
+    pub kind: Kind,
+}
+
+/// Attributes, in the order of the text.
+pub type AttrTreeList = ItemList<AttrTree>;
+
+/// Pairs of rows of one attribute of a relation, the earlier row first.
+#[derive(Debug, Drop, PartialEq)]
+pub struct OrderingTree {
+    pub relation: Named,
+    pub attr: Named,
+    pub pairs: NamedPairList,
+}
+
+/// A question.
+#[derive(Debug, Drop, PartialEq)]
+pub enum QuestionTree {
+    /// Is the specification consistent?
+    Consistent,
+}

@@ -1,0 +1,11 @@
+pub mod Lists
+pub mod Outcomes
+pub mod Readers
+pub mod Choices
+pub mod ListReaders
+pub mod Whole
+pub mod Tellings
+pub mod Loops
+pub mod OneList
+pub mod TextLaws
+pub mod FixedTokens

@@ -1,0 +1,21 @@
+use currency_base::{ItemList, Name};
+
+/// A name in a text, with the line of its token.
+#[derive(Debug, Drop, PartialEq)]
+pub struct Named {
+    pub name: Name,
+    pub line: u32,
+}
+
+/// Names, in the order of the text.
+pub type NamedList = ItemList<Named>;
+
+/// Two names of one thing, in the order of the text.
+#[derive(Debug, Drop, PartialEq)]
+pub struct NamedPair {
+    pub first: Named,
+    pub second: Named,
+}
+
+/// Pairs of names, in the order of the text.
+pub type NamedPairList = ItemList<NamedPair>;

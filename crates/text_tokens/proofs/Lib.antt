@@ -1,0 +1,4 @@
+pub mod Quotes
+pub mod Steps
+pub mod Unique
+pub mod Texts

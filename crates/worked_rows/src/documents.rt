@@ -1,0 +1,88 @@
+//! The documents of the first path, and a run over documents in memory.
+
+use currency_base::NoMemory;
+use currency_cli::run;
+use currency_edge::{MemoryShelf, MemorySink};
+use std::alloc::Global;
+use std::test::Fail;
+
+pub const S: &str = "relation R from \"r.csv\" row id entity eid (a: int);\n";
+
+pub const R: &str = "id,eid,a\nr1,x,1\nr2,x,2\nr3,x,3\n";
+
+pub const Q: &str = "consistent;\n";
+
+pub const P: &str =
+    "currency report 1;\nverdict consistent;\ncompletion;\nranking R.a of x: r2 < r1 < r3;\nend;\n";
+
+pub const ACCEPTED: &str = "accepted consistent\n";
+
+/// The four documents of a case.
+#[derive(Clone, Copy)]
+pub struct Documents<'a> {
+    pub s: &'a [u8],
+    pub r: &'a [u8],
+    pub q: &'a [u8],
+    pub p: &'a [u8],
+}
+
+/// The documents of the first path.
+pub fn first() -> Documents<'static> {
+    Documents {
+        s: S.as_bytes(),
+        r: R.as_bytes(),
+        q: Q.as_bytes(),
+        p: P.as_bytes(),
+    }
+}
+
+/// A shelf with these documents.
+pub fn shelf_of(alloc: Global, documents: Documents<'_>) -> Result<MemoryShelf, NoMemory> {
+    let mut shelf = MemoryShelf::new(alloc);
+    shelf.put("s", documents.s)?;
+    shelf.put("r.csv", documents.r)?;
+    shelf.put("q", documents.q)?;
+    shelf.put("p", documents.p)?;
+    Ok(shelf)
+}
+
+/// Words as the program gets them.
+pub fn words_of(alloc: Global, words: &[&str]) -> Result<Vec<String>, Fail> {
+    let mut all = Vec::new(alloc);
+    for word in words {
+        all.push(String::from_str(alloc, word)?)?;
+    }
+    Ok(all)
+}
+
+/// The status and the sink of `currency verify s q p` over these documents.
+pub fn verified(alloc: Global, documents: Documents<'_>) -> Result<(u8, MemorySink), Fail> {
+    let mut shelf = shelf_of(alloc, documents)?;
+    let mut sink = MemorySink::new(alloc);
+    let words = words_of(alloc, &["currency", "verify", "s", "q", "p"])?;
+    let status = run(alloc, words.as_slice(), &mut shelf, &mut sink);
+    Ok((status, sink))
+}
+
+/// The documents of the first path with one of them changed: `s`, `r.csv`, `q` or `p`, by its place.
+pub fn with(place: usize, text: &[u8]) -> Documents<'_> {
+    let documents = first();
+    match place {
+        0 => Documents {
+            s: text,
+            ..documents
+        },
+        1 => Documents {
+            r: text,
+            ..documents
+        },
+        2 => Documents {
+            q: text,
+            ..documents
+        },
+        _ => Documents {
+            p: text,
+            ..documents
+        },
+    }
+}

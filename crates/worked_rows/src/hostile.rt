@@ -1,0 +1,37 @@
+use crate::documents::{Documents, P, Q, R, S, verified, with};
+use std::process::Abort;
+use std::test::Fail;
+
+// Whatever stands in the documents, the program ends with a status of its table.
+fn expect_an_end(rt: &(impl Abort + AllocGlobal), documents: Documents<'_>) -> Result<(), Fail> {
+    let (status, _) = verified(rt.alloc(), documents)?;
+    assert!(rt; matches!(status, 0 | 4 | 5 | 7), "status {status}");
+    Ok(())
+}
+
+#[test]
+fn each_front_of_each_document(rt: HostRuntime) -> Result<(), Fail> {
+    for (place, text) in [S, R, Q, P].iter().enumerate() {
+        for cut in 0..text.len() {
+            let (front, _) = text.as_bytes().split_at(cut);
+            expect_an_end(&rt, with(place, front))?;
+        }
+    }
+    Ok(())
+}
+
+#[test]
+fn each_byte_of_each_document(rt: HostRuntime) -> Result<(), Fail> {
+    for (place, text) in [S, R, Q, P].iter().enumerate() {
+        for at in 0..text.len() {
+            for byte in [b'"', b';', b'-', b'!', 0xff, b'\n', b'\r'] {
+                let mut changed = Vec::from_slice(rt.alloc(), text.as_bytes())?;
+                if at < changed.len() {
+                    changed[at] = byte;
+                }
+                expect_an_end(&rt, with(place, changed.as_slice()))?;
+            }
+        }
+    }
+    Ok(())
+}

@@ -1,0 +1,9 @@
+//! Rows that cross the crates: documents and words, and the status and text that they end with.
+#![tactic(auto)]
+
+#[cfg(test)]
+mod documents;
+#[cfg(test)]
+mod hostile;
+#[cfg(test)]
+mod verify;
