@@ -1,5 +1,5 @@
 -- Where the job is done, the specification has a consistent completion.
-use Rattle.std.proofs.Common.{◌≡◌, ◌<◌, ◌⊎◌, ℕ, List, [], length, All, get_or, Option, Some, None, MatchOption, MatchResult, IfSome, Result, Ok, Err, inl, inr, refl}
+use Rattle.std.proofs.Common.{◌≡◌, ℕ, List, [], All, get_or, Option, Some, None, MatchOption, MatchResult, IfSome, Result, Ok, Err, inl, inr, refl}
 use Rattle.std.proofs.lemmas.List.Elements.{All-get_or}
 use Rattle.spec_model.specs.Completion.{Rankings}
 use Rattle.spec_model.specs.Consistent.{IsConsistent, IsSatisfiable}
@@ -7,10 +7,9 @@ use Rattle.spec_model.specs.declared.question.Question.{Question}
 use Rattle.spec_model.specs.declared.question.Question.TheVariants as asked
 use Rattle.spec_model.specs.declared.relation.Relation.{Relation}
 use Rattle.currency_report.specs.declared.report.ReadReport.{ReadReport}
-use Rattle.currency_report.specs.declared.report.Report.{Report}
 use Rattle.currency_report.specs.declared.report.Verdict.{Verdict}
 use Rattle.currency_report.specs.declared.report.Verdict.TheVariants as verdict
-use Rattle.report_verify.specs.Shown.{ShowsVerdict, IsSupported}
+use Rattle.report_verify.specs.Shown.{IsSupported}
 use Rattle.currency_cli.specs.Due.{Then, IsSpecRead, IsQuestionRead, IsReportRead, IsJudged, IsDueFor, IsDue}
 use Rattle.currency_cli.specs.Ends.{NamesConsistent}
 use Rattle.currency_cli.specs.Words.{Documents, documents_in}

@@ -1,7 +1,6 @@
 -- What is due for words and told documents, stage by stage: the words, the specification with its tables, the question,
 -- the report, and then the job. The first stage that is refused decides.
-use Rattle.std.specs.Prelude.{◌≡◌, ◌⊎◌, ◌<◌, ◌≤◌, ℕ, List, [], length, Option, Some, None, unwrap_or, Result, Ok, Err, MatchOption, MatchResult}
-use Rattle.currency_base.specs.declared.error_code.ErrorCode.{ErrorCode}
+use Rattle.std.specs.Prelude.{◌≡◌, ◌⊎◌, ◌<◌, ◌≤◌, ℕ, List, [], length, unwrap_or, Result, Ok, Err, MatchOption, MatchResult}
 use Rattle.currency_base.specs.declared.error_code.ErrorCode.TheVariants as code
 use Rattle.currency_edge.specs.Shelf.{document}
 use Rattle.text_tokens.specs.declared.token.TextFault.{TextFault}
@@ -16,7 +15,6 @@ use Rattle.spec_model.specs.declared.relation.Relation.{Relation}
 use Rattle.spec_bind.specs.Bound.{IsBound}
 use Rattle.spec_bind.specs.declared.fault.BindFault.{BindFault}
 use Rattle.spec_bind.specs.declared.fault.BindFault.TheVariants as bind
-use Rattle.spec_bind.specs.declared.fault.Refusal.{Refusal}
 use Rattle.currency_report.specs.Lines.{line_of}
 use Rattle.currency_report.specs.Reads.{ReadsReport, RefusesReport}
 use Rattle.currency_report.specs.declared.report.Part.{Part}

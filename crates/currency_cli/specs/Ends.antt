@@ -1,5 +1,5 @@
 -- How the program ends: with which status, and what its sink got.
-use Rattle.std.specs.Prelude.{◌≡◌, ◌⊎◌, ℕ, List, Option, Some, IfSome, Result, Ok, Err}
+use Rattle.std.specs.Prelude.{◌≡◌, ◌⊎◌, ℕ, List, Option, Some, Result, Ok, Err}
 use Rattle.std.specs.Io.KnownBytes.{Appends}
 use Rattle.currency_edge.specs.Fault.{Rose}
 use Rattle.currency_edge.specs.Sink.{AppendsPrefix}
@@ -39,3 +39,20 @@ pub record NamesConsistent (told : List (List ℕ × List ℕ)) (words : List (L
   pub relations : List Relation
   pub read : IsSpecRead told documents.spec (Ok relations)
   pub satisfiable : IsSatisfiable relations
+
+-- where an outcome is due, the program ends with its status; or with the one for its text met by a failing sink, or for a
+-- document that could not be read, both where the count of faults rose; or memory ran out
+abbrev pub ComesTo : Result (Unit {0}) Trouble → ℕ → ℕ → ℕ → ℕ → ℕ → Type 0
+ComesTo outcome reads_before reads_now writes_before writes_now status =
+    (status ≡ status_of outcome)
+    ⊎ (((status ≡ failed_status_of outcome) × Rose writes_before writes_now)
+    ⊎ (((status ≡ 7) × Rose reads_before reads_now)
+    ⊎ (status ≡ 9)))
+
+-- a status of a refusal: of the words, a report, a document or a bound
+abbrev pub IsRefusal : ℕ → Type 0
+IsRefusal status = (status ≡ 2) ⊎ ((status ≡ 4) ⊎ ((status ≡ 5) ⊎ (status ≡ 6)))
+
+-- a trouble with this status is due
+abbrev pub RefusalDue : List (List ℕ × List ℕ) → List (List ℕ) → ℕ → Type 0
+RefusalDue told words status = (e : Trouble) × IsDue told words (Err e) × (status ≡ trouble_status e)

@@ -1,5 +1,5 @@
 -- What the code's own types say.
-use Rattle.std.specs.Prelude.{ℕ, List, Result, Ok, Err}
+use Rattle.std.specs.Prelude.{Result, Ok, Err}
 use Rattle.currency_cli.specs.Words.{Documents}
 use Rattle.currency_cli.specs.declared.words.Documents.{Documents as Names}
 use Rattle.currency_cli.specs.declared.trouble.Trouble.{Trouble}

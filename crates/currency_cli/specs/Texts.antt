@@ -1,5 +1,5 @@
 -- What is written for each outcome, and the status that goes with it.
-use Rattle.std.specs.Prelude.{ℕ, List, [], ◌∷◌, ◌++◌, codes, Result, Ok, Err}
+use Rattle.std.specs.Prelude.{ℕ, List, [], ◌∷◌, ◌++◌, codes}
 use Rattle.std.specs.Fmt.{decimal}
 use Rattle.currency_base.specs.ErrorCode.{code_text}
 use Rattle.currency_base.specs.declared.error_code.ErrorCode.{ErrorCode}

@@ -1,14 +1,16 @@
-ghost use Rattle.std.specs.Prelude.{◌≡◌, ◌≢◌, ◌⊎◌, ◌≤◌, ℕ, List, IfSome, Ok, Err, Result, map, string_bytes};
+ghost use Rattle.std.specs.Prelude.{◌≡◌, ◌≢◌, ◌⊎◌, ◌≤◌, ℕ, List, IfSome, None, Ok, Err, Result, map, string_bytes};
 ghost use Rattle.std.specs.Io.KnownBytes.{Appends};
 ghost use Rattle.currency_edge.specs.Fault.{Rose};
 ghost use Rattle.currency_edge.specs.Sink.{AppendsPrefix};
 ghost use Rattle.currency_cli.specs.Due.{IsDue};
-ghost use Rattle.currency_cli.specs.Ends.{EndsWith, NamesConsistent};
+ghost use Rattle.currency_cli.specs.Ends.{EndsWith, ComesTo, status_of, IsRefusal, RefusalDue, NamesConsistent};
 ghost use Rattle.currency_cli.specs.Named.{IsSettled, IsReadFault};
 ghost use Rattle.currency_cli.specs.Texts.{accepted_text, trouble_status};
+ghost use Rattle.currency_cli.specs.Words.{documents_in};
 ghost use Rattle.currency_cli.specs.declared.trouble.Trouble.{Trouble};
 
 use crate::Trouble;
+use crate::laws::one_due;
 use crate::stages::outcome;
 use crate::texts::text_of;
 use currency_edge::{Shelf, Sink, SinkFault, put_all};
@@ -76,6 +78,23 @@ pub fn run<S: Shelf, K: Sink>(alloc: Global, words: &[String], shelf: &mut S, ou
         × (IsReadFault outcome → Rose (S.faults shelf.old) (S.faults shelf.new))
         × EndsWith (K.written out.old) (K.written out.new) (K.faults out.old) (K.faults out.new) outcome result }
 
+    // The other way round: where an outcome is due, the answer is its status, unless the outside fails.
+    ensures exact { (outcome : Result (Unit {0}) Trouble) → IfSome (S.texts shelf.old) (λ told.
+        IsDue told (map (λ w. string_bytes w) words.now) outcome
+        → ComesTo outcome (S.faults shelf.old) (S.faults shelf.new) (K.faults out.old) (K.faults out.new) result) }
+
+    ensures complete { (Rose (S.faults shelf.old) (S.faults shelf.new) → ⊥) → (Rose (K.faults out.old) (K.faults out.new) → ⊥)
+        → (outcome : Result (Unit {0}) Trouble) → IfSome (S.texts shelf.old) (λ told.
+        IsDue told (map (λ w. string_bytes w) words.now) outcome → (result ≡ status_of outcome) ⊎ (result ≡ 9)) }
+
+    // A refusal of the words, a document, a bound or the report is due.
+    ensures refused { IsRefusal result → IfSome (S.texts shelf.old) (λ told.
+        RefusalDue told (map (λ w. string_bytes w) words.now) result) }
+
+    // The words alone decide whether they are refused.
+    ensures words { result ≡ 2 → documents_in (map (λ w. string_bytes w) words.now) ≡ None }
+    ensures words_refused { documents_in (map (λ w. string_bytes w) words.now) ≡ None → (result ≡ 2) ⊎ (result ≡ 9) }
+
     // The job was done.
     ensures accepted { result ≡ 0 → IfSome (S.texts shelf.old) (λ told. IsDue told (map (λ w. string_bytes w) words.now) (Ok tt)) }
     ensures consistent { result ≡ 0 → IfSome (S.texts shelf.old) (λ told. NamesConsistent told (map (λ w. string_bytes w) words.now)) }
@@ -86,6 +105,7 @@ pub fn run<S: Shelf, K: Sink>(alloc: Global, words: &[String], shelf: &mut S, ou
     ensures write_fault { result ≡ 8 → Rose (K.faults out.old) (K.faults out.new) }
     ensures write_fault_text { result ≡ 8 → AppendsPrefix (K.written out.old) (K.written out.new) accepted_text }
 {
+    one_due();
     match outcome(alloc, words, shelf) {
         Ok(()) => hand_out(alloc, out),
         Err(trouble) => refuse(alloc, out, &trouble),

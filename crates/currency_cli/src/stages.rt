@@ -1,7 +1,8 @@
-ghost use Rattle.std.specs.Prelude.{◌≡◌, ◌≤◌, ◌<◌, ◌^◌, ◌⊎◌, All, IfOk, IfSome, Ok, Err, length, map, string_bytes};
+ghost use Rattle.std.specs.Prelude.{◌≡◌, ◌≢◌, IfErr, None, ◌≤◌, ◌<◌, ◌^◌, ◌⊎◌, All, IfOk, IfSome, Ok, Err, length, map, string_bytes};
 ghost use Rattle.currency_edge.specs.Fault.{Rose};
 ghost use Rattle.spec_model.specs.Completion.{HasShape};
 ghost use Rattle.currency_cli.specs.Due.{IsSpecTree, IsSpecSaid, IsSpecRead, IsQuestionSaid, IsQuestionRead, IsReportSaid, IsReportRead, IsJudged, IsDueFor, IsDue};
+ghost use Rattle.currency_cli.specs.Words.{documents_in};
 ghost use Rattle.currency_cli.specs.Named.{IsSettled, IsReadFault, documents_of};
 
 use crate::Trouble;
@@ -20,6 +21,7 @@ use std::alloc::Global;
 fn spec_tree(alloc: Global, name: &str, bytes: &[u8]) -> Result<SpecTree, Trouble>
     ensures tree { IsSettled result → IsSpecTree name.now bytes.now result }
     ensures inside { IsReadFault result → ⊥ }
+    ensures not_words { IfErr result (λ e. e ≢ Trouble.Words) }
 {
     match read_spec(alloc, bytes) {
         Ok(tree) => Ok(tree),
@@ -38,6 +40,7 @@ fn spec_said<S: Shelf>(
     ensures later { S.faults shelf.old ≤ S.faults shelf.new }
     ensures said { IsSettled result → IfSome (S.texts shelf.old) (λ told. IsSpecSaid told name.now bytes.now result) }
     ensures read_fault { IsReadFault result → Rose (S.faults shelf.old) (S.faults shelf.new) }
+    ensures not_words { IfErr result (λ e. e ≢ Trouble.Words) }
 {
     let tree = match spec_tree(alloc, name, bytes) {
         Ok(tree) => tree,
@@ -59,6 +62,7 @@ fn read_specification<S: Shelf>(
     ensures later { S.faults shelf.old ≤ S.faults shelf.new }
     ensures stage { IsSettled result → IfSome (S.texts shelf.old) (λ told. IsSpecRead told name.now result) }
     ensures read_fault { IsReadFault result → Rose (S.faults shelf.old) (S.faults shelf.new) }
+    ensures not_words { IfErr result (λ e. e ≢ Trouble.Words) }
 {
     let bytes = read_bytes(alloc, shelf, name, TEXT_BOUND)?;
     spec_said(alloc, shelf, name, bytes.as_slice())
@@ -68,6 +72,7 @@ fn read_specification<S: Shelf>(
 fn question_said(alloc: Global, name: &str, bytes: &[u8]) -> Result<Question, Trouble>
     ensures said { IsSettled result → IsQuestionSaid name.now bytes.now result }
     ensures inside { IsReadFault result → ⊥ }
+    ensures not_words { IfErr result (λ e. e ≢ Trouble.Words) }
 {
     match read_question(alloc, bytes) {
         Ok(QuestionTree::Consistent) => Ok(Question::Consistent),
@@ -85,6 +90,7 @@ fn read_the_question<S: Shelf>(
     ensures later { S.faults shelf.old ≤ S.faults shelf.new }
     ensures stage { IsSettled result → IfSome (S.texts shelf.old) (λ told. IsQuestionRead told name.now result) }
     ensures read_fault { IsReadFault result → Rose (S.faults shelf.old) (S.faults shelf.new) }
+    ensures not_words { IfErr result (λ e. e ≢ Trouble.Words) }
 {
     let bytes = read_bytes(alloc, shelf, name, TEXT_BOUND)?;
     question_said(alloc, name, bytes.as_slice())
@@ -102,6 +108,7 @@ fn report_said(
     ensures shape { IfOk result (λ r. All (HasShape spec.now) r.report.completions) }
     ensures few { IfOk result (λ r. length r.report.completions < 2 ^ 32) }
     ensures lines { IfOk result (λ r. length r.lines.completions ≡ length r.report.completions) }
+    ensures not_words { IfErr result (λ e. e ≢ Trouble.Words) }
 {
     match read_report(alloc, bytes, spec) {
         Ok(read) => Ok(read),
@@ -123,6 +130,7 @@ fn read_the_report<S: Shelf>(
     ensures shape { IfOk result (λ r. All (HasShape spec.now) r.report.completions) }
     ensures few { IfOk result (λ r. length r.report.completions < 2 ^ 32) }
     ensures lines { IfOk result (λ r. length r.lines.completions ≡ length r.report.completions) }
+    ensures not_words { IfErr result (λ e. e ≢ Trouble.Words) }
 {
     let bytes = match read_bytes(alloc, shelf, name, usize::MAX) {
         Ok(bytes) => bytes,
@@ -146,6 +154,7 @@ fn judge(
     requires lines { length read.now.lines.completions ≡ length read.now.report.completions }
     ensures job { IsSettled result → IsJudged spec.now question.now name.now read.now result }
     ensures inside { IsReadFault result → ⊥ }
+    ensures not_words { IfErr result (λ e. e ≢ Trouble.Words) }
 {
     match verify(alloc, spec, question, &read.report) {
         Ok(()) => Ok(()),
@@ -165,6 +174,7 @@ fn verify_documents<S: Shelf>(
     ensures later { S.faults shelf.old ≤ S.faults shelf.new }
     ensures due { IsSettled result → IfSome (S.texts shelf.old) (λ told. IsDueFor told (documents_of documents.entry) result) }
     ensures read_fault { IsReadFault result → Rose (S.faults shelf.old) (S.faults shelf.new) }
+    ensures not_words { IfErr result (λ e. e ≢ Trouble.Words) }
 {
     let spec = read_specification(alloc, shelf, documents.spec)?;
     let question = read_the_question(alloc, shelf, documents.question)?;
@@ -178,6 +188,8 @@ pub fn outcome<S: Shelf>(alloc: Global, words: &[String], shelf: &mut S) -> Resu
     ensures later { S.faults shelf.old ≤ S.faults shelf.new }
     ensures due { IsSettled result → IfSome (S.texts shelf.old) (λ told. IsDue told (map (λ w. string_bytes w) words.now) result) }
     ensures read_fault { IsReadFault result → Rose (S.faults shelf.old) (S.faults shelf.new) }
+    ensures words { result ≡ Err Trouble.Words → documents_in (map (λ w. string_bytes w) words.now) ≡ None }
+    ensures words_refused { documents_in (map (λ w. string_bytes w) words.now) ≡ None → result ≡ Err Trouble.Words }
 {
     match documents_in(words) {
         None => Err(Trouble::Words),

@@ -1,4 +1,4 @@
-ghost use Rattle.std.specs.Prelude.{◌≡◌, ◌⊎◌, unwrap_or};
+ghost use Rattle.std.specs.Prelude.{◌≡◌, ◌≢◌, ◌⊎◌, unwrap_or};
 ghost use Rattle.currency_cli.specs.Due.{text_trouble, bind_trouble, report_trouble, check_of};
 
 use crate::{Check, Trouble};
@@ -11,7 +11,8 @@ use text_tokens::TextFault;
 
 // The refusal of a document that the words name.
 fn refused(alloc: Global, code: ErrorCode, name: &str, line: u32) -> Trouble
-    ensures { (result ≡ Trouble.NoMemory) ⊎ (result ≡ Trouble.Refused code name.now line) }
+    ensures due { (result ≡ Trouble.NoMemory) ⊎ (result ≡ Trouble.Refused code name.now line) }
+    ensures not_words { result ≢ Trouble.Words }
 {
     match Name::from_bytes(alloc, name.as_bytes()) {
         Ok(document) => Trouble::Refused {
@@ -25,7 +26,8 @@ fn refused(alloc: Global, code: ErrorCode, name: &str, line: u32) -> Trouble
 
 /// The trouble that a fault of a document's text is.
 pub fn of_text(alloc: Global, name: &str, fault: TextFault) -> Trouble
-    ensures { (result ≡ Trouble.NoMemory) ⊎ (result ≡ text_trouble name.now fault) }
+    ensures due { (result ≡ Trouble.NoMemory) ⊎ (result ≡ text_trouble name.now fault) }
+    ensures not_words { result ≢ Trouble.Words }
 {
     match fault {
         TextFault::NotUtf8 { line } => refused(alloc, ErrorCode::NotUtf8, name, line),
@@ -37,8 +39,9 @@ pub fn of_text(alloc: Global, name: &str, fault: TextFault) -> Trouble
 
 // The refusal of a table, or of the text that the words name.
 fn of_refusal(alloc: Global, name: &str, refusal: Refusal) -> Trouble
-    ensures { (result ≡ Trouble.NoMemory)
+    ensures due { (result ≡ Trouble.NoMemory)
         ⊎ (result ≡ Trouble.Refused refusal.code (unwrap_or refusal.document name.now) refusal.line) }
+    ensures not_words { result ≢ Trouble.Words }
 {
     let Refusal {
         code,
@@ -57,7 +60,8 @@ fn of_refusal(alloc: Global, name: &str, refusal: Refusal) -> Trouble
 
 /// The trouble that a fault of binding a specification is; where it names no table it is in the text.
 pub fn of_binding(alloc: Global, name: &str, fault: BindFault) -> Trouble
-    ensures { (result ≡ Trouble.NoMemory) ⊎ (result ≡ bind_trouble name.now fault) }
+    ensures due { (result ≡ Trouble.NoMemory) ⊎ (result ≡ bind_trouble name.now fault) }
+    ensures not_words { result ≢ Trouble.Words }
 {
     match fault {
         BindFault::Refused(refusal) => of_refusal(alloc, name, refusal),
@@ -69,7 +73,8 @@ pub fn of_binding(alloc: Global, name: &str, fault: BindFault) -> Trouble
 
 /// The trouble that a fault of a report is.
 pub fn of_report(alloc: Global, name: &str, fault: ReportFault) -> Trouble
-    ensures { (result ≡ Trouble.NoMemory) ⊎ (result ≡ report_trouble name.now fault) }
+    ensures due { (result ≡ Trouble.NoMemory) ⊎ (result ≡ report_trouble name.now fault) }
+    ensures not_words { result ≢ Trouble.Words }
 {
     match fault {
         ReportFault::Refused { code, line } => refused(alloc, code, name, line),
@@ -79,7 +84,8 @@ pub fn of_report(alloc: Global, name: &str, fault: ReportFault) -> Trouble
 
 /// The trouble that a report does not show its verdict, at the line of the part at fault.
 pub fn of_unshown(alloc: Global, name: &str, why: Unshown, line: u32) -> Trouble
-    ensures { (result ≡ Trouble.NoMemory) ⊎ (result ≡ Trouble.Unshown (check_of why) name.now line) }
+    ensures due { (result ≡ Trouble.NoMemory) ⊎ (result ≡ Trouble.Unshown (check_of why) name.now line) }
+    ensures not_words { result ≢ Trouble.Words }
 {
     let check = match why {
         Unshown::BadCompletion(_) => Check::V1,

@@ -13,7 +13,6 @@ use Rattle.currency_report.specs.declared.report.Verdict.{Verdict}
 use Rattle.currency_report.specs.declared.report.Verdict.TheVariants as verdict
 use Rattle.report_verify.specs.declared.fault.VerifyFault.{VerifyFault}
 use Rattle.report_verify.specs.declared.fault.VerifyFault.TheVariants.{Refused, NoMemory}
-use Rattle.report_verify.specs.declared.fault.Missing.{Missing}
 use Rattle.report_verify.specs.declared.fault.Missing.TheVariants.{NoCompletion}
 use Rattle.report_verify.specs.declared.fault.Unshown.{Unshown}
 use Rattle.report_verify.specs.declared.fault.Unshown.TheVariants.{BadCompletion, NotShown}

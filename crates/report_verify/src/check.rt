@@ -11,7 +11,7 @@ ghost use Rattle.report_verify.specs.Right.{IsRight};
 ghost use Rattle.report_verify.specs.Shown.{ShowsVerdict, IsFirstUnshown, IsFirstBadOf, IsSupported, Refuses};
 
 use crate::{Missing, Unshown, VerifyFault};
-use completion_check::{CheckScratch, check_completion};
+use completion_check::{CheckScratch, check_completion, first_flaw_is_one, flaw_rules_out};
 use currency_report::{CompletionList, Part, Report, Verdict};
 use spec_model::{Question, Specification};
 use std::alloc::Global;
@@ -88,3 +88,13 @@ pub fn shown_is_right()
     ensures { (relations : List Relation) (question : Question) (report : Report)
         → ShowsVerdict relations question report → IsRight relations question report.verdict }
 {}
+
+/// A report has one first check that fails.
+pub fn first_unshown_is_one()
+    ensures { (relations : List Relation) (question : Question) (report : Report) (part other_part : Part) (why other : Unshown)
+        → IsFirstUnshown relations question report part why → IsFirstUnshown relations question report other_part other
+        → (part ≡ other_part) × (why ≡ other) }
+{
+    flaw_rules_out();
+    first_flaw_is_one();
+}

@@ -4,5 +4,5 @@
 mod check;
 mod fault;
 
-pub use check::{first_unshown_is_not_shown, shown_is_right, verify};
+pub use check::{first_unshown_is_not_shown, first_unshown_is_one, shown_is_right, verify};
 pub use fault::{Missing, Unshown, VerifyFault};

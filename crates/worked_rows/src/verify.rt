@@ -54,6 +54,30 @@ fn a_shown_report_is_accepted(rt: HostRuntime) -> Result<(), Fail> {
 }
 
 #[test]
+fn two_entities_and_two_attributes(rt: HostRuntime) -> Result<(), Fail> {
+    let spec =
+        b"relation R from \"r.csv\" row id entity eid (a: int, eid: text); order R.eid: r2 < r1;";
+    let table = b"eid,a,id\nx,1,r1\nx,2,r2\ny,3,r3\ny,4,r4\n";
+    let rankings = "currency report 1; verdict consistent;\ncompletion;
+        ranking R.a of x: r1 < r2; ranking R.a of y: r4 < r3; ranking R.eid of x: r2 < r1; ranking R.eid of y: ";
+    for (last, status, text) in [
+        ("r3 < r4; end;", 0, ACCEPTED),
+        ("r3 < r3; end;", 4, "refused V1 p 2\n"),
+        ("r3 < r1; end;", 4, "refused V1 p 2\n"),
+    ] {
+        let report = with_line(rt.alloc(), rankings.as_bytes(), last)?;
+        let documents = Documents {
+            s: spec,
+            r: table,
+            q: first().q,
+            p: report.as_slice(),
+        };
+        expect(&rt, documents, status, text)?;
+    }
+    Ok(())
+}
+
+#[test]
 fn a_report_that_is_not_shown_is_refused(rt: HostRuntime) -> Result<(), Fail> {
     for ranking in [
         "ranking R.a of x: r1 < r2;\n",

@@ -4,7 +4,6 @@ use Rattle.std.proofs.lemmas.List.Elements.{All-push}
 use Rattle.spec_model.specs.Completion.{Rankings}
 use Rattle.spec_model.specs.Consistent.{IsConsistent}
 use Rattle.spec_model.specs.declared.relation.Relation.{Relation}
-use Rattle.completion_check.specs.Room.{HasRoom}
 use Rattle.report_verify.proofs.check.check_all.Goals as goal
 
 -- one more completion that is consistent

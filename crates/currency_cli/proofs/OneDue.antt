@@ -1,0 +1,161 @@
+-- What is due is determined: words and told documents have one outcome.
+use Rattle.std.proofs.Common.{◌≡◌, ◌∙◌, ℕ, List, [], Option, Some, None, MatchOption, MatchResult, Result, Ok, Err, sym, subst, ap, inl, inr, arith}
+use Rattle.currency_edge.specs.Shelf.{document}
+use Rattle.text_tokens.specs.declared.token.TextFault.{TextFault}
+use Rattle.spec_syntax.specs.Texts.{ReadsSpec, RefusesSpec, ReadsQuestion, RefusesQuestion}
+use Rattle.spec_syntax.specs.declared.trees.QuestionTree.{QuestionTree}
+use Rattle.spec_syntax.specs.declared.trees.SpecTree.{SpecTree}
+use Rattle.spec_syntax.specs.declared.trees.StatementTree.{StatementTree}
+use Rattle.report_syntax.specs.Reads.{ReadsReportText, RefusesReportText}
+use Rattle.report_syntax.specs.declared.tree.ReportTree.{ReportTree}
+use Rattle.spec_model.specs.declared.question.Question.{Question}
+use Rattle.spec_model.specs.declared.relation.Relation.{Relation}
+use Rattle.spec_bind.specs.Bound.{IsBound}
+use Rattle.spec_bind.specs.declared.fault.BindFault.{BindFault}
+use Rattle.currency_report.specs.Reads.{ReadsReport, RefusesReport, fault_of, said}
+use Rattle.currency_report.specs.declared.report.Part.{Part}
+use Rattle.currency_report.specs.declared.report.ReadReport.{ReadReport}
+use Rattle.currency_report.specs.declared.report.Report.{Report}
+use Rattle.currency_report.specs.declared.report.ReportFault.{ReportFault}
+use Rattle.report_verify.specs.Shown.{ShowsVerdict, IsFirstUnshown}
+use Rattle.report_verify.specs.declared.fault.Unshown.{Unshown}
+use Rattle.currency_cli.specs.Due.{Then, Within, IsSpecTree, IsSpecBound, IsSpecSaid, IsSpecRead, IsQuestionSaid, IsQuestionRead, IsReportSaid, IsReportRead, IsJudged, IsDueFor, IsDue, question_of, text_trouble, bind_trouble, report_trouble}
+use Rattle.currency_cli.specs.Words.{Documents, documents_in}
+use Rattle.currency_cli.specs.declared.trouble.Trouble.{Trouble}
+use Rattle.currency_cli.specs.declared.trouble.Trouble.TheVariants as trouble
+
+-- what the layers below say of one reading, one binding and one first failing check
+pub record Laws : Type 0 where
+  pub spec_tree : (source : List ℕ) (a b : SpecTree) → ReadsSpec source a → ReadsSpec source b → a ≡ b
+  pub spec_refusal : (source : List ℕ) (e f : TextFault) → RefusesSpec source e → RefusesSpec source f → e ≡ f
+  pub spec_not_both : (source : List ℕ) (t : SpecTree) (e : TextFault) → ReadsSpec source t → RefusesSpec source e → ⊥
+  pub question_tree : (source : List ℕ) (a b : QuestionTree) → ReadsQuestion source a → ReadsQuestion source b → a ≡ b
+  pub question_refusal : (source : List ℕ) (e f : TextFault) → RefusesQuestion source e → RefusesQuestion source f → e ≡ f
+  pub question_not_both : (source : List ℕ) (t : QuestionTree) (e : TextFault) → ReadsQuestion source t → RefusesQuestion source e → ⊥
+  pub report_tree : (source : List ℕ) (a b : ReportTree) → ReadsReportText source a → ReadsReportText source b → a ≡ b
+  pub report_refusal : (source : List ℕ) (e f : TextFault) → RefusesReportText source e → RefusesReportText source f → e ≡ f
+  pub report_not_both : (source : List ℕ) (t : ReportTree) (e : TextFault) → ReadsReportText source t → RefusesReportText source e → ⊥
+  pub binding : (told : List (List ℕ × List ℕ)) (done : List Relation) (statements : List StatementTree) (a b : Result (List Relation) BindFault)
+      → IsBound told done statements a → IsBound told done statements b → a ≡ b
+  pub unshown : (relations : List Relation) (q : Question) (r : Report) (p p' : Part) (why why' : Unshown)
+      → IsFirstUnshown relations q r p why → IsFirstUnshown relations q r p' why' → (p ≡ p') × (why ≡ why')
+  pub not_shown : (relations : List Relation) (q : Question) (r : Report) (p : Part) (why : Unshown)
+      → IsFirstUnshown relations q r p why → ShowsVerdict relations q r → ⊥
+
+-- a stage has one outcome
+abbrev IsOne : {A : Type 0} → (Result A Trouble → Type 0) → Type 0
+IsOne {A} stage = (a b : Result A Trouble) → stage a → stage b → a ≡ b
+
+-- ---- how stages are put together
+
+then_at : {A B : Type 0} (next : A → Result B Trouble → Type 0) → ((x : A) → IsOne (next x)) → (r : Result A Trouble) (a b : Result B Trouble)
+    → MatchResult r (λ x. next x a) (λ e. a ≡ Err e) → MatchResult r (λ x. next x b) (λ e. b ≡ Err e) → a ≡ b
+then_at next one (Ok x) a b h k = one x a b h k
+then_at next one (Err e) a b h k = h ∙ sym k
+
+then_one : {A B : Type 0} (first : Result A Trouble → Type 0) (next : A → Result B Trouble → Type 0)
+    → IsOne first → ((x : A) → IsOne (next x)) → IsOne (Then first next)
+then_one {A} {B} first next one more a b h k =
+    let same = one h.0 k.0 h.1 k.1 in
+    then_at next more h.0 a b h.2 (subst (λ (r : Result A Trouble). MatchResult r (λ x. next x b) (λ e. b ≡ Err e)) (sym same) k.2)
+
+within_one : {A : Type 0} (bound : ℕ) (bytes : List ℕ) (next : Result A Trouble → Type 0) → IsOne next → IsOne (Within bound bytes next)
+within_one bound bytes next one a b (inl h) (inl k) = h.1 ∙ sym k.1
+within_one bound bytes next one a b (inl h) (inr k) = absurd (omega (arith, h.0, k.0))
+within_one bound bytes next one a b (inr h) (inl k) = absurd (omega (arith, h.0, k.0))
+within_one bound bytes next one a b (inr h) (inr k) = one a b h.1 k.1
+
+-- ---- the stages
+
+spec_tree_one : Laws → (name bytes : List ℕ) → IsOne (IsSpecTree name bytes)
+spec_tree_one laws name bytes a b (inl h) (inl k) = h.2 ∙ ap Ok (laws.spec_tree bytes h.0 k.0 h.1 k.1) ∙ sym k.2
+spec_tree_one laws name bytes a b (inl h) (inr k) = absurd (laws.spec_not_both bytes h.0 k.0 h.1 k.1)
+spec_tree_one laws name bytes a b (inr h) (inl k) = absurd (laws.spec_not_both bytes k.0 h.0 k.1 h.1)
+spec_tree_one laws name bytes a b (inr h) (inr k) = h.2 ∙ ap (λ f. Err (text_trouble name f)) (laws.spec_refusal bytes h.0 k.0 h.1 k.1) ∙ sym k.2
+
+ok_same : {A E : Type 0} (x y : A) → ◌≡◌ {A = Result A E} (Ok x) (Ok y) → x ≡ y
+ok_same x y e = cc
+
+err_same : {A E : Type 0} (x y : E) → ◌≡◌ {A = Result A E} (Err x) (Err y) → x ≡ y
+err_same x y e = cc
+
+apart : {A E : Type 0} (x : A) (y : E) → ◌≡◌ {A = Result A E} (Ok x) (Err y) → ⊥
+apart x y e = cc
+
+spec_bound_one : Laws → (told : List (List ℕ × List ℕ)) (name : List ℕ) (t : SpecTree) → IsOne (IsSpecBound told name t)
+spec_bound_one laws told name t a b (inl h) (inl k) =
+    h.2 ∙ ap Ok (ok_same h.0 k.0 (laws.binding told [] t.statements (Ok h.0) (Ok k.0) h.1 k.1)) ∙ sym k.2
+spec_bound_one laws told name t a b (inl h) (inr k) = absurd (apart h.0 k.0 (laws.binding told [] t.statements (Ok h.0) (Err k.0) h.1 k.1))
+spec_bound_one laws told name t a b (inr h) (inl k) = absurd (apart k.0 h.0 (laws.binding told [] t.statements (Ok k.0) (Err h.0) k.1 h.1))
+spec_bound_one laws told name t a b (inr h) (inr k) =
+    h.2 ∙ ap (λ f. Err (bind_trouble name f)) (err_same h.0 k.0 (laws.binding told [] t.statements (Err h.0) (Err k.0) h.1 k.1)) ∙ sym k.2
+
+spec_read_one : Laws → (told : List (List ℕ × List ℕ)) (name : List ℕ) → IsOne (IsSpecRead told name)
+spec_read_one laws told name =
+    within_one _ (document told name) (IsSpecSaid told name (document told name))
+    (then_one (IsSpecTree name (document told name)) (IsSpecBound told name) (spec_tree_one laws name (document told name)) (spec_bound_one laws told name))
+
+question_said_one : Laws → (name bytes : List ℕ) → IsOne (IsQuestionSaid name bytes)
+question_said_one laws name bytes a b (inl h) (inl k) = h.2 ∙ ap (λ t. Ok (question_of t)) (laws.question_tree bytes h.0 k.0 h.1 k.1) ∙ sym k.2
+question_said_one laws name bytes a b (inl h) (inr k) = absurd (laws.question_not_both bytes h.0 k.0 h.1 k.1)
+question_said_one laws name bytes a b (inr h) (inl k) = absurd (laws.question_not_both bytes k.0 h.0 k.1 h.1)
+question_said_one laws name bytes a b (inr h) (inr k) = h.2 ∙ ap (λ f. Err (text_trouble name f)) (laws.question_refusal bytes h.0 k.0 h.1 k.1) ∙ sym k.2
+
+question_read_one : Laws → (told : List (List ℕ × List ℕ)) (name : List ℕ) → IsOne (IsQuestionRead told name)
+question_read_one laws told name =
+    within_one _ (document told name) (IsQuestionSaid name (document told name)) (question_said_one laws name (document told name))
+
+-- two trees of one text say the same
+said_same : Laws → (relations : List Relation) (bytes : List ℕ) (t u : ReportTree) (a b : Result ReadReport ReportFault)
+    → ReadsReportText bytes t → ReadsReportText bytes u → said relations t ≡ a → said relations u ≡ b → a ≡ b
+said_same laws relations bytes t u a b read read_too says says_too =
+    sym says ∙ ap (said relations) (laws.report_tree bytes t u read read_too) ∙ says_too
+
+refusal_one : Laws → (relations : List Relation) (bytes : List ℕ) (e f : ReportFault) → RefusesReport relations bytes e → RefusesReport relations bytes f → e ≡ f
+refusal_one laws relations bytes e f (inl h) (inl k) = h.2 ∙ ap fault_of (laws.report_refusal bytes h.0 k.0 h.1 k.1) ∙ sym k.2
+refusal_one laws relations bytes e f (inl h) (inr k) = absurd (laws.report_not_both bytes k.tree h.0 k.spelled h.1)
+refusal_one laws relations bytes e f (inr h) (inl k) = absurd (laws.report_not_both bytes h.tree k.0 h.spelled k.1)
+refusal_one laws relations bytes e f (inr h) (inr k) =
+    err_same e f (said_same laws relations bytes h.tree k.tree (Err e) (Err f) h.spelled k.spelled h.refuses k.refuses)
+
+not_refused : Laws → (relations : List Relation) (bytes : List ℕ) (r : ReadReport) (e : ReportFault) → ReadsReport relations bytes r → RefusesReport relations bytes e → ⊥
+not_refused laws relations bytes r e read (inl h) = laws.report_not_both bytes read.tree h.0 read.spelled h.1
+not_refused laws relations bytes r e read (inr h) =
+    apart r e (said_same laws relations bytes read.tree h.tree (Ok r) (Err e) read.spelled h.spelled read.says h.refuses)
+
+report_one : Laws → (relations : List Relation) (name bytes : List ℕ) → IsOne (IsReportSaid relations name bytes)
+report_one laws relations name bytes a b (inl h) (inl k) =
+    h.2 ∙ ap Ok (ok_same h.0 k.0 (said_same laws relations bytes h.1.tree k.1.tree (Ok h.0) (Ok k.0) h.1.spelled k.1.spelled h.1.says k.1.says)) ∙ sym k.2
+report_one laws relations name bytes a b (inl h) (inr k) = absurd (not_refused laws relations bytes h.0 k.0 h.1 k.1)
+report_one laws relations name bytes a b (inr h) (inl k) = absurd (not_refused laws relations bytes k.0 h.0 k.1 h.1)
+report_one laws relations name bytes a b (inr h) (inr k) = h.2 ∙ ap (λ f. Err (report_trouble name f)) (refusal_one laws relations bytes h.0 k.0 h.1 k.1) ∙ sym k.2
+
+judged_one : Laws → (relations : List Relation) (q : Question) (name : List ℕ) (r : ReadReport) → IsOne (IsJudged relations q name r)
+judged_one laws relations q name r a b (inl h) (inl k) = h.1 ∙ sym k.1
+judged_one laws relations q name r a b (inl h) (inr k) = absurd (laws.not_shown relations q r.report k.0 k.1 k.2 h.0)
+judged_one laws relations q name r a b (inr h) (inl k) = absurd (laws.not_shown relations q r.report h.0 h.1 h.2 k.0)
+judged_one laws relations q name r a b (inr h) (inr k) =
+    let same = laws.unshown relations q r.report h.0 k.0 h.1 k.1 h.2 k.2 in
+    let first = h.3 in
+    let second = k.3 in
+    let part = same.0 in
+    let why = same.1 in
+    cc
+
+-- ---- the whole
+
+for_documents : Laws → (told : List (List ℕ × List ℕ)) (d : Documents) → IsOne (IsDueFor told d)
+for_documents laws told d =
+    then_one (IsSpecRead told d.spec) _ (spec_read_one laws told d.spec) (λ relations.
+    then_one (IsQuestionRead told d.question) _ (question_read_one laws told d.question) (λ question.
+    then_one (IsReportRead told relations d.report) _ (report_one laws relations d.report (document told d.report))
+    (judged_one laws relations question d.report)))
+
+for_words : Laws → (told : List (List ℕ × List ℕ)) (o : Option Documents) (a b : Result (Unit {0}) Trouble)
+    → MatchOption o (a ≡ Err trouble.Words) (λ d. IsDueFor told d a) → MatchOption o (b ≡ Err trouble.Words) (λ d. IsDueFor told d b) → a ≡ b
+for_words laws told None a b h k = h ∙ sym k
+for_words laws told (Some d) a b h k = for_documents laws told d a b h k
+
+pub one_due : Laws → (told : List (List ℕ × List ℕ)) (words : List (List ℕ)) (a b : Result (Unit {0}) Trouble)
+    → IsDue told words a → IsDue told words b → a ≡ b
+one_due laws told words a b h k = for_words laws told (documents_in words) a b h k
