@@ -1,3 +1,4 @@
 pub mod ErrorCode
 pub mod Lists
 pub mod Number
+pub mod Values

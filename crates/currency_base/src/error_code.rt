@@ -12,6 +12,8 @@ pub enum ErrorCode {
     UnknownName,
     /// A name is taken.
     DuplicateName,
+    /// Two compared terms are of different kinds.
+    Mismatch,
     /// A record has another number of fields than the header, or a field that is not UTF-8.
     Ragged,
     /// A declared column is not in the header, or is there more than once.
@@ -38,6 +40,7 @@ impl ErrorCode {
             ErrorCode::Syntax => "E02",
             ErrorCode::UnknownName => "E03",
             ErrorCode::DuplicateName => "E04",
+            ErrorCode::Mismatch => "E05",
             ErrorCode::Ragged => "E06",
             ErrorCode::MissingColumn => "E07",
             ErrorCode::BadInt => "E08",

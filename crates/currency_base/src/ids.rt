@@ -13,3 +13,7 @@ pub struct RowId(pub u32);
 /// An entity of a relation, by the order of the entities' first rows, counted from 0.
 #[derive(Clone, Copy, Debug, Default, PartialEq, Eq, PartialOrd, Ord, Hash)]
 pub struct EntId(pub u32);
+
+/// A rule of a specification, by its place in the order of declaration, counted from 0.
+#[derive(Clone, Copy, Debug, Default, PartialEq, Eq, PartialOrd, Ord, Hash)]
+pub struct RuleId(pub u32);

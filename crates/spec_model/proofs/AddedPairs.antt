@@ -9,7 +9,7 @@ use Rattle.std.proofs.lemmas.Option.{get_or_from_slice_get, slice_get_within, sl
 use Rattle.partial_orders.specs.Pairs.{pair_cmp}
 use Rattle.currency_base.specs.declared.pair.Pair.{Pair}
 use Rattle.spec_model.specs.declared.relation.Relation.{Relation}
-use Rattle.spec_model.specs.Facts.{IsGivenPair, IsRelation, IsSpecification, AddsGiven}
+use Rattle.spec_model.specs.Facts.{IsGivenPair, IsRelation, AreRelations, AddsGiven}
 
 -- a given pair of a relation is one whatever else is given
 is_pair_beside : (r : Relation) (given : List Pair) (p : Pair) → IsGivenPair r p → IsGivenPair (record r { given = given }) p
@@ -30,10 +30,10 @@ is_relation_with r given h all =
     }
 
 -- other given pairs at one relation of a specification
-is_specification_with : (rs : List Relation) (i : ℕ) (r : Relation) (given : List Pair)
-    → IsSpecification rs → slice_get rs i ≡ Some r → IsRelation r → All (IsGivenPair r) given
-    → IsSpecification (slice_set rs i (record r { given = given }))
-is_specification_with rs i r given h at is all =
+are_relations_with : (rs : List Relation) (i : ℕ) (r : Relation) (given : List Pair)
+    → AreRelations rs → slice_get rs i ≡ Some r → IsRelation r → All (IsGivenPair r) given
+    → AreRelations (slice_set rs i (record r { given = given }))
+are_relations_with rs i r given h at is all =
     let same_name : r.name ≡ (get_or rs i r).name = ap (λ q. q.name) (sym (get_or_from_slice_get rs i r r at)) in
     let same_names = map-set_same (λ q. q.name) rs i (record r { given = given }) r same_name in
     record {
@@ -43,7 +43,7 @@ is_specification_with rs i r given h at is all =
     }
 
 -- a relation of a specification
-pub is_relation_of : (rs : List Relation) (i : ℕ) (r : Relation) → IsSpecification rs → slice_get rs i ≡ Some r → IsRelation r
+pub is_relation_of : (rs : List Relation) (i : ℕ) (r : Relation) → AreRelations rs → slice_get rs i ≡ Some r → IsRelation r
 is_relation_of rs i r h at =
     subst IsRelation (get_or_from_slice_get rs i r r at) (All-get_or IsRelation rs i r (slice_get_within rs i r at) h.each)
 
@@ -52,29 +52,32 @@ found_at : (rs now : List Relation) (i : ℕ) (r : Relation) → rs ≡ now → 
 found_at rs now i r same below read =
     slice_get_read now (length now) i r refl below (rw same at read)
 
+pub read_at : (rs now : List Relation) (i : ℕ) (r : Relation) → rs ≡ now → i < length now → r ≡ get_or rs i r → slice_get rs i ≡ Some r
+read_at rs now i r same below read = let at = found_at rs now i r same below read in rw same at
+
 pair_of : (now : List Relation) (i : ℕ) (r : Relation) (p : Pair) → slice_get now i ≡ Some r → IfSome (slice_get now i) (λ q. IsGivenPair q p) → IsGivenPair r p
 pair_of now i r p at is = rw at at is
 
 -- one more pair at one relation
-pub is_specification_adding : (rs now : List Relation) (i : ℕ) (r : Relation) (p : Pair) (given : List Pair)
-    → rs ≡ now → IsSpecification rs → i < length now → r ≡ get_or rs i r → IfSome (slice_get now i) (λ q. IsGivenPair q p)
-    → given ≡ insert_key pair_cmp r.given p → IsSpecification (slice_set rs i (record r { given = given }))
-is_specification_adding rs now i r p given same h below read is more =
+pub are_relations_adding : (rs now : List Relation) (i : ℕ) (r : Relation) (p : Pair) (given : List Pair)
+    → rs ≡ now → AreRelations rs → i < length now → r ≡ get_or rs i r → IfSome (slice_get now i) (λ q. IsGivenPair q p)
+    → given ≡ insert_key pair_cmp r.given p → AreRelations (slice_set rs i (record r { given = given }))
+are_relations_adding rs now i r p given same h below read is more =
     let at = found_at rs now i r same below read in
     let here : slice_get rs i ≡ Some r = rw same at in
     let relation = is_relation_of rs i r h here in
     let all = All-insert_key pair_cmp p (IsGivenPair r) r.given relation.given (pair_of now i r p at is) in
-    is_specification_with rs i r given h here relation (rw more all)
+    are_relations_with rs i r given h here relation (rw more all)
 
 -- the pairs as they were
-pub is_specification_keeping : (rs now : List Relation) (i : ℕ) (r : Relation) (given : List Pair)
-    → rs ≡ now → IsSpecification rs → i < length now → r ≡ get_or rs i r
-    → given ≡ r.given → IsSpecification (slice_set rs i (record r { given = given }))
-is_specification_keeping rs now i r given same h below read kept =
+pub are_relations_keeping : (rs now : List Relation) (i : ℕ) (r : Relation) (given : List Pair)
+    → rs ≡ now → AreRelations rs → i < length now → r ≡ get_or rs i r
+    → given ≡ r.given → AreRelations (slice_set rs i (record r { given = given }))
+are_relations_keeping rs now i r given same h below read kept =
     let at = found_at rs now i r same below read in
     let here : slice_get rs i ≡ Some r = rw same at in
     let relation = is_relation_of rs i r h here in
-    is_specification_with rs i r given h here relation (rw kept relation.given)
+    are_relations_with rs i r given h here relation (rw kept relation.given)
 
 pub adds_given : (rs now : List Relation) (i : ℕ) (r : Relation) (p : Pair) (given : List Pair)
     → rs ≡ now → i < length now → r ≡ get_or rs i r

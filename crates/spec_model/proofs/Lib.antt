@@ -1,3 +1,4 @@
 mod AddedPairs
+mod AddedRules
 mod BlankLists
 mod Shapes

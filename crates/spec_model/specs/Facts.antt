@@ -5,6 +5,10 @@ use Rattle.currency_base.specs.Lists.{OnlyOnce}
 use Rattle.partial_orders.specs.Pairs.{AreOfOneEntity, pair_cmp}
 use Rattle.currency_base.specs.declared.pair.Pair.{Pair}
 use Rattle.currency_base.specs.declared.row.Row.{Row}
+use Rattle.currency_base.specs.declared.value.Kind.{Kind}
+use Rattle.denial_rules.specs.Rules.{IsRuleOn}
+use Rattle.denial_rules.specs.declared.rule.Rule.{Rule}
+use Rattle.spec_model.specs.Spec.{Spec}
 use Rattle.spec_model.specs.declared.relation.Relation.{Relation}
 
 -- a given pair of a relation: of one of its attributes, and of two different rows of one entity
@@ -27,10 +31,31 @@ pub record IsRelation (r : Relation) : Type 0 where
   pub given : All (IsGivenPair r) r.given
 
 -- a list of such relations, which are numbered by 32 bits and have a name each of their own
-pub record IsSpecification (relations : List Relation) : Type 0 where
+pub record AreRelations (relations : List Relation) : Type 0 where
   pub few : length relations + 1 < 2 ^ 32
   pub each : All IsRelation relations
   pub names : OnlyOnce (map (λ r. r.name) relations)
+
+-- the kinds of a relation's attributes
+abbrev pub kinds_of : Relation → List Kind
+kinds_of r = map (λ a. a.kind) r.attrs
+
+-- a rule on one of the relations
+pub record IsRuleOf (relations : List Relation) (rule : Rule) : Type 0 where
+  pub relation : Relation
+  pub is_relation : slice_get relations rule.relation.0 ≡ Some relation
+  pub fits : IsRuleOn (kinds_of relation) rule
+
+-- a list of such rules, which are numbered by 32 bits and have a name each of their own
+pub record AreRules (relations : List Relation) (rules : List Rule) : Type 0 where
+  pub few : length rules + 1 < 2 ^ 32
+  pub each : All (IsRuleOf relations) rules
+  pub names : OnlyOnce (map (λ rule. rule.name) rules)
+
+-- what every specification keeps
+pub record IsSpecification (s : Spec) : Type 0 where
+  pub relations : AreRelations s.relations
+  pub rules : AreRules s.relations s.rules
 
 -- the relation with one more given pair
 abbrev pub with_given : Relation → Pair → Relation

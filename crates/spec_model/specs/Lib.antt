@@ -1,6 +1,9 @@
+pub mod Spec
 pub mod Blank
 pub mod Facts
 pub mod Completion
+pub mod Satisfies
 pub mod Consistent
+pub mod FirstFlaw
 pub use Rattle.partial_orders.specs.Pairs
 pub use Rattle.currency_base.specs.Lists

@@ -34,8 +34,8 @@ impl Model for Completion {
 impl Completion {
     /// A list with no row for each relation, attribute and entity of the specification.
     pub fn new(alloc: Global, spec: &Specification) -> Result<Completion, NoMemory>
-        ensures shape { IfOk result (HasShape spec.now) }
-        ensures value { IfOk result (λ c. c ≡ blank_of spec.now) }
+        ensures shape { IfOk result (HasShape spec.now.relations) }
+        ensures value { IfOk result (λ c. c ≡ blank_of spec.now.relations) }
         ensures blank { IfOk result IsBlank }
     {
         let mut rankings = ItemList::new(alloc);

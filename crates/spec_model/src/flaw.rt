@@ -1,7 +1,8 @@
-use currency_base::{AttrId, EntId, Pair, RelId};
+use currency_base::{AttrId, EntId, Pair, RelId, RuleId};
+use denial_rules::Binding;
 
 /// What a completion that is not consistent fails.
-#[derive(Clone, Copy, Debug, PartialEq, Eq)]
+#[derive(Debug, Drop, PartialEq)]
 pub enum Flaw {
     /// The list of an attribute and an entity of a relation is no ranking of the entity's rows.
     NotARanking {
@@ -13,5 +14,10 @@ pub enum Flaw {
     GivenBroken {
         rel: RelId,
         pair: Pair,
+    },
+    /// A rule is broken by these rows, one per variable: its predicates hold and its conclusion does not.
+    RuleBroken {
+        rule: RuleId,
+        rows: Binding,
     },
 }

@@ -1,52 +1,62 @@
 ghost use Rattle.std.specs.Prelude.{◌≡◌, ◌<◌, ◌∷◌, ◌++◌, [], length, slice_get, IfSome, OnOk, OnErr};
-ghost use Rattle.spec_model.specs.Facts.{IsSpecification, IsGivenPair, AddsGiven};
+ghost use Rattle.spec_model.specs.Facts.{AreRelations, AreRules, IsRuleOf, IsSpecification, IsGivenPair, AddsGiven};
 
 use crate::Relation;
 use currency_base::{NoMemory, Pair, RelId};
+use denial_rules::Rule;
 use std::alloc::Global;
 use std::marker::Model;
 
-/// A specification: relations with their tables and given pairs. Contracts see it as the list of its
-/// relations.
+/// A specification: relations with their tables and given pairs, and rules on them. Contracts see the
+/// lists of its relations and of its rules.
 #[derive(Drop)]
 pub struct Specification {
     relations: Vec<Relation>,
+    rules: Vec<Rule>,
 }
 
 impl Model for Specification {
-    ghost use Rattle.std.specs.Prelude.{List};
-    ghost use Rattle.spec_model.specs.declared.relation.Relation.{Relation};
+    ghost use Rattle.spec_model.specs.Spec.{Spec};
     ghost use Rattle.spec_model.specs.Facts.{IsSpecification};
 
-    ghost Value = { List Relation };
+    ghost Value = { Spec };
 
-    ghost view = { λ s. s.relations.items };
+    ghost view = { λ s. record { relations = s.relations.items; rules = s.rules.items } };
 
-    ghost invariant = { λ s. IsSpecification s.relations.items };
+    ghost invariant = { λ s. IsSpecification (record { relations = s.relations.items; rules = s.rules.items }) };
 }
 
 impl Specification {
-    /// A specification with no relation.
+    /// A specification with no relation and no rule.
     pub fn new(alloc: Global) -> Specification
-        ensures { result ≡ [] }
+        ensures { result ≡ record { relations = []; rules = [] } }
     {
         Specification {
             relations: Vec::new(alloc),
+            rules: Vec::new(alloc),
         }
     }
 
     /// The relations, in the order of declaration.
     pub fn relations(&self) -> &[Relation]
-        ensures value { result.now ≡ self.now }
-        ensures facts { IsSpecification self.now }
+        ensures value { result.now ≡ self.now.relations }
+        ensures facts { AreRelations self.now.relations }
     {
         self.relations.as_slice()
     }
 
+    /// The rules, in the order of declaration.
+    pub fn rules(&self) -> &[Rule]
+        ensures value { result.now ≡ self.now.rules }
+        ensures facts { AreRules self.now.relations self.now.rules }
+    {
+        self.rules.as_slice()
+    }
+
     /// Adds a relation after the others. A refusal changes nothing.
     pub fn add_relation(&mut self, relation: Relation) -> Result<(), NoMemory>
-        requires { IsSpecification (self.old ++ relation ∷ []) }
-        ensures ok { OnOk result (self.new ≡ self.old ++ relation ∷ []) }
+        requires { AreRelations (self.old.relations ++ relation ∷ []) }
+        ensures ok { OnOk result (self.new ≡ record self.old { relations = self.old.relations ++ relation ∷ [] }) }
         ensures err { OnErr result (self.new ≡ self.old) }
     {
         match self.relations.push(relation) {
@@ -57,13 +67,26 @@ impl Specification {
 
     /// Adds a given pair to a relation. One that is there already changes nothing, and so does a refusal.
     pub fn add_given(&mut self, rel: RelId, pair: Pair) -> Result<(), NoMemory>
-        requires fits { IfSome (slice_get self.old rel.0) (λ r. IsGivenPair r pair) }
-        requires within { rel.0 < length self.old }
-        ensures ok { OnOk result (AddsGiven self.old self.new rel.0 pair) }
+        requires fits { IfSome (slice_get self.old.relations rel.0) (λ r. IsGivenPair r pair) }
+        requires within { rel.0 < length self.old.relations }
+        ensures ok { OnOk result (AddsGiven self.old.relations self.new.relations rel.0 pair) }
+        ensures rules { self.new.rules ≡ self.old.rules }
         ensures err { OnErr result (self.new ≡ self.old) }
     {
         let relation = &mut self.relations[rel.0 as usize];
         match relation.given.add(&relation.rows, pair) {
+            Ok(()) => Ok(()),
+            Err(_) => Err(NoMemory),
+        }
+    }
+
+    /// Adds a rule after the others. A refusal changes nothing.
+    pub fn add_rule(&mut self, rule: Rule) -> Result<(), NoMemory>
+        requires { AreRules self.old.relations (self.old.rules ++ rule ∷ []) }
+        ensures ok { OnOk result (self.new ≡ record self.old { rules = self.old.rules ++ rule ∷ [] }) }
+        ensures err { OnErr result (self.new ≡ self.old) }
+    {
+        match self.rules.push(rule) {
             Ok(()) => Ok(()),
             Err(_) => Err(NoMemory),
         }

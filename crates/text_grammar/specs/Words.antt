@@ -1,9 +1,13 @@
 -- What one token says.
-use Rattle.std.specs.Prelude.{ℕ, Bool, true, false, not, ◌&&◌, ◌||◌, ◌==◌, if◌then◌else◌, List, [], ◌∷◌, Option, Some, None, option_map, codes}
+use Rattle.std.specs.Prelude.{ℕ, Bool, true, false, not, ◌&&◌, ◌||◌, ◌==◌, if◌then◌else◌, List, [], ◌∷◌, ℤ, nat_le, Option, Some, None, option_map, codes}
 use Rattle.std.specs.Str.{bytes_eq, is_utf8}
 use Rattle.text_tokens.specs.Lexeme.{Lexeme}
 use Rattle.text_tokens.specs.declared.token.TokenKind.{TokenKind}
 use Rattle.text_tokens.specs.declared.token.TokenKind.TheVariants.{Word, Negative, Text, Symbol, Fault}
+use Rattle.currency_base.specs.Number.{int_of}
+use Rattle.currency_base.specs.declared.value.Value.{Value}
+use Rattle.currency_base.specs.declared.value.Value.TheVariants as value
+use Rattle.text_grammar.specs.declared.named.Const.{Const}
 use Rattle.text_grammar.specs.declared.named.Named.{Named}
 
 -- ---- fixed words and symbols
@@ -71,3 +75,54 @@ named t = option_map (on_line t.line) (name_in t.kind t.text)
 -- the content that a string token spells, on the token's line
 abbrev pub quoted : Lexeme → Option Named
 quoted t = option_map (on_line t.line) (string_in t.kind t.text)
+
+-- ---- variables and constants
+
+-- an ASCII letter or `_`
+abbrev pub is_letter : ℕ → Bool
+is_letter c = (nat_le 65 c && nat_le c 90) || (nat_le 97 c && nat_le c 122) || (c == 95)
+
+-- the word begins with a letter or `_`
+abbrev pub begins_with_letter : List ℕ → Bool
+begins_with_letter [] = false
+begins_with_letter (c ∷ cs) = is_letter c
+
+-- the word is a variable: it begins with a letter or `_`, is not reserved and is not `_`
+abbrev pub is_variable : List ℕ → Bool
+is_variable word = begins_with_letter word && not (is_reserved word) && not (bytes_eq word (codes "_"))
+
+-- the variable that a token of this kind is
+abbrev pub variable_in : TokenKind → List ℕ → Option (List ℕ)
+variable_in Word text = if is_variable text then as_text text else None
+variable_in kind text = None
+
+-- the variable that a token spells, on the token's line
+abbrev pub variable : Lexeme → Option Named
+variable t = option_map (on_line t.line) (variable_in t.kind t.text)
+
+-- the number that a token of this kind writes
+abbrev pub number_in : TokenKind → List ℕ → Option ℤ
+number_in Word text = int_of text
+number_in Negative text = int_of text
+number_in kind text = None
+
+-- an int as a value
+abbrev pub int_value : ℤ → Value
+int_value n = value.Int n
+
+-- a text as a value
+abbrev pub text_value : List ℕ → Value
+text_value bytes = value.Text bytes
+
+-- the value that a token of this kind is: a string's content, or the number that digits, perhaps after a minus, write
+abbrev pub value_in : TokenKind → List ℕ → Option Value
+value_in Text text = option_map text_value (string_in Text text)
+value_in kind text = option_map int_value (number_in kind text)
+
+-- a value on a line
+abbrev pub value_on_line : ℕ → Value → Const
+value_on_line line v = record { value = v; line = line }
+
+-- the constant that a token spells, on the token's line
+abbrev pub constant : Lexeme → Option Const
+constant t = option_map (value_on_line t.line) (value_in t.kind t.text)

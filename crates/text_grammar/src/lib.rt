@@ -14,7 +14,7 @@ mod tests;
 mod text;
 mod tokens_at;
 
-pub use named::{Named, NamedList, NamedPair, NamedPairList};
+pub use named::{Const, Named, NamedList, NamedPair, NamedPairList};
 pub use names::{NameRule, name, string};
 pub use read::{Repeats, Rule, listed, many};
 pub use refusal::Refusal;

@@ -1,4 +1,4 @@
-use currency_base::{ItemList, Name};
+use currency_base::{ItemList, Name, Value};
 
 /// A name in a text, with the line of its token.
 #[derive(Debug, Drop, PartialEq)]
@@ -19,3 +19,10 @@ pub struct NamedPair {
 
 /// Pairs of names, in the order of the text.
 pub type NamedPairList = ItemList<NamedPair>;
+
+/// A constant in a text, with the line of its token.
+#[derive(Debug, Drop, PartialEq)]
+pub struct Const {
+    pub value: Value,
+    pub line: u32,
+}

@@ -1,0 +1,9 @@
+-- What a specification says.
+use Rattle.std.specs.Prelude.{List}
+use Rattle.denial_rules.specs.declared.rule.Rule.{Rule}
+use Rattle.spec_model.specs.declared.relation.Relation.{Relation}
+
+-- relations, and rules on them
+pub record Spec : Type 0 where
+  pub relations : List Relation
+  pub rules : List Rule
