@@ -5,7 +5,7 @@ use Rattle.currency_base.specs.declared.pair.Pair.{Pair}
 use Rattle.currency_base.specs.declared.row.Row.{Row}
 use Rattle.spec_model.specs.declared.relation.Relation.{Relation}
 use Rattle.spec_model.specs.declared.relation.Attr.{Attr}
-use Rattle.spec_model.specs.Facts.{IsSpecification, IsRelation, IsGivenPair}
+use Rattle.spec_model.specs.Facts.{AreRelations, IsRelation, IsGivenPair}
 
 once_of_one : {A : Type 0} (x : A) → OnlyOnce (x ∷ [])
 once_of_one x zero zero y at_i at_j = refl
@@ -33,7 +33,7 @@ is_relation r a row entity attrs rows first entities given = record {
 }
 
 pub is_small : (r : Relation) (a : Attr) (row : Row) (entity : List ℕ) (spec : List Relation) → spec ≡ [] → r.attrs ≡ a ∷ [] → r.rows ≡ row ∷ [] → row.entity.0 ≡ 0
-    → r.entities ≡ entity ∷ [] → r.given ≡ [] → IsSpecification (spec ++ r ∷ [])
+    → r.entities ≡ entity ∷ [] → r.given ≡ [] → AreRelations (spec ++ r ∷ [])
 is_small r a row entity spec none attrs rows first entities given = rw none (record {
   few = omega arith;
   each = all_of_one IsRelation r (is_relation r a row entity attrs rows first entities given);

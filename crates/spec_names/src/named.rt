@@ -3,7 +3,7 @@ ghost use Rattle.currency_base.specs.Lists.{OnlyOnce};
 
 use currency_base::{Name, NoMemory, Row};
 use name_index::NameIndex;
-use spec_model::{Attr, Relation};
+use spec_model::{Attr, Relation, Rule};
 use std::alloc::Global;
 
 /// What has a name.
@@ -43,6 +43,14 @@ impl Named for Row {
 
 impl Named for Relation {
     ghost named = { λ r. r.name };
+
+    fn name(&self) -> &Name {
+        &self.name
+    }
+}
+
+impl Named for Rule {
+    ghost named = { λ rule. rule.name };
 
     fn name(&self) -> &Name {
         &self.name

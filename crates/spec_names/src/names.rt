@@ -1,4 +1,4 @@
-ghost use Rattle.std.specs.Prelude.{◌≡◌, ◌<◌, ◌∷◌, ◌++◌, [], length, map, slice_get, Some, Contains, IfOk, OnOk};
+ghost use Rattle.std.specs.Prelude.{◌≡◌, ◌<◌, ◌∷◌, ◌++◌, [], length, map, slice_get, Some, Contains, IfOk, OnOk, OnErr};
 ghost use Rattle.currency_base.specs.Lists.{OnlyOnce};
 ghost use Rattle.spec_names.specs.Names.{names_of, all_names_of};
 
@@ -17,12 +17,13 @@ pub struct RelationNames {
     pub entities: NameIndex,
 }
 
-/// The names of a specification's relations and of the parts of each; the place of a relation's name
-/// is its id.
+/// The names of a specification's relations, of the parts of each, and of its rules; the place of a
+/// name is the id of what it names.
 #[derive(Drop)]
 pub struct SpecNames {
     relations: NameIndex,
     each: Vec<RelationNames>,
+    rules: NameIndex,
 }
 
 impl Model for SpecNames {
@@ -30,7 +31,7 @@ impl Model for SpecNames {
 
     ghost Value = { NameLists };
 
-    ghost view = { λ n. record { relations = n.relations; each = n.each.items } };
+    ghost view = { λ n. record { relations = n.relations; each = n.each.items; rules = n.rules } };
 }
 
 impl RelationNames {
@@ -55,11 +56,12 @@ impl RelationNames {
 impl SpecNames {
     /// No names.
     pub fn new(alloc: Global) -> SpecNames
-        ensures { result ≡ record { relations = []; each = [] } }
+        ensures { result ≡ record { relations = []; each = []; rules = [] } }
     {
         SpecNames {
             relations: NameIndex::new(alloc),
             each: Vec::new(alloc),
+            rules: NameIndex::new(alloc),
         }
     }
 
@@ -72,7 +74,12 @@ impl SpecNames {
         for relation in spec.relations() {
             each.push(RelationNames::of(alloc, relation)?)?;
         }
-        Ok(SpecNames { relations, each })
+        let rules = index_of(alloc, spec.rules())?;
+        Ok(SpecNames {
+            relations,
+            each,
+            rules,
+        })
     }
 
     /// Adds a relation after the others. After a refusal the names are of no more use.
@@ -80,9 +87,20 @@ impl SpecNames {
         requires { Contains self.old.relations name → ⊥ }
         ensures relations { OnOk result (self.new.relations ≡ self.old.relations ++ name ∷ []) }
         ensures each { OnOk result (self.new.each ≡ self.old.each ++ parts ∷ []) }
+        ensures rules { self.new.rules ≡ self.old.rules }
     {
         let _ = self.relations.add(name)?;
         self.each.push(parts)?;
+        Ok(())
+    }
+
+    /// Adds a rule after the others. A refusal changes nothing.
+    pub fn add_rule(&mut self, name: Name) -> Result<(), NoMemory>
+        requires { Contains self.old.rules name → ⊥ }
+        ensures ok { OnOk result (self.new ≡ record self.old { rules = self.old.rules ++ name ∷ [] }) }
+        ensures err { OnErr result (self.new ≡ self.old) }
+    {
+        let _ = self.rules.add(name)?;
         Ok(())
     }
 
@@ -91,6 +109,13 @@ impl SpecNames {
         ensures { result.now ≡ self.now.relations }
     {
         &self.relations
+    }
+
+    /// The names of the rules.
+    pub fn rules(&self) -> &NameIndex
+        ensures { result.now ≡ self.now.rules }
+    {
+        &self.rules
     }
 
     /// The names of the parts of the relation at a place.
@@ -123,7 +148,7 @@ mod tests {
 
     #[tactic(auto, using(crate::proofs::Small::is_small))]
     fn small(alloc: Global) -> Result<Specification, NoMemory>
-        ensures { IfOk result (λ spec. length spec ≡ 1) }
+        ensures { IfOk result (λ spec. length spec.relations ≡ 1) }
     {
         let salary = Attr {
             name: name(alloc, "salary")?,
