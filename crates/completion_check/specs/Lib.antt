@@ -1,3 +1,5 @@
 pub mod Marks
 pub mod Relations
 pub mod Room
+pub mod Tests
+pub mod Breaks

@@ -1,0 +1,2 @@
+pub mod MembersMore
+pub mod Membership
