@@ -12,7 +12,8 @@ use Rattle.spec_model.specs.declared.relation.Relation.{Relation}
 use Rattle.spec_model.specs.Completion.{IsRanking, Before}
 use Rattle.spec_model.specs.Facts.{IsGivenPair, IsRelation}
 use Rattle.completion_check.specs.Marks.{AreMarksOf, AreMarked}
-use Rattle.completion_check.specs.Relations.{Lists, FitsRelation, IsRanked, Keeps}
+use Rattle.spec_model.specs.Satisfies.{Lists}
+use Rattle.completion_check.specs.Relations.{FitsRelation, IsRanked, Keeps}
 use Rattle.completion_check.proofs.Places.{at_contains}
 
 -- what holds of each item holds of the one at a place
@@ -46,7 +47,7 @@ list_within {A} lists ent i x at =
     (cases_lt ent (length lists))
 
 -- of two rows of one entity, the one with the smaller place stands before the other
-before_from : (rows : List Row) (lists : List (List RowId)) (places : List ℕ) (ent : ℕ) (earlier later : RowId)
+pub before_from : (rows : List Row) (lists : List (List RowId)) (places : List ℕ) (ent : ℕ) (earlier later : RowId)
     → IsRanking rows ent (slice_index_or lists ent []) → AreMarksOf rows ent (slice_index_or lists ent []) places
     → entity_of rows earlier.0 ≡ Some ent → entity_of rows later.0 ≡ Some ent
     → slice_index places earlier.0 < slice_index places later.0 → Before lists earlier later
@@ -57,16 +58,6 @@ before_from rows lists places ent earlier later ranking marks of_ent of_ent' bel
     let low_place = (marks.listed low.0 earlier low.1).1 in
     let high_place = (marks.listed high.0 later high.1).1 in
     record { ent = ent; low = low.0; high = high.0; below = omega arith; first = low.1; second = high.1 }
-
-pub keeps_from : (r : Relation) (lists : Lists) (places : List ℕ) (p : Pair) → IsRelation r → FitsRelation r lists → IsRanked r lists
-    → IsGivenPair r p → AreMarked r.rows (slice_index_or lists p.attr.0 []) places
-    → slice_index places p.earlier.0 < slice_index places p.later.0 → Keeps lists p
-keeps_from r lists places p facts fits ranked is marked below =
-    let e = entity_within r.rows (length r.entities) p.earlier.0 facts.entities is.earlier in
-    let count = fits.per_entity p.attr.0 is.attr in
-    let within : e.0 < length (slice_index_or lists p.attr.0 []) = omega (arith, e.1) in
-    before_from r.rows (slice_index_or lists p.attr.0 []) places e.0 p.earlier p.later (ranked p.attr.0 e.0 is.attr e.1) (marked e.0 within)
-    e.2 (sym is.one_entity.1 ∙ e.2) below
 
 -- a pair that is kept has its earlier row at the smaller place
 pub below_from : (rows : List Row) (lists : List (List RowId)) (places : List ℕ) (earlier later : RowId)

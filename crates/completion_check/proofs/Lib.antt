@@ -1,4 +1,11 @@
+mod Choices
+mod Fronts
 mod Kept
+mod Lifted
+mod Meaning
 mod OneFlaw
 mod Places
 mod Ranked
+mod Rooms
+mod RowPlaces
+mod Searched

@@ -1,15 +1,16 @@
 -- Rankings and given pairs of whole relations and specifications.
-use Rattle.std.proofs.Common.{◌≡◌, ◌+◌, ◌<◌, ◌≤◌, ℕ, List, [], Some, All, get_or, length, slice_get, slice_index_or, take, ⊎_elim, arith}
+use Rattle.std.proofs.Common.{◌≡◌, ◌+◌, ◌<◌, ◌≤◌, ◌⊎◌, ◌∙◌, ℕ, List, [], Some, length, slice_get, slice_index_or, take, sym, ap, subst, ⊎_elim, arith}
 use Rattle.std.proofs.lemmas.Bool.{cases_eq}
-use Rattle.std.proofs.lemmas.List.Elements.{All-more, All-weaker}
-use Rattle.currency_base.specs.declared.pair.Pair.{Pair}
+use Rattle.std.proofs.lemmas.Option.{same_Some}
 use Rattle.spec_model.specs.declared.relation.Relation.{Relation}
-use Rattle.spec_model.specs.declared.flaw.Flaw.{Flaw}
-use Rattle.spec_model.specs.declared.flaw.Flaw.TheVariants.{NotARanking, GivenBroken}
 use Rattle.spec_model.specs.Completion.{Rankings, HasShape, IsRanking}
-use Rattle.spec_model.specs.Consistent.{KeepsGiven, IsConsistent, IsFirstBroken, IsFirstFlaw}
-use Rattle.completion_check.specs.Relations.{Lists, FitsRelation, KeepsEach, IsFirstBrokenOf, list_of}
-use Rattle.completion_check.proofs.Places.{get_of_take, contains_at, at_contains}
+use Rattle.spec_model.specs.FirstFlaw.{IsFirstUnranked}
+use Rattle.spec_model.specs.Satisfies.{Lists}
+use Rattle.denial_rules.specs.declared.rule.Rule.{Rule}
+use Rattle.completion_check.specs.Tests.{Places}
+use Rattle.completion_check.specs.Breaks.{NoChoiceBreaks, NoRuleBreaks, tried}
+use Rattle.completion_check.proofs.Places.{get_of_take}
+use Rattle.completion_check.specs.Relations.{FitsRelation, IsRanked, IsFirstUnrankedOf, list_of}
 
 -- the rankings of one more attribute
 pub ranked_more : (r : Relation) (lists : Lists) (n count : ℕ) → length (slice_index_or lists n []) ≡ length r.entities
@@ -28,41 +29,32 @@ pub fits_relation : (rs : List Relation) (c : Rankings) (rel : ℕ) (r : Relatio
 fits_relation rs c rel r shape at =
     record { per_attr = shape.per_attr rel r at; per_entity = shape.per_entity rel r at }
 
--- no completion with a flaw is consistent
-pub rules_out : (rs : List Relation) (c : Rankings) (flaw : Flaw) → IsFirstFlaw rs c flaw → IsConsistent rs c → ⊥
-rules_out rs c (NotARanking rel attr ent) flaw is =
-    flaw.broken (is.completion.ranked rel.0 flaw.relation flaw.is_relation attr.0 ent.0 flaw.attr_within flaw.ent_within)
-rules_out rs c (GivenBroken rel pair) flaw is =
-    flaw.1.broken (is.given rel.0 flaw.1.relation flaw.1.is_relation pair (contains_at flaw.1.relation.given flaw.1.place pair flaw.1.is_pair))
-
--- the given pairs of a specification, relation by relation
-pub keeps_given : (rs : List Relation) (c : Rankings)
-    → ((rel : ℕ) (r : Relation) → slice_get rs rel ≡ Some r → KeepsEach (slice_index_or c rel []) r.given) → KeepsGiven rs c
-keeps_given rs c each rel r at p contains =
-    let found = at_contains r.given p contains in each rel r at found.0 p found.1
-
-pub first_broken : (rs : List Relation) (c : Rankings) (rel : ℕ) (r : Relation) (pair : Pair) → slice_get rs rel ≡ Some r
-    → ((rel' : ℕ) (r' : Relation) → rel' < rel → slice_get rs rel' ≡ Some r' → KeepsEach (slice_index_or c rel' []) r'.given)
-    → IsFirstBrokenOf r (slice_index_or c rel []) pair → IsFirstBroken rs c rel pair
-first_broken rs c rel r pair at before broken =
+-- the first list of a specification that is no ranking
+pub first_unranked : (rs : List Relation) (c : Rankings) (rel : ℕ) (r : Relation) (attr ent : ℕ) → slice_get rs rel ≡ Some r
+    → ((other : ℕ) (q : Relation) → other < rel → slice_get rs other ≡ Some q → IsRanked q (slice_index_or c other []))
+    → IsFirstUnrankedOf r (slice_index_or c rel []) attr ent → IsFirstUnranked rs c rel attr ent
+first_unranked rs c rel r attr ent at before first =
     record {
       relation = r;
       is_relation = at;
-      place = broken.place;
-      is_pair = broken.is_pair;
-      broken = broken.broken;
-      earlier_relations = keeps_given (take rel rs) c
-          (λ rel' r' at'. let found = get_of_take rs rel rel' r' at' in before rel' r' found.0 found.1);
-      earlier_pairs = λ p contains.
-          let found = at_contains (take broken.place r.given) p contains in
-          let there = get_of_take r.given broken.place found.0 p found.1 in
-          broken.earlier found.0 p there.0 there.1;
+      attr_within = first.attr_within;
+      ent_within = first.ent_within;
+      broken = first.broken;
+      earlier = λ rel' q at' attr' ent' inside inside' stands.
+          ⊎_elim
+          (λ (less : rel' < rel). before rel' q less at' attr' ent' inside inside')
+          (λ (same : (rel' ≡ rel) × ((attr' < attr) ⊎ ((attr' ≡ attr) × (ent' < ent)))).
+          let own : q ≡ r = same_Some q r (sym at' ∙ (ap (slice_get rs) same.0 ∙ at)) in
+          let in_attrs : attr' < length r.attrs = subst (λ (x : Relation). attr' < length x.attrs) own inside in
+          let in_entities : ent' < length r.entities = subst (λ (x : Relation). ent' < length x.entities) own inside' in
+          let ranking = first.earlier attr' ent' in_attrs in_entities same.1 in
+          rw (own, same.0) ranking)
+          stands;
     }
 
--- a bound on the rows of relations, one relation on
-pub most_more : (rs : List Relation) (i most new : ℕ) (r : Relation) → i < length rs → r ≡ get_or rs i r → All (λ q. length q.rows ≤ most) (take i rs)
-    → most ≤ new → length r.rows ≤ new → All (λ q. length q.rows ≤ new) (take (i + 1) rs)
-most_more rs i most new r below read all up here =
-    All-more (λ q. length q.rows ≤ new) rs i r below
-    (All-weaker (λ q. length q.rows ≤ most) (λ q. length q.rows ≤ new) (λ q h. omega arith) (take i rs) all)
-    (rw (← read) here)
+-- no rule before one is broken
+pub no_earlier_rule : (rs : List Relation) (rules : List Rule) (places : List Places) (n : ℕ)
+    → ((k : ℕ) (rule : Rule) → k < n → slice_get rules k ≡ Some rule → (r : Relation) → slice_get rs rule.relation.0 ≡ Some r
+    → NoChoiceBreaks (tried rule r (slice_index_or places rule.relation.0 [])))
+    → NoRuleBreaks rs (take n rules) places
+no_earlier_rule rs rules places n each k rule at = let found = get_of_take rules n k rule at in each k rule found.0 found.1

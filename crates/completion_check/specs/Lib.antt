@@ -3,3 +3,4 @@ pub mod Relations
 pub mod Room
 pub mod Tests
 pub mod Breaks
+pub mod Flaws

@@ -1,10 +1,14 @@
 //! The check of a completion: is it consistent, and if not, what does it fail first?
 #![tactic(auto)]
 
+mod broken;
 mod check;
 mod marks;
 mod relations;
+mod row_places;
 mod scratch;
+mod search;
+mod trial;
 
 pub use check::{check_completion, first_flaw_is_one, flaw_rules_out};
 pub use scratch::CheckScratch;

@@ -2,7 +2,7 @@ ghost use Rattle.std.specs.Prelude.{◌≡◌, ℕ, ◌<◌, ◌≤◌, ◌↔�
 ghost use Rattle.std.specs.Bool.{OnTrue, OnFalse};
 ghost use Rattle.partial_orders.specs.Pairs.{entity_of};
 ghost use Rattle.spec_model.specs.Completion.{IsRanking};
-ghost use Rattle.completion_check.specs.Marks.{AreMarksOf, IsClear, IsUnmarked, SameElsewhere};
+ghost use Rattle.completion_check.specs.Marks.{AreMarksOf, AreMarked, IsClear, IsUnmarked, SameElsewhere};
 
 use currency_base::{Row, RowId, RowList};
 
@@ -13,14 +13,15 @@ pub(crate) fn first_unranked(places: &mut [usize], lists: &[RowList], rows: &[Ro
     ensures within { result ≤ length lists.now }
     ensures ranked { (ent : ℕ) → ent < result → IsRanking rows.now ent (slice_index_or lists.now ent []) }
     ensures refused { result < length lists.now → IsRanking rows.now result (slice_index_or lists.now result []) → ⊥ }
+    ensures marked { result ≡ length lists.now → AreMarked rows.now lists.now places.new }
 {
     let bad = mark_lists(places, lists, rows);
     first_unmarked(places, rows, bad)
 }
 
-/// Writes for each row its place in its entity's list, counted from 1, up to the first list that has a
-/// row of another entity or a row twice. Answers the entity of that list, or the number of lists.
-pub(crate) fn mark_lists(places: &mut [usize], lists: &[RowList], rows: &[Row]) -> usize
+// Writes for each row its place in its entity's list, counted from 1, up to the first list that has a
+// row of another entity or a row twice. Answers the entity of that list, or the number of lists.
+fn mark_lists(places: &mut [usize], lists: &[RowList], rows: &[Row]) -> usize
     requires room { length rows.now ≤ length places.old }
     ensures within { result ≤ length lists.now }
     ensures marks { (ent : ℕ) → ent < result → AreMarksOf rows.now ent (slice_index_or lists.now ent []) places.new }

@@ -1,4 +1,4 @@
-use Rattle.completion_check.proofs.Ranked.{rules_out}
+use Rattle.completion_check.proofs.OneFlaw.{rules_out}
 use Rattle.completion_check.proofs.check.flaw_rules_out.Goals as goal
 
 pub returns : goal.returns

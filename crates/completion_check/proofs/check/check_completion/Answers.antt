@@ -1,0 +1,43 @@
+use Rattle.std.proofs.Common.{◌≡◌, sym, subst}
+use Rattle.std.proofs.lemmas.Result.{IfErr-weaker, on_ok_weaker}
+use Rattle.spec_model.specs.Consistent.{IsConsistent}
+use Rattle.spec_model.specs.FirstFlaw.{IsFirstFlaw}
+use Rattle.completion_check.specs.Breaks.{NoRuleBreaks}
+use Rattle.completion_check.specs.Flaws.{AreMarkedIn, AreAllInOrder, IsPairFlaw, IsRuleFlaw}
+use Rattle.completion_check.specs.Tests.{Places}
+use Rattle.completion_check.proofs.Lifted.{IsMarkedCompletion, pair_flaw, rule_flaw, consistent}
+use Rattle.completion_check.proofs.check.check_completion.Goals as goal
+
+pub returns-in-Err-clause-flaw : goal.returns-in-Err-clause-flaw
+returns-in-Err-clause-flaw c =
+    let same = c.relations-relations.ensures.value in
+    let rs = c.args.spec.now.relations in
+    let ps = c.as_slice-places.result.now in
+    let marked : AreMarkedIn rs c.args.completion.now ps = subst (AreMarkedIn rs c.args.completion.now) (sym c.as_slice-places.ensures.value) (rw same at c.in_ok-check_rankings.ensures.marked) in
+    let is : IsMarkedCompletion rs c.args.completion.now ps = record { facts = c.relations-relations.ensures.facts; completion = rw same at c.in_ok-check_rankings.ensures.ok; marked = marked } in
+    let found : IsPairFlaw rs ps c.in-Err.flaw = rw same at c.in-Err.ensures.err in
+    pair_flaw c.args.spec.now c.args.completion.now ps c.in-Err.flaw is found
+
+pub returns-clause-consistent : goal.returns-clause-consistent
+returns-clause-consistent c =
+    let same = c.relations-relations.ensures.value in
+    let rs = c.args.spec.now.relations in
+    let ps = c.as_slice-places.result.now in
+    let marked : AreMarkedIn rs c.args.completion.now ps = subst (AreMarkedIn rs c.args.completion.now) (sym c.as_slice-places.ensures.value) (rw same at c.in_ok-check_rankings.ensures.marked) in
+    let is : IsMarkedCompletion rs c.args.completion.now ps = record { facts = c.relations-relations.ensures.facts; completion = rw same at c.in_ok-check_rankings.ensures.ok; marked = marked } in
+    let order : AreAllInOrder rs ps = rw same at c.in_default.ensures.ok in
+    on_ok_weaker c.check_rules.result
+    (λ (none : NoRuleBreaks rs c.args.spec.now.rules ps). consistent c.args.spec.now c.args.completion.now ps is c.rules.ensures.facts order none)
+    (rw (same, c.rules.ensures.value) at c.check_rules.ensures.ok)
+
+pub returns-clause-flaw : goal.returns-clause-flaw
+returns-clause-flaw c =
+    let same = c.relations-relations.ensures.value in
+    let rs = c.args.spec.now.relations in
+    let ps = c.as_slice-places.result.now in
+    let marked : AreMarkedIn rs c.args.completion.now ps = subst (AreMarkedIn rs c.args.completion.now) (sym c.as_slice-places.ensures.value) (rw same at c.in_ok-check_rankings.ensures.marked) in
+    let is : IsMarkedCompletion rs c.args.completion.now ps = record { facts = c.relations-relations.ensures.facts; completion = rw same at c.in_ok-check_rankings.ensures.ok; marked = marked } in
+    let order : AreAllInOrder rs ps = rw same at c.in_default.ensures.ok in
+    IfErr-weaker c.check_rules.result (IsRuleFlaw rs c.args.spec.now.rules ps) (IsFirstFlaw c.args.spec.now c.args.completion.now)
+    (λ flaw found. rule_flaw c.args.spec.now c.args.completion.now ps flaw is c.rules.ensures.facts order found)
+    (rw (same, c.rules.ensures.value) at c.check_rules.ensures.err)
