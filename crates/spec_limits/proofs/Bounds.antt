@@ -1,7 +1,5 @@
 -- The variables of orders, relation by relation.
-use Rattle.std.proofs.Common.{◌≡◌, ◌<◌, ◌≤◌, ◌+◌, ◌*◌, ◌∙◌, [], ℕ, true, false, ltb, List, length, get_or, take, Some, None, refl, sym, ap, arith, min, ◌-◌, ◌^◌}
-use Rattle.std.proofs.lemmas.Bool.{le-ltb, lt-ltb}
-use Rattle.std.proofs.lemmas.List.{take_all}
+use Rattle.std.proofs.Common.{◌≡◌, ◌<◌, ◌≤◌, ◌+◌, ◌*◌, ◌∙◌, ℕ, true, false, ltb, List, length, get_or, take, Some, None, refl, sym, ap}
 use Rattle.std.proofs.lemmas.List.Sums.{sum_by_more, sum_by-take-le}
 use Rattle.std.proofs.Math.Nat.{mul_comm}
 use Rattle.currency_base.specs.declared.row.Row.{Row}

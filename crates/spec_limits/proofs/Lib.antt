@@ -1,3 +1,4 @@
 mod Chain
 mod Tally
 mod Bounds
+pub mod GivenPairs

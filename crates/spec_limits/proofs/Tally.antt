@@ -1,7 +1,7 @@
 -- Counts of the rows of each entity, as rows are counted one by one.
-use Rattle.std.proofs.Common.{◌≡◌, ◌<◌, ◌≤◌, ◌+◌, ◌*◌, ◌∙◌, ◌++◌, ◌∷◌, [], ℕ, Bool, true, false, cond, eqb, ltb, List, length, get_or, set, take, replicate, All, refl, sym, ap, arith, get_or-set_other, get_or-set_same, inl, inr, subst, length-set, length-take}
-use Rattle.std.specs.List.{count_by, list_any}
-use Rattle.std.proofs.lemmas.Bool.{cases_eq, eq-eqb, ne_eqb, le-ltb, lt-ltb, eqb-true}
+use Rattle.std.proofs.Common.{◌≡◌, ◌<◌, ◌≤◌, ◌+◌, ◌∙◌, ◌++◌, ◌∷◌, [], ℕ, true, false, cond, eqb, ltb, List, length, get_or, set, take, replicate, All, refl, sym, ap, arith, get_or-set_other, get_or-set_same, inl, inr, subst, length-set, length-take}
+use Rattle.std.specs.List.{list_any}
+use Rattle.std.proofs.lemmas.Bool.{cases_eq, eq-eqb, ne_eqb, le-ltb, lt-ltb}
 use Rattle.std.proofs.lemmas.List.{get_or-replicate, length-replicate, take_more}
 use Rattle.std.proofs.lemmas.List.Elements.{All-get_or}
 use Rattle.std.proofs.lemmas.List.Folds.{list_any_at}
@@ -47,16 +47,17 @@ pub counts_more : (entities : ℕ) (counts counts' : List ℕ) (rows : List Row)
 counts_more entities counts counts' rows i row before are lt is few was now = record {
   one_each = ap length now ∙ length-set counts row.entity.0 (before + 1) ∙ are.one_each;
   each = λ ent within. elim (cases_eq row.entity.0 ent) [
-    inl same ↦
-      (let there : row.entity.0 < length counts = omega (arith, are.one_each) in
-      ap (λ cs. get_or cs ent 0) now ∙ ap (λ e. get_or (set counts row.entity.0 (before + 1)) e 0) (sym same)
-      ∙ get_or-set_same counts row.entity.0 (before + 1) 0 there
-      ∙ ap (λ n. n + 1) (was ∙ ap (λ e. get_or counts e 0) same ∙ are.each ent within)
-      ∙ ap (λ n. rows_of ent (take i rows) + n) (sym (one_same row ent same)) ∙ sym (rows_more ent rows i row lt is))
+    | inl same ↦
+        (let there : row.entity.0 < length counts = omega (arith, are.one_each) in
+        ap (λ cs. get_or cs ent 0) now ∙ ap (λ e. get_or (set counts row.entity.0 (before + 1)) e 0) (sym same)
+        ∙ get_or-set_same counts row.entity.0 (before + 1) 0 there
+        ∙ ap (λ n. n + 1) (was ∙ ap (λ e. get_or counts e 0) same ∙ are.each ent within)
+        ∙ ap (λ n. rows_of ent (take i rows) + n) (sym (one_same row ent same)) ∙ sym (rows_more ent rows i row lt is))
     | inr other ↦
-      (ap (λ cs. get_or cs ent 0) now ∙ get_or-set_other counts row.entity.0 ent (before + 1) 0 (λ e. other (sym e))
-      ∙ are.each ent within ∙ sym (add_zero (rows_of ent (take i rows)))
-      ∙ ap (λ n. rows_of ent (take i rows) + n) (sym (one_other row ent other)) ∙ sym (rows_more ent rows i row lt is)) ];
+        (ap (λ cs. get_or cs ent 0) now ∙ get_or-set_other counts row.entity.0 ent (before + 1) 0 (λ e. other (sym e))
+        ∙ are.each ent within ∙ sym (add_zero (rows_of ent (take i rows)))
+        ∙ ap (λ n. rows_of ent (take i rows) + n) (sym (one_other row ent other)) ∙ sym (rows_more ent rows i row lt is))
+  ];
 }
 
 -- the count of an entity is at most that of the rows
@@ -77,8 +78,9 @@ entity_within entities rows i row all lt is =
 pub low_more : (rows : List Row) (i : ℕ) (row : Row) → ((ent : ℕ) → rows_of ent (take i rows) ≤ 64) → i < length rows
     → row ≡ get_or rows i row → rows_of row.entity.0 (take i rows) < 64 → (ent : ℕ) → rows_of ent (take (i + 1) rows) ≤ 64
 low_more rows i row low lt is here ent = elim (cases_eq row.entity.0 ent) [
-    inl same ↦ omega (arith, rows_more ent rows i row lt is, one_same row ent same, ap (λ e. rows_of e (take i rows)) same)
-    | inr other ↦ omega (arith, rows_more ent rows i row lt is, one_other row ent other, low ent) ]
+  | inl same ↦ omega (arith, rows_more ent rows i row lt is, one_same row ent same, ap (λ e. rows_of e (take i rows)) same)
+  | inr other ↦ omega (arith, rows_more ent rows i row lt is, one_other row ent other, low ent)
+]
 
 -- one row more of an entity that had 64
 pub crowded_here : (rows : List Row) (i : ℕ) (row : Row) → i < length rows → row ≡ get_or rows i row
@@ -103,8 +105,9 @@ spread rows low = none_crowded rows low rows
 
 same_test : (a b : ℕ) → eqb a b ≡ eqb b a
 same_test a b = elim (cases_eq a b) [
-    inl is ↦ eq-eqb a b is ∙ sym (eq-eqb b a (sym is))
-    | inr not ↦ ne_eqb a b not ∙ sym (ne_eqb b a (λ e. not (sym e))) ]
+  | inl is ↦ eq-eqb a b is ∙ sym (eq-eqb b a (sym is))
+  | inr not ↦ ne_eqb a b not ∙ sym (ne_eqb b a (λ e. not (sym e)))
+]
 
 pairs_push : (rows : List Row) (row : Row) → entity_pairs (rows ++ row ∷ []) ≡ entity_pairs rows + rows_of row.entity.0 rows
 pairs_push [] row = refl

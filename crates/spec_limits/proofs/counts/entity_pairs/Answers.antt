@@ -1,4 +1,4 @@
-use Rattle.std.proofs.Common.{arith, ◌<◌, ◌≡◌, ◌∙◌, sym}
+use Rattle.std.proofs.Common.{arith, ◌<◌, ◌≡◌, ◌∙◌}
 use Rattle.spec_limits.proofs.Tally.{counts_more, count_few, entity_within, pairs_more}
 use Rattle.spec_limits.specs.Limits.{rows_of}
 use Rattle.std.proofs.Common.{take}
@@ -15,7 +15,7 @@ loop-row-preserved c =
     let more = pairs_more rows i row c.loop-row-test.true c.row-item.is in
     record {
       counted = counts_more c.args.entities c.loop-row.tally c.count-before.new.self rows i row c.count-before.result c.loop-row.invariant.counted
-      c.loop-row-test.true c.row-item.is few c.count-before.ensures.before c.count-before.ensures.counted;
+          c.loop-row-test.true c.row-item.is few c.count-before.ensures.before c.count-before.ensures.counted;
       pairs = omega (arith, before, more, c.loop-row.invariant.pairs, c.from-pairs.ensures);
       few = omega (arith, counted, c.loop-row.invariant.few, c.count-before.ensures.before, c.requires.few, c.from-pairs.ensures);
     }

@@ -1,4 +1,4 @@
-use Rattle.std.proofs.Common.{arith, ◌<◌, ◌≡◌, ◌≤◌, ◌∙◌, sym, take, ℕ, subst, length, List}
+use Rattle.std.proofs.Common.{arith, ◌<◌, ◌≡◌, ◌≤◌, ◌∙◌, sym, take, ℕ, subst, List}
 use Rattle.std.proofs.lemmas.List.{take_all}
 use Rattle.currency_base.specs.declared.row.Row.{Row}
 use Rattle.spec_limits.proofs.Tally.{counts_more, entity_within, crowded_here, low_more, spread}
@@ -23,7 +23,7 @@ loop-row-preserved c =
     let before : c.count-before.result ≡ rows_of row.entity.0 (take i rows) = c.count-before.ensures.before ∙ c.loop-row.invariant.counted.each row.entity.0 few in
     record {
       counted = counts_more c.args.entities c.loop-row.tally c.count-before.new.self rows i row c.count-before.result c.loop-row.invariant.counted
-      c.loop-row-test.true c.row-item.is few c.count-before.ensures.before c.count-before.ensures.counted;
+          c.loop-row-test.true c.row-item.is few c.count-before.ensures.before c.count-before.ensures.counted;
       low = low_more rows i row c.loop-row.invariant.low c.loop-row-test.true c.row-item.is (omega (arith, before, c.if-before-ge-MOST_OF_ONE.false));
     }
 

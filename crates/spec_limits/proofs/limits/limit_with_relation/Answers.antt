@@ -1,7 +1,6 @@
-use Rattle.std.proofs.Common.{arith, ◌<◌, ◌≡◌, ◌≤◌, ◌+◌, ◌∙◌, sym, ap, length, true, false}
-use Rattle.currency_base.specs.declared.row.Row.{Row}
+use Rattle.std.proofs.Common.{arith, ◌∙◌, sym, ap, length}
 use Rattle.spec_model.specs.declared.relation.Relation.{Relation}
-use Rattle.spec_limits.specs.Limits.{rows_together, is_crowded}
+use Rattle.spec_limits.specs.Limits.{is_crowded}
 use Rattle.spec_limits.proofs.Chain.{too_many_relations, too_many_attrs, too_many_rows, too_many_of_one, relation_within, few_rows}
 use Rattle.spec_limits.proofs.limits.limit_with_relation.Goals as goal
 

@@ -1,4 +1,4 @@
-use Rattle.std.proofs.Common.{◌<◌, ◌≤◌, ◌∙◌, length, sym, ap, arith}
+use Rattle.std.proofs.Common.{◌∙◌, length, sym, ap, arith}
 use Rattle.denial_rules.specs.declared.rule.Rule.{Rule}
 use Rattle.spec_limits.proofs.Chain.{too_many_rules, too_long_rule, rule_within}
 use Rattle.spec_limits.proofs.limits.limit_with_rule.Goals as goal

@@ -1,6 +1,6 @@
-use Rattle.std.proofs.Common.{arith, ◌<◌, ◌≡◌, ◌≤◌, ◌+◌, ◌*◌, ◌∙◌, sym, ap, take, length, take_all}
-use Rattle.std.proofs.lemmas.Bool.{lt-ltb, le-ltb}
-use Rattle.spec_limits.specs.Limits.{order_variables, entity_pairs}
+use Rattle.std.proofs.Common.{arith, ◌+◌, sym}
+use Rattle.std.proofs.lemmas.Bool.{lt-ltb}
+use Rattle.spec_limits.specs.Limits.{order_variables}
 use Rattle.spec_limits.proofs.Bounds.{none_yet, product, relation_more, some_of_all}
 use Rattle.spec_limits.proofs.variables.has_too_many.Goals as goal
 

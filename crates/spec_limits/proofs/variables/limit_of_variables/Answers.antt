@@ -1,4 +1,4 @@
-use Rattle.std.proofs.Common.{◌≡◌, ◌∙◌, sym, ap, ltb, true, false}
+use Rattle.std.proofs.Common.{◌∙◌, sym, ap, ltb}
 use Rattle.spec_limits.specs.Limits.{order_variables}
 use Rattle.spec_limits.proofs.Bounds.{many, not_many}
 use Rattle.spec_limits.proofs.variables.limit_of_variables.Goals as goal
