@@ -213,6 +213,12 @@ halts_in_second {A} {B} {P} {stop} {p} r Q follows tokens a mid e left h = recor
           spelled = subst (λ (d : A). Q d g.tree.1 ((h.front ++ t ∷ []) ++ g.more)) (sym trees) (subst (Q g.tree.0 g.tree.1) (sym rests ∙ one_more h.front t g.more) g.spelled.second);
         })
 
+-- the trees of a reader, changed
+pub record Image {A B : Type 0} (f : A → B) (P : A → List Lexeme → Type 0) (b : B) (tokens : List Lexeme) : Type 0 where
+  pub tree : A
+  pub is : f tree ≡ b
+  pub spelled : P tree tokens
+
 -- the trees of a reader that hangs on what another has read
 pub record Continues {A B : Type 0} (P : A → List Lexeme → Type 0) (Q : A → B → List Lexeme → Type 0) (b : B) (tokens : List Lexeme) : Type 0 where
   pub tree : A
@@ -338,6 +344,34 @@ first_then test b begins h =
     let f : FirstIs test b h.front = begins h.front h.first in
     record { token = f.token; rest = f.rest ++ h.rest; is = h.split ∙ ap (λ (l : List Lexeme). l ++ h.rest) f.is; answers = f.answers }
 
+pub first_says : {A : Type 0} {says : Lexeme → Option A} (test : Lexeme → Bool) (b : Bool) → ((t : Lexeme) (a : A) → says t ≡ Some a → test t ≡ b) → Begins test b (Says says)
+first_says test b goes a tokens h = record { token = h.token; rest = []; is = h.alone; answers = goes h.token a h.said }
+
+pub begins_image : {A B : Type 0} (f : A → B) (P : A → List Lexeme → Type 0) (test : Lexeme → Bool) (b : Bool) → Begins test b P → Begins test b (Image f P)
+begins_image f P test b begins tree tokens h = begins h.tree tokens h.spelled
+
+pub begins_continues : {A B : Type 0} (P : A → List Lexeme → Type 0) (Q : A → B → List Lexeme → Type 0) (test : Lexeme → Bool) (b : Bool) → Begins test b P → Begins test b (Continues P Q)
+begins_continues P Q test b begins tree tokens h = first_then test b (begins h.tree) h.spelled
+
+-- three parts, grouped otherwise
+pub first_two : {L M N : List Lexeme → Type 0} {tokens : List Lexeme} → (L ⋅ M ⋅ N) tokens → ((L ⋅ M) ⋅ N) tokens
+first_two h = record {
+  front = h.front ++ h.second.front;
+  rest = h.second.rest;
+  split = h.split ∙ ap (λ (l : List Lexeme). h.front ++ l) h.second.split ∙ sym (append_assoc h.front h.second.front h.second.rest);
+  first = record { front = h.front; rest = h.second.front; split = refl; first = h.first; second = h.second.first };
+  second = h.second.second;
+}
+
+pub last_two : {L M N : List Lexeme → Type 0} {tokens : List Lexeme} → ((L ⋅ M) ⋅ N) tokens → (L ⋅ M ⋅ N) tokens
+last_two h = record {
+  front = h.first.front;
+  rest = h.first.rest ++ h.rest;
+  split = h.split ∙ ap (λ (l : List Lexeme). l ++ h.rest) h.first.split ∙ append_assoc h.first.front h.first.rest h.rest;
+  first = h.first.first;
+  second = record { front = h.first.rest; rest = h.rest; split = refl; first = h.first.second; second = h.second };
+}
+
 -- such tokens end what stands before them
 abbrev pub Ended : {A : Type 0} → (A → Lexeme → Bool) → (Lexeme → Bool) → Type 0
 Ended {A} stop test = (a : A) (t : Lexeme) → test t ≡ true → stop a t ≡ true
@@ -373,12 +407,6 @@ joins_plain Q stop' = record {
 pub reads_two : {A B : Type 0} {P : A → List Lexeme → Type 0} {p : Parser A} {Q : B → List Lexeme → Type 0} {stop' : B → Lexeme → Bool} {q : Parser B}
     → IsReader P always p → IsReader Q stop' q → IsReader (λ (x : A × B). P x.0 ⋅ Q x.1) (λ x. stop' x.1) (both p q)
 reads_two {Q = Q} {stop'} r w = reads_both r w (joins_plain Q stop')
-
--- the trees of a reader, changed
-pub record Image {A B : Type 0} (f : A → B) (P : A → List Lexeme → Type 0) (b : B) (tokens : List Lexeme) : Type 0 where
-  pub tree : A
-  pub is : f tree ≡ b
-  pub spelled : P tree tokens
 
 pub reads_mapped : {A B : Type 0} {P : A → List Lexeme → Type 0} {stop : A → Lexeme → Bool} {p : Parser A}
     → IsReader P stop p → (f : A → B) (stop' : B → Lexeme → Bool) → ((a : A) (t : Lexeme) → stop' (f a) t ≡ stop a t) → IsReader (Image f P) stop' (mapped f p)
