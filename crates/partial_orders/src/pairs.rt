@@ -1,5 +1,6 @@
 ghost use Rattle.std.specs.Prelude.{◌≡◌, ◌<◌, [], length, IsErrOf, OnOk, OnErr};
 ghost use Rattle.std.specs.BTreeSet.{insert_key};
+ghost use Rattle.std.specs.List.Sorted.{IsStrictlySortedBy};
 ghost use Rattle.partial_orders.specs.Pairs.{pair_cmp, AreOfOneEntity};
 
 use currency_base::{NoMemory, Pair, Rows};
@@ -69,9 +70,10 @@ impl Pairs {
         self.set.len()
     }
 
-    /// The pairs, in order.
+    /// The pairs, in order: by attribute, earlier row and later row. No pair stands twice.
     pub fn iter(&self) -> Iter<'_, Pair>
-        ensures { result ≡ self.now }
+        ensures all { result ≡ self.now }
+        ensures ascend { IsStrictlySortedBy pair_cmp self.now }
     {
         self.set.iter()
     }

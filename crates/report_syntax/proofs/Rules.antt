@@ -3,8 +3,8 @@ use Rattle.std.proofs.Common.{◌≡◌, ℕ, Bool, true, false, not, ◌||◌, 
 use Rattle.text_tokens.specs.Lexeme.{Lexeme}
 use Rattle.text_tokens.specs.declared.token.TokenKind.TheVariants.{Word, Symbol}
 use Rattle.text_grammar.specs.Words.{is_word, is_symbol, named}
-use Rattle.text_grammar.specs.Grammar.{Language, Then, ◌⋅◌, IsWord, IsSymbol, SpellsName, Maybe, Listed}
-use Rattle.text_grammar.specs.Reading.{Parser, one, both, after}
+use Rattle.text_grammar.specs.Grammar.{Language, ◌⋅◌, IsWord, IsSymbol, SpellsName, Maybe, Listed}
+use Rattle.text_grammar.specs.Reading.{one, both}
 use Rattle.text_grammar.specs.Laws.{Stopped, IsReader, IsPlain, Tells, AtFirst}
 use Rattle.text_grammar.proofs.Lists.{append_empty}
 use Rattle.text_grammar.proofs.Readers.{always, stopped_always, Begins, Ended, FirstIs, Image, first_then, reads_one, reads_two, reads_then, reads_made}
@@ -12,7 +12,7 @@ use Rattle.text_grammar.proofs.Choices.{maybe_ends, reads_maybe, reads_only}
 use Rattle.text_grammar.proofs.ListReaders.{unless, reads_many_plain}
 use Rattle.text_grammar.proofs.FixedTokens.{a_fixed, a_fixed_is, apart, reads_name, reads_symbol, after_word, after_symbol, before_symbol, listed_symbol, begins_fixed}
 use Rattle.text_grammar.proofs.Tellings.{plain_one, plain_passing, plain_both, plain_after, plain_before, plain_mapped, plain_maybe, plain_many, plain_listed, tells_only, tells_mapped}
-use Rattle.report_syntax.proofs.Tellings.{AfterTree, tells_same, tells_next, tells_second, tells_after}
+use Rattle.text_grammar.proofs.SequenceTellings.{AfterTree, tells_same, tells_next, tells_second, tells_after, tells_after_word, either_apart}
 use Rattle.report_syntax.specs.declared.tree.VerdictTree.{VerdictTree}
 use Rattle.report_syntax.specs.declared.tree.VerdictTree.TheVariants.{Consistent}
 use Rattle.report_syntax.specs.declared.tree.CompletionTree.{CompletionTree}
@@ -163,10 +163,6 @@ plain_completions = plain_mapped completions_of (plain_maybe (is_word (codes "co
 
 -- ---- verdicts that aren't built
 
-either_apart : (a b d : Bool) → (a ≡ true → d ≡ false) → (b ≡ true → d ≡ false) → a || b ≡ true → d ≡ false
-either_apart true b d f g e = f refl
-either_apart false b d f g e = g e
-
 -- a word of such a verdict is not the one that is built
 unbuilt_verdict_apart : (t : Lexeme) → is_unbuilt_verdict t ≡ true → is_word (codes "consistent") t ≡ false
 unbuilt_verdict_apart t =
@@ -287,12 +283,8 @@ tells_body = tells_same (λ front t. OpensVerdict front t ⊎ AfterParts front t
     (λ front t o. elim o [ inl x ↦ inl x | inr x ↦ inr (opens_part front t x) ])
     (λ front t o. elim o [ inl x ↦ inl x | inr x ↦ inr (part_opens front t x) ])
 
-tells_word : {A : Type 0} {p : Parser A} (text : List ℕ) (O : List Lexeme → Lexeme → Type 0) → Tells O p
-    → Tells (λ front t. Then (IsWord text) (λ rest. O rest t) front) (after (is_word text) p)
-tells_word text O w = tells_after O (is_word text) (a_fixed Word text) (a_fixed_is Word text) w
-
 pub tells_report : Tells OpensReport report_at
 unfolding report_at
 tells_report = tells_mapped OpensReport (λ x. record { verdict = x.0; completions = x.1.0 })
-    (tells_word (codes "currency") _ (tells_word (codes "report") _ (tells_word (codes "1") _
+    (tells_after_word (codes "currency") _ (tells_after_word (codes "report") _ (tells_after_word (codes "1") _
     (tells_after _ (is_symbol (codes ";")) (a_fixed Symbol (codes ";")) (a_fixed_is Symbol (codes ";")) tells_body))))

@@ -6,7 +6,7 @@ pub mod ListReaders
 pub mod Whole
 pub mod Tellings
 pub mod Loops
-pub mod OneList
 pub mod TextLaws
+pub mod SequenceTellings
 pub mod FixedTokens
 pub mod VariableTokens

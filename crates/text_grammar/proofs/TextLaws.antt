@@ -11,7 +11,7 @@ use Rattle.text_grammar.proofs.Lists.{overlaps, one_more}
 use Rattle.text_grammar.proofs.Outcomes
 use Rattle.text_grammar.proofs.Whole.{reads_whole}
 use Rattle.text_grammar.proofs.Tellings.{tells_whole}
-use Rattle.text_grammar.proofs.OneList.{one_list_of_tokens}
+use Rattle.text_tokens.proofs.Unique.{one_list}
 
 -- ---- from a reader to its grammar
 
@@ -93,7 +93,7 @@ one_tree_of_tokens {A} {P} {p = p} r tokens a b h k =
 pub one_tree : {A : Type 0} {P : A → List Lexeme → Type 0} {stop : A → Lexeme → Bool} {p : Parser A}
     → IsReader P stop p → (source : List ℕ) (a b : A) → ReadsText P source a → ReadsText P source b → a ≡ b
 one_tree {P = P} r source a b h k =
-    let same : h.lexemes ≡ k.lexemes = one_list_of_tokens source h.lexemes k.lexemes h.tokens k.tokens in
+    let same : h.lexemes ≡ k.lexemes = one_list source h.lexemes k.lexemes h.tokens k.tokens in
     one_tree_of_tokens r k.lexemes a b (subst (P a) same h.spelled) k.spelled
 
 -- a text that is refused is read as none
@@ -101,10 +101,10 @@ pub none_refused : {A : Type 0} (P : A → List Lexeme → Type 0) (Opens : List
     → (source : List ℕ) (tree : A) (e : TextFault) → ReadsText P source tree → RefusesText P Opens source e → ⊥
 none_refused P Opens source tree (NotUtf8 line) h k = k.0 h.utf8
 none_refused P Opens source tree (Syntax line) h k =
-    let same : h.lexemes ≡ k.0.lexemes = one_list_of_tokens source h.lexemes k.0.lexemes h.tokens k.0.tokens in
+    let same : h.lexemes ≡ k.0.lexemes = one_list source h.lexemes k.0.lexemes h.tokens k.0.tokens in
     k.0.place.none tree (subst (P tree) same h.spelled)
 none_refused P Opens source tree (Unbuilt line) h k =
-    let same : h.lexemes ≡ k.0.lexemes = one_list_of_tokens source h.lexemes k.0.lexemes h.tokens k.0.tokens in
+    let same : h.lexemes ≡ k.0.lexemes = one_list source h.lexemes k.0.lexemes h.tokens k.0.tokens in
     k.0.place.none tree (subst (P tree) same h.spelled)
 none_refused P Opens source tree NoMemory h k = k
 
@@ -137,7 +137,7 @@ record SameRefusal {A : Type 0} (P : A → List Lexeme → Type 0) (source : Lis
 
 same_refusal : {A : Type 0} (P : A → List Lexeme → Type 0) (source : List ℕ) (line line' : ℕ) (h : RefusedOn P source line) (k : RefusedOn P source line') → SameRefusal P source line line' h k
 same_refusal P source line line' h k =
-    let lexemes : h.lexemes ≡ k.lexemes = one_list_of_tokens source h.lexemes k.lexemes h.tokens k.tokens in
+    let lexemes : h.lexemes ≡ k.lexemes = one_list source h.lexemes k.lexemes h.tokens k.tokens in
     let left : h.left ≡ k.left = one_place P k.lexemes h.left k.left (subst (λ (l : List Lexeme). RefusedAt P l h.left) lexemes h.place) k.place in
     record { lexemes = lexemes; left = left; on_line = h.on_line ∙ ap (line_at source) left ∙ sym k.on_line }
 

@@ -1,11 +1,14 @@
 -- Where readers in a row tell the words of forms that aren't built.
-use Rattle.std.proofs.Common.{◌≡◌, Bool, true, false, List, [], ◌∷◌, ◌++◌, ◌⊎◌, inl, inr, refl, sym, ap, subst, ◌∙◌, append_assoc, Ok, Err}
+use Rattle.std.proofs.Common.{◌≡◌, ℕ, Bool, true, false, ◌||◌, List, [], ◌∷◌, ◌++◌, ◌⊎◌, inl, inr, refl, sym, ap, subst, ◌∙◌, append_assoc, Ok, Err}
 use Rattle.text_tokens.specs.Lexeme.{Lexeme}
-use Rattle.text_grammar.specs.Grammar.{Then, Passes}
+use Rattle.text_tokens.specs.declared.token.TokenKind.TheVariants.{Word}
+use Rattle.text_grammar.specs.Words.{is_word}
+use Rattle.text_grammar.specs.Grammar.{Then, Passes, IsWord}
 use Rattle.text_grammar.specs.Reading.{Stop, Outcome, Parser, passing, both, after, and_then, changed, refuse_unbuilt}
 use Rattle.text_grammar.specs.Laws.{Stopped, Reads, IsReader, IsPlain, Opened, Tells}
 use Rattle.text_grammar.proofs.Outcomes
 use Rattle.text_grammar.proofs.Readers.{always, stopped_always, stopped_with, reads_passing}
+use Rattle.text_grammar.proofs.FixedTokens.{a_fixed, a_fixed_is}
 use Rattle.text_grammar.proofs.Tellings.{plain_passing}
 use Rattle.text_grammar.proofs.TextLaws.{tells_never}
 
@@ -110,3 +113,15 @@ tells_after {A} {p} O test token is w = record { told = told; tells = tells }
         let cut : front ++ t ∷ rest ≡ o.front ++ (o.rest ++ t ∷ rest) = ap (λ (l : List Lexeme). l ++ t ∷ rest) o.split ∙ append_assoc o.front o.rest (t ∷ rest) in
         let read : passing test (front ++ t ∷ rest) ≡ Ok (tt, o.rest ++ t ∷ rest) = ap (passing test) cut ∙ reads.complete tt o.front (o.rest ++ t ∷ rest) o.first (stopped_always (o.rest ++ t ∷ rest)) in
         Outcomes.then_is (passing test (front ++ t ∷ rest)) (λ u rest. p rest) tt (o.rest ++ t ∷ rest) read ∙ w.tells o.rest t rest o.second
+
+-- after a fixed word
+pub tells_after_word : {A : Type 0} {p : Parser A} (text : List ℕ) (O : List Lexeme → Lexeme → Type 0) → Tells O p
+    → Tells (λ front t. Then (IsWord text) (λ rest. O rest t) front) (after (is_word text) p)
+tells_after_word text O w = tells_after O (is_word text) (a_fixed Word text) (a_fixed_is Word text) w
+
+-- ---- words that are told
+
+-- where each of two tests rules a third out, so does the test that passes where one of them does
+pub either_apart : (a b d : Bool) → (a ≡ true → d ≡ false) → (b ≡ true → d ≡ false) → a || b ≡ true → d ≡ false
+either_apart true b d f g e = f refl
+either_apart false b d f g e = g e
