@@ -5,7 +5,8 @@ use Rattle.std.proofs.lemmas.List.Elements.{All-get_or}
 use Rattle.std.proofs.lemmas.List.Quantifiers.{position-Some}
 use Rattle.std.proofs.lemmas.Option.{get_or_from_slice_get, slice_get_within, slice_get-map}
 use Rattle.std.specs.Str.{bytes_eq}
-use Rattle.spec_model.specs.Facts.{IsRelation, IsSpecification}
+use Rattle.spec_model.specs.Spec.{Spec}
+use Rattle.spec_model.specs.Facts.{IsRelation, AreRelations}
 use Rattle.spec_model.specs.declared.relation.Relation.{Relation}
 use Rattle.spec_names.specs.NameLists.{NameLists}
 use Rattle.spec_names.specs.Names.{names_of, all_names_of, place_of}
@@ -26,7 +27,7 @@ named_relation relations rel parts h =
     mapped_from names_of (slice_get relations rel) parts (sym (slice_get-map names_of relations rel) ∙ h)
 
 -- a relation of a specification is one
-is_relation_at : (relations : List Relation) (rel : ℕ) (r : Relation) → IsSpecification relations → slice_get relations rel ≡ Some r → IsRelation r
+is_relation_at : (relations : List Relation) (rel : ℕ) (r : Relation) → AreRelations relations → slice_get relations rel ≡ Some r → IsRelation r
 is_relation_at relations rel r h at =
     subst IsRelation (get_or_from_slice_get relations rel r r at) (All-get_or IsRelation relations rel r (slice_get_within relations rel r at) h.each)
 
@@ -47,26 +48,26 @@ few_names_of r h = record {
   entities = omega (arith, h.few_entities);
 }
 
-few_names : (relations : List Relation) (names : NameLists) (rel : ℕ) (parts : RelationNames) → IsSpecification relations → names ≡ all_names_of relations
+few_names : (s : Spec) (names : NameLists) (rel : ℕ) (parts : RelationNames) → AreRelations s.relations → names ≡ all_names_of s
     → slice_get names.each rel ≡ Some parts → HasFewNames parts
-few_names relations names rel parts is same at =
-    let found = named_relation relations rel parts (rw same at at) in
-    rw found.2 (few_names_of found.0 (is_relation_at relations rel found.0 is found.1))
+few_names s names rel parts is same at =
+    let found = named_relation s.relations rel parts (rw same at at) in
+    rw found.2 (few_names_of found.0 (is_relation_at s.relations rel found.0 is found.1))
 
-pub few_rows : (relations : List Relation) (names : NameLists) (rel : ℕ) (parts : RelationNames) → IsSpecification relations → names ≡ all_names_of relations
+pub few_rows : (s : Spec) (names : NameLists) (rel : ℕ) (parts : RelationNames) → AreRelations s.relations → names ≡ all_names_of s
     → slice_get names.each rel ≡ Some parts → length parts.rows < 2 ^ 32
-few_rows relations names rel parts is same at = (few_names relations names rel parts is same at).rows
+few_rows s names rel parts is same at = (few_names s names rel parts is same at).rows
 
-pub attr_fits : (relations : List Relation) (names : NameLists) (rel : ℕ) (parts : RelationNames) → IsSpecification relations → names ≡ all_names_of relations
+pub attr_fits : (s : Spec) (names : NameLists) (rel : ℕ) (parts : RelationNames) → AreRelations s.relations → names ≡ all_names_of s
     → slice_get names.each rel ≡ Some parts → (name : List ℕ) (i : ℕ) → Some i ≡ place_of parts.attrs name → i < 2 ^ 32
-attr_fits relations names rel parts is same at name i found =
-    let few = few_names relations names rel parts is same at in
+attr_fits s names rel parts is same at name i found =
+    let few = few_names s names rel parts is same at in
     omega (arith, few.attrs, place_within parts.attrs name i found)
 
-pub entity_fits : (relations : List Relation) (names : NameLists) (rel : ℕ) (parts : RelationNames) → IsSpecification relations → names ≡ all_names_of relations
+pub entity_fits : (s : Spec) (names : NameLists) (rel : ℕ) (parts : RelationNames) → AreRelations s.relations → names ≡ all_names_of s
     → slice_get names.each rel ≡ Some parts → (name : List ℕ) (i : ℕ) → Some i ≡ place_of parts.entities name → i < 2 ^ 32
-entity_fits relations names rel parts is same at name i found =
-    let few = few_names relations names rel parts is same at in
+entity_fits s names rel parts is same at name i found =
+    let few = few_names s names rel parts is same at in
     omega (arith, few.entities, place_within parts.entities name i found)
 
 -- the place of three names that are found
@@ -82,26 +83,26 @@ is_place_in relations t rel attr ent r of_relation at of_attr of_entity = record
   ent_within = place_within r.entities t.entity.name ent (sym of_entity);
 }
 
-pub is_place : (relations : List Relation) (names : NameLists) (t : RankingTree) (rel attr ent : ℕ) (parts : RelationNames)
-    → names ≡ all_names_of relations → slice_get names.each rel ≡ Some parts → Some rel ≡ place_of names.relations t.relation.name
+pub is_place : (s : Spec) (names : NameLists) (t : RankingTree) (rel attr ent : ℕ) (parts : RelationNames)
+    → names ≡ all_names_of s → slice_get names.each rel ≡ Some parts → Some rel ≡ place_of names.relations t.relation.name
     → Some attr ≡ place_of parts.attrs t.attr.name → Some ent ≡ place_of parts.entities t.entity.name
-    → IsPlaceOf relations t record { rel = record { 0 = rel }; attr = record { 0 = attr }; ent = record { 0 = ent } }
-is_place relations names t rel attr ent parts same at of_relation of_attr of_entity =
-    let found = named_relation relations rel parts (rw same at at) in
-    is_place_in relations t rel attr ent found.0 (sym (rw same at of_relation)) found.1 (sym (rw found.2 at of_attr)) (sym (rw found.2 at of_entity))
+    → IsPlaceOf s.relations t record { rel = record { 0 = rel }; attr = record { 0 = attr }; ent = record { 0 = ent } }
+is_place s names t rel attr ent parts same at of_relation of_attr of_entity =
+    let found = named_relation s.relations rel parts (rw same at at) in
+    is_place_in s.relations t rel attr ent found.0 (sym (rw same at of_relation)) found.1 (sym (rw found.2 at of_attr)) (sym (rw found.2 at of_entity))
 
 -- the names of the relation of a place
-parts_are : (relations : List Relation) (names : NameLists) (t : RankingTree) (p : PlaceIds) (parts : RelationNames) → names ≡ all_names_of relations
-    → (h : IsPlaceOf relations t p) → slice_get names.each p.rel.0 ≡ Some parts → parts ≡ names_of h.relation
-parts_are relations names t p parts same h at =
+parts_are : (s : Spec) (names : NameLists) (t : RankingTree) (p : PlaceIds) (parts : RelationNames) → names ≡ all_names_of s
+    → (h : IsPlaceOf s.relations t p) → slice_get names.each p.rel.0 ≡ Some parts → parts ≡ names_of h.relation
+parts_are s names t p parts same h at =
     let there : ◌≡◌ (Some parts) (Some (names_of h.relation)) =
-    sym (rw same at at) ∙ slice_get-map names_of relations p.rel.0 ∙ ap (option_map names_of) h.found in
+    sym (rw same at at) ∙ slice_get-map names_of s.relations p.rel.0 ∙ ap (option_map names_of) h.found in
     cc
 
-pub row_names : (relations : List Relation) (names : NameLists) (t : RankingTree) (p : PlaceIds) (parts : RelationNames) → names ≡ all_names_of relations
-    → (h : IsPlaceOf relations t p) → slice_get names.each p.rel.0 ≡ Some parts → parts.rows ≡ map (λ row. row.name) h.relation.rows
-row_names relations names t p parts same h at = ap (λ q. q.rows) (parts_are relations names t p parts same h at)
+pub row_names : (s : Spec) (names : NameLists) (t : RankingTree) (p : PlaceIds) (parts : RelationNames) → names ≡ all_names_of s
+    → (h : IsPlaceOf s.relations t p) → slice_get names.each p.rel.0 ≡ Some parts → parts.rows ≡ map (λ row. row.name) h.relation.rows
+row_names s names t p parts same h at = ap (λ q. q.rows) (parts_are s names t p parts same h at)
 
-pub rel_within_names : (relations : List Relation) (names : NameLists) (t : RankingTree) (p : PlaceIds) → names ≡ all_names_of relations
-    → IsPlaceOf relations t p → p.rel.0 < length names.each
-rel_within_names relations names t p same h = rw (same, length-map) (slice_get_within relations p.rel.0 h.relation h.found)
+pub rel_within_names : (s : Spec) (names : NameLists) (t : RankingTree) (p : PlaceIds) → names ≡ all_names_of s
+    → IsPlaceOf s.relations t p → p.rel.0 < length names.each
+rel_within_names s names t p same h = rw (same, length-map) (slice_get_within s.relations p.rel.0 h.relation h.found)

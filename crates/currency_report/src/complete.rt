@@ -21,8 +21,8 @@ fn completed(
     tree: &CompletionTree,
 ) -> Result<Completion, ReportFault>
     requires { names.now ≡ all_names_of spec.now }
-    ensures due { IsDue (completed spec.now tree.now) result }
-    ensures shape { IfOk result (HasShape spec.now) }
+    ensures due { IsDue (completed spec.now.relations tree.now) result }
+    ensures shape { IfOk result (HasShape spec.now.relations) }
 {
     let mut completion = Completion::new(alloc, spec)?;
     match rank_all(
@@ -45,8 +45,8 @@ pub fn all_completed(
     trees: &[CompletionTree],
 ) -> Result<CompletionList, ReportFault>
     requires { names.now ≡ all_names_of spec.now }
-    ensures due { IsDue (all_completed spec.now trees.now) result }
-    ensures shape { IfOk result (All (HasShape spec.now)) }
+    ensures due { IsDue (all_completed spec.now.relations trees.now) result }
+    ensures shape { IfOk result (All (HasShape spec.now.relations)) }
 {
     let mut list = CompletionList::new(alloc);
     for tree in trees {

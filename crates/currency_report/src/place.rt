@@ -23,7 +23,7 @@ pub fn place_named(
     ranking: &RankingTree,
 ) -> Option<PlaceIds>
     requires { names.now ≡ all_names_of spec.now }
-    ensures { MatchOption result (place_named spec.now ranking.now ≡ None) (IsPlaceOf spec.now ranking.now) }
+    ensures { MatchOption result (place_named spec.now.relations ranking.now ≡ None) (IsPlaceOf spec.now.relations ranking.now) }
 {
     // A specification's ids fit 32 bits: that is what this call tells.
     let _relations = spec.relations();

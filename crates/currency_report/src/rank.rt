@@ -32,9 +32,9 @@ fn rank(
     ranking: &RankingTree,
 ) -> Result<(), ReportFault>
     requires names { names.now ≡ all_names_of spec.now }
-    requires shape { HasShape spec.now completion.old }
-    ensures steps { Steps completion.new (ranked_with spec.now completion.old ranking.now) result }
-    ensures shape { HasShape spec.now completion.new }
+    requires shape { HasShape spec.now.relations completion.old }
+    ensures steps { Steps completion.new (ranked_with spec.now.relations completion.old ranking.now) result }
+    ensures shape { HasShape spec.now.relations completion.new }
 {
     // A specification's ids fit 32 bits: that is what this call tells.
     let _relations = spec.relations();
@@ -62,9 +62,9 @@ pub fn rank_all(
     rankings: &[RankingTree],
 ) -> Result<(), ReportFault>
     requires names { names.now ≡ all_names_of spec.now }
-    requires shape { HasShape spec.now completion.old }
-    ensures steps { Steps completion.new (ranked_by spec.now rankings.now completion.old) result }
-    ensures shape { HasShape spec.now completion.new }
+    requires shape { HasShape spec.now.relations completion.old }
+    ensures steps { Steps completion.new (ranked_by spec.now.relations rankings.now completion.old) result }
+    ensures shape { HasShape spec.now.relations completion.new }
 {
     for ranking in rankings {
         match rank(alloc, spec, names, completion, ranking) {

@@ -17,11 +17,11 @@ pub fn read_report(
     source: &[u8],
     spec: &Specification,
 ) -> Result<ReadReport, ReportFault>
-    ensures read { IfOk result (ReadsReport spec.now source.now) }
-    ensures shape { IfOk result (λ r. All (HasShape spec.now) r.report.completions) }
+    ensures read { IfOk result (ReadsReport spec.now.relations source.now) }
+    ensures shape { IfOk result (λ r. All (HasShape spec.now.relations) r.report.completions) }
     ensures few { IfOk result (λ r. length r.report.completions < 2 ^ 32) }
     ensures lines { IfOk result (λ r. length r.lines.completions ≡ length r.report.completions) }
-    ensures refused { IfErr result (λ e. (e ≡ ReportFault.NoMemory) ⊎ RefusesReport spec.now source.now e) }
+    ensures refused { IfErr result (λ e. (e ≡ ReportFault.NoMemory) ⊎ RefusesReport spec.now.relations source.now e) }
 {
     match read_report_tree(alloc, source) {
         Ok(tree) => report_said(alloc, spec, &tree),
@@ -36,8 +36,8 @@ fn report_said(
     spec: &Specification,
     tree: &ReportTree,
 ) -> Result<ReadReport, ReportFault>
-    ensures due { IsDue (said spec.now tree.now) result }
-    ensures shape { IfOk result (λ r. All (HasShape spec.now) r.report.completions) }
+    ensures due { IsDue (said spec.now.relations tree.now) result }
+    ensures shape { IfOk result (λ r. All (HasShape spec.now.relations) r.report.completions) }
 {
     let names = SpecNames::of(alloc, spec)?;
     let completions = match all_completed(alloc, spec, &names, tree.completions.as_slice()) {

@@ -2,11 +2,11 @@
 use Rattle.spec_model.specs.Consistent.{IsSatisfiable}
 use Rattle.spec_model.specs.declared.question.Question.{Question}
 use Rattle.spec_model.specs.declared.question.Question.TheVariants as asked
-use Rattle.spec_model.specs.declared.relation.Relation.{Relation}
+use Rattle.spec_model.specs.Spec.{Spec}
 use Rattle.currency_report.specs.declared.report.Verdict.{Verdict}
 use Rattle.currency_report.specs.declared.report.Verdict.TheVariants as verdict
 use Rattle.std.specs.Prelude.{List}
 
 -- `consistent` is right of a specification that has a consistent completion
-abbrev pub IsRight : List Relation → Question → Verdict → Type 0
-IsRight relations asked.Consistent verdict.Consistent = IsSatisfiable relations
+abbrev pub IsRight : Spec → Question → Verdict → Type 0
+IsRight s asked.Consistent verdict.Consistent = IsSatisfiable s

@@ -2,7 +2,7 @@ ghost use Rattle.std.specs.Prelude.{◌≡◌, ◌<◌, ◌^◌, [], All, List, 
 ghost use Rattle.spec_model.specs.Completion.{HasShape};
 ghost use Rattle.completion_check.specs.Room.{HasRoom};
 ghost use Rattle.spec_model.specs.Consistent.{IsConsistent};
-ghost use Rattle.spec_model.specs.declared.relation.Relation.{Relation};
+ghost use Rattle.spec_model.specs.Spec.{Spec};
 ghost use Rattle.spec_model.specs.declared.question.Question.{Question};
 ghost use Rattle.currency_report.specs.declared.report.Part.{Part};
 ghost use Rattle.currency_report.specs.declared.report.Report.{Report};
@@ -24,7 +24,7 @@ pub fn verify(
     question: &Question,
     report: &Report,
 ) -> Result<(), VerifyFault>
-    requires shape { All (HasShape spec.now) report.now.completions }
+    requires shape { All (HasShape spec.now.relations) report.now.completions }
     requires few { length report.now.completions < 2 ^ 32 }
     ensures shown { OnOk result (ShowsVerdict spec.now question.now report.now) }
     ensures refused { IfErr result (Refuses spec.now question.now report.now) }
@@ -43,9 +43,9 @@ fn check_all(
     completions: &CompletionList,
     scratch: &mut CheckScratch,
 ) -> Result<(), VerifyFault>
-    requires shape { All (HasShape spec.now) completions.now }
+    requires shape { All (HasShape spec.now.relations) completions.now }
     requires few { length completions.now < 2 ^ 32 }
-    requires room { HasRoom spec.now scratch.old }
+    requires room { HasRoom spec.now.relations scratch.old }
     ensures consistent { OnOk result (All (IsConsistent spec.now) completions.now) }
     ensures bad { IfErr result (IsFirstBadOf spec.now completions.now) }
 {
@@ -79,20 +79,23 @@ fn check_support(question: &Question, report: &Report) -> Result<(), VerifyFault
 
 /// A report that fails a check does not show its verdict.
 pub fn first_unshown_is_not_shown()
-    ensures { (relations : List Relation) (question : Question) (report : Report) (part : Part) (why : Unshown)
-        → IsFirstUnshown relations question report part why → ShowsVerdict relations question report → ⊥ }
-{}
+    ensures { (s : Spec) (question : Question) (report : Report) (part : Part) (why : Unshown)
+        → IsFirstUnshown s question report part why → ShowsVerdict s question report → ⊥ }
+{
+    flaw_rules_out();
+    first_flaw_is_one();
+}
 
 /// A verdict that is shown is right.
 pub fn shown_is_right()
-    ensures { (relations : List Relation) (question : Question) (report : Report)
-        → ShowsVerdict relations question report → IsRight relations question report.verdict }
+    ensures { (s : Spec) (question : Question) (report : Report)
+        → ShowsVerdict s question report → IsRight s question report.verdict }
 {}
 
 /// A report has one first check that fails.
 pub fn first_unshown_is_one()
-    ensures { (relations : List Relation) (question : Question) (report : Report) (part other_part : Part) (why other : Unshown)
-        → IsFirstUnshown relations question report part why → IsFirstUnshown relations question report other_part other
+    ensures { (s : Spec) (question : Question) (report : Report) (part other_part : Part) (why other : Unshown)
+        → IsFirstUnshown s question report part why → IsFirstUnshown s question report other_part other
         → (part ≡ other_part) × (why ≡ other) }
 {
     flaw_rules_out();

@@ -9,7 +9,7 @@ pub enum Missing {
 }
 
 /// Why a report does not show its verdict.
-#[derive(Clone, Copy, Debug, PartialEq, Eq)]
+#[derive(Debug, Drop, PartialEq)]
 pub enum Unshown {
     /// A listed completion is not consistent.
     BadCompletion(Flaw),
@@ -18,7 +18,7 @@ pub enum Unshown {
 }
 
 /// Why a report is not accepted.
-#[derive(Clone, Copy, Debug, PartialEq, Eq)]
+#[derive(Debug, Drop, PartialEq)]
 pub enum VerifyFault {
     Refused { part: Part, why: Unshown },
     /// Want of memory.

@@ -3,15 +3,15 @@ use Rattle.std.proofs.lemmas.List.{take_more, take_all}
 use Rattle.std.proofs.lemmas.List.Elements.{All-push}
 use Rattle.spec_model.specs.Completion.{Rankings}
 use Rattle.spec_model.specs.Consistent.{IsConsistent}
-use Rattle.spec_model.specs.declared.relation.Relation.{Relation}
+use Rattle.spec_model.specs.Spec.{Spec}
 use Rattle.report_verify.proofs.check.check_all.Goals as goal
 
 -- one more completion that is consistent
-one_more : (relations : List Relation) (cs : List Rankings) (i : ℕ) (c : Rankings) → i < length cs → c ≡ get_or cs i c
-    → All (IsConsistent relations) (take i cs) → IsConsistent relations c → All (IsConsistent relations) (take (i + 1) cs)
-one_more relations cs i c below is all consistent =
+one_more : (s : Spec) (cs : List Rankings) (i : ℕ) (c : Rankings) → i < length cs → c ≡ get_or cs i c
+    → All (IsConsistent s) (take i cs) → IsConsistent s c → All (IsConsistent s) (take (i + 1) cs)
+one_more s cs i c below is all consistent =
     let longer : take (i + 1) cs ≡ take i cs ++ c ∷ [] = subst (λ (x : Rankings). take (i + 1) cs ≡ take i cs ++ x ∷ []) (sym is) (take_more cs i c below) in
-    subst (All (IsConsistent relations)) (sym longer) (All-push (IsConsistent relations) (take i cs) c all consistent)
+    subst (All (IsConsistent s)) (sym longer) (All-push (IsConsistent s) (take i cs) c all consistent)
 
 pub loop-place-preserved : goal.loop-place-preserved
 loop-place-preserved c =
@@ -21,7 +21,7 @@ loop-place-preserved c =
     record {
       consistent = one_more c.args.spec.now c.args.completions.now c.loop-place.place c.completion-item.result below here
           c.loop-place.invariant.consistent c.in_default.ensures.consistent;
-      room = rw c.in_default.ensures.room_stays c.loop-place.invariant.room;
+      room = c.in_default.ensures.room_stays;
     }
 
 pub returns-clause-consistent : goal.returns-clause-consistent

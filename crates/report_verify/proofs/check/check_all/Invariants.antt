@@ -6,5 +6,5 @@ use Rattle.report_verify.proofs.check.check_all.Given as goal
 abbrev pub invariant-loop-place : goal.invariant-loop-place
 invariant-loop-place l = record {
   consistent : All (IsConsistent l.spec) (take l.place l.completions);
-  room : HasRoom l.spec l.scratch;
+  room : HasRoom l.spec.relations l.scratch;
 }
