@@ -1,5 +1,5 @@
 -- Refusals, and outcomes of steps that may be refused.
-use Rattle.std.specs.Prelude.{◌≡◌, ℕ, List, [], ◌∷◌, map, Option, Some, None, Result, Ok, Err}
+use Rattle.std.specs.Prelude.{◌≡◌, ℕ, List, [], ◌∷◌, Option, Some, None, Result, Ok, Err}
 use Rattle.currency_base.specs.declared.error_code.ErrorCode.{ErrorCode}
 use Rattle.text_grammar.specs.declared.named.Named.{Named}
 use Rattle.bind_faults.specs.declared.fault.BindFault.{BindFault}

@@ -1,17 +1,15 @@
 -- Tests of rows that begin with given ones.
-use Rattle.std.proofs.Common.{◌≡◌, ◌+◌, ◌<◌, ◌≤◌, ℕ, zero, suc, Bool, true, false, not, ◌&&◌, max, List, [], ◌∷◌, ◌++◌, length, All, Some, slice_get, slice_index_or, refl, sym, ap, ◌∙◌, ⊎_elim, arith}
+use Rattle.std.proofs.Common.{◌≡◌, ◌<◌, ℕ, zero, suc, Bool, true, false, not, ◌&&◌, List, [], ◌∷◌, ◌++◌, length, Some, slice_get, slice_index_or, refl, sym, ap, ◌∙◌, arith}
 use Rattle.std.specs.List.{list_all}
 use Rattle.std.proofs.lemmas.List.{append-nil}
 use Rattle.std.proofs.lemmas.Option.{same_Some, none-some}
 use Rattle.currency_base.specs.declared.ids.RowId.{RowId}
 use Rattle.currency_base.specs.declared.row.Row.{Row}
-use Rattle.currency_base.specs.declared.value.Value.{Value}
 use Rattle.denial_rules.specs.Instances.{operand_value, field_value, is_compared}
 use Rattle.denial_rules.specs.declared.rule.Operand.{Operand}
 use Rattle.denial_rules.specs.declared.rule.Operand.TheVariants.{Field, Constant}
 use Rattle.denial_rules.specs.declared.rule.Predicate.{Predicate}
 use Rattle.denial_rules.specs.declared.rule.Predicate.TheVariants.{Order, Compare}
-use Rattle.denial_rules.specs.declared.rule.Rule.{Rule}
 use Rattle.spec_model.specs.Satisfies.{AreRowsBefore}
 use Rattle.completion_check.specs.Tests.{Places, is_before, predicate_test, conclusion_test, breaks, operand_var, last_var}
 use Rattle.completion_check.specs.Breaks.{Tried, IsTestable, IsTrial, AreTested, IsFailed, AreMore, NoneBreaks, BreaksFirst, breaks_it}

@@ -6,14 +6,9 @@ use Rattle.std.proofs.lemmas.List.{get_or_past}
 use Rattle.std.proofs.lemmas.List.Elements.{All-get_or, All-head, All-tail}
 use Rattle.partial_orders.specs.Pairs.{entity_of}
 use Rattle.currency_base.specs.declared.ids.RowId.{RowId}
-use Rattle.currency_base.specs.declared.pair.Pair.{Pair}
 use Rattle.currency_base.specs.declared.row.Row.{Row}
-use Rattle.spec_model.specs.declared.relation.Relation.{Relation}
 use Rattle.spec_model.specs.Completion.{IsRanking, Before}
-use Rattle.spec_model.specs.Facts.{IsGivenPair, IsRelation}
 use Rattle.completion_check.specs.Marks.{AreMarksOf, AreMarked}
-use Rattle.spec_model.specs.Satisfies.{Lists}
-use Rattle.completion_check.specs.Relations.{FitsRelation, IsRanked, Keeps}
 use Rattle.completion_check.proofs.Places.{at_contains}
 
 -- what holds of each item holds of the one at a place

@@ -1,5 +1,5 @@
 -- What is found by the places of rows, as the definitions say it.
-use Rattle.std.proofs.Common.{◌≡◌, ◌<◌, ◌∙◌, ℕ, List, [], Some, length, slice_get, slice_index_or, take, sym, ap, subst, arith}
+use Rattle.std.proofs.Common.{◌≡◌, ◌∙◌, ℕ, List, [], Some, slice_get, slice_index_or, take, sym, subst}
 use Rattle.std.proofs.lemmas.Option.{same_Some}
 use Rattle.currency_base.specs.declared.ids.RowId.{RowId}
 use Rattle.currency_base.specs.declared.pair.Pair.{Pair}
@@ -7,13 +7,12 @@ use Rattle.denial_rules.specs.Rules.{IsRuleOn}
 use Rattle.denial_rules.specs.declared.rule.Rule.{Rule}
 use Rattle.spec_model.specs.Spec.{Spec}
 use Rattle.spec_model.specs.Facts.{IsRelation, IsGivenPair, AreRelations, AreRules, IsRuleOf, kinds_of}
-use Rattle.spec_model.specs.Completion.{Rankings, HasShape, IsCompletion}
+use Rattle.spec_model.specs.Completion.{Rankings, IsCompletion}
 use Rattle.spec_model.specs.Consistent.{KeepsGiven, SatisfiesRules, IsConsistent}
 use Rattle.spec_model.specs.FirstFlaw.{IsFirstBroken, IsFirstRuleBroken, IsFirstFlaw}
 use Rattle.spec_model.specs.declared.flaw.Flaw.{Flaw}
 use Rattle.spec_model.specs.declared.flaw.Flaw.TheVariants.{NotARanking, GivenBroken, RuleBroken}
 use Rattle.spec_model.specs.declared.relation.Relation.{Relation}
-use Rattle.completion_check.specs.Relations.{IsInOrder}
 use Rattle.completion_check.specs.Tests.{Places}
 use Rattle.completion_check.specs.Breaks.{NoRuleBreaks, IsFirstRuleBreak}
 use Rattle.completion_check.specs.Flaws.{AreMarkedIn, AreAllInOrder, IsFirstPairOut, IsUnrankedFlaw, IsPairFlaw, IsRuleFlaw}

@@ -16,11 +16,11 @@ use Rattle.denial_rules.specs.declared.rule.Rule.{Rule}
 use Rattle.denial_rules.specs.Rules.{IsPredicate, IsConclusion, IsRuleOn}
 use Rattle.spec_model.specs.Facts.{IsRelation, IsGivenPair, kinds_of}
 use Rattle.spec_model.specs.Completion.{Before}
-use Rattle.spec_model.specs.Satisfies.{Lists, IsChoice, StandsBefore, PredicateHolds, ConclusionHolds, IsSatisfiedBy, IsBrokenBy, SatisfiesRule}
+use Rattle.spec_model.specs.Satisfies.{Lists, IsChoice, StandsBefore, PredicateHolds, ConclusionHolds, IsSatisfiedBy, IsBrokenBy}
 use Rattle.spec_model.specs.declared.relation.Relation.{Relation}
 use Rattle.completion_check.specs.Relations.{FitsRelation, IsRanked, AreAllMarked, IsInOrder, Keeps}
 use Rattle.completion_check.specs.Tests.{Places, is_before, predicate_test, conclusion_test, breaks}
-use Rattle.completion_check.specs.Breaks.{NoChoiceBreaks, IsFirstBreak, breaks_it, tried}
+use Rattle.completion_check.specs.Breaks.{breaks_it, tried}
 use Rattle.completion_check.proofs.Fronts.{list_all_true}
 use Rattle.completion_check.proofs.Kept.{all_at, entity_within, before_from, below_from}
 use Rattle.completion_check.proofs.Places.{row_within}

@@ -1,8 +1,8 @@
 -- Room for one relation after another.
-use Rattle.std.proofs.Common.{◌≡◌, ◌+◌, ◌<◌, ◌≤◌, ℕ, zero, suc, refl, List, [], ◌∷◌, ◌++◌, Some, length, get_or, take, slice_get, slice_set, slice_index_or, sym, ap, ◌∙◌, subst, ⊎_elim, arith}
+use Rattle.std.proofs.Common.{◌≡◌, ◌+◌, ◌<◌, ℕ, zero, suc, refl, List, [], ◌∷◌, ◌++◌, Some, length, get_or, take, slice_get, slice_set, slice_index_or, sym, ap, ◌∙◌, subst, ⊎_elim, arith}
 use Rattle.std.proofs.lemmas.Bool.{cases_eq}
 use Rattle.std.proofs.lemmas.List.{length-set, get_or-set_same, get_or-set_other}
-use Rattle.std.proofs.lemmas.Option.{same_Some, slice_get-get_or, slice_get_within}
+use Rattle.std.proofs.lemmas.Option.{same_Some, slice_get-get_or}
 use Rattle.spec_model.specs.declared.relation.Relation.{Relation}
 use Rattle.completion_check.specs.Room.{HasPlaces, HasAllPlaces}
 use Rattle.completion_check.proofs.Places.{get_of_take, get_in_take}

@@ -1,5 +1,5 @@
 -- The places of a relation's rows, one attribute after another.
-use Rattle.std.proofs.Common.{◌≡◌, ◌+◌, ◌<◌, ℕ, List, [], length, slice_set, slice_index_or, refl, sym, ap, ◌∙◌, ⊎_elim, length-set, arith}
+use Rattle.std.proofs.Common.{◌≡◌, ◌+◌, ◌<◌, ℕ, List, [], length, slice_set, slice_index_or, sym, ap, ◌∙◌, ⊎_elim, length-set, arith}
 use Rattle.std.proofs.lemmas.Bool.{cases_eq}
 use Rattle.std.proofs.lemmas.List.{get_or-set_same, get_or-set_other}
 use Rattle.spec_model.specs.declared.relation.Relation.{Relation}

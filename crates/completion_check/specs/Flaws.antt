@@ -1,5 +1,5 @@
 -- What each part of a check finds first, by the places of rows.
-use Rattle.std.specs.Prelude.{◌≡◌, ◌<◌, ℕ, List, [], length, Some, slice_get, slice_index_or}
+use Rattle.std.specs.Prelude.{◌≡◌, ◌<◌, ℕ, List, [], Some, slice_get, slice_index_or}
 use Rattle.currency_base.specs.declared.pair.Pair.{Pair}
 use Rattle.denial_rules.specs.declared.rule.Rule.{Rule}
 use Rattle.spec_model.specs.Completion.{Rankings}

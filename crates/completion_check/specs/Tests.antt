@@ -1,5 +1,5 @@
 -- What the places of rows say of a rule, for rows that are taken for its variables: tests that stand for the definition.
-use Rattle.std.specs.Prelude.{ℕ, ◌&&◌, Bool, true, false, not, nat_lt, max, List, [], Option, Some, None, slice_get, slice_index, slice_index_or}
+use Rattle.std.specs.Prelude.{ℕ, ◌&&◌, Bool, false, not, nat_lt, max, List, [], Option, Some, slice_get, slice_index, slice_index_or}
 use Rattle.std.specs.List.{list_all}
 use Rattle.currency_base.specs.declared.ids.RowId.{RowId}
 use Rattle.currency_base.specs.declared.row.Row.{Row}

@@ -5,7 +5,6 @@ use Rattle.spec_model.specs.declared.question.Question.TheVariants as asked
 use Rattle.spec_model.specs.Spec.{Spec}
 use Rattle.currency_report.specs.declared.report.Verdict.{Verdict}
 use Rattle.currency_report.specs.declared.report.Verdict.TheVariants as verdict
-use Rattle.std.specs.Prelude.{List}
 
 -- `consistent` is right of a specification that has a consistent completion
 abbrev pub IsRight : Spec → Question → Verdict → Type 0

@@ -4,7 +4,6 @@ use Rattle.std.specs.BTreeSet.{insert_key}
 use Rattle.currency_base.specs.Lists.{OnlyOnce}
 use Rattle.partial_orders.specs.Pairs.{AreOfOneEntity, pair_cmp}
 use Rattle.currency_base.specs.declared.pair.Pair.{Pair}
-use Rattle.currency_base.specs.declared.row.Row.{Row}
 use Rattle.currency_base.specs.declared.value.Kind.{Kind}
 use Rattle.denial_rules.specs.Rules.{IsRuleOn}
 use Rattle.denial_rules.specs.declared.rule.Rule.{Rule}

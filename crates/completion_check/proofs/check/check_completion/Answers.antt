@@ -1,10 +1,8 @@
-use Rattle.std.proofs.Common.{◌≡◌, sym, subst}
+use Rattle.std.proofs.Common.{sym, subst}
 use Rattle.std.proofs.lemmas.Result.{IfErr-weaker, on_ok_weaker}
-use Rattle.spec_model.specs.Consistent.{IsConsistent}
 use Rattle.spec_model.specs.FirstFlaw.{IsFirstFlaw}
 use Rattle.completion_check.specs.Breaks.{NoRuleBreaks}
 use Rattle.completion_check.specs.Flaws.{AreMarkedIn, AreAllInOrder, IsPairFlaw, IsRuleFlaw}
-use Rattle.completion_check.specs.Tests.{Places}
 use Rattle.completion_check.proofs.Lifted.{IsMarkedCompletion, pair_flaw, rule_flaw, consistent}
 use Rattle.completion_check.proofs.check.check_completion.Goals as goal
 

@@ -1,9 +1,8 @@
-use Rattle.std.proofs.Common.{◌≡◌, ◌<◌, [], Some, length, slice_get, slice_index_or, refl, sym, subst, arith}
+use Rattle.std.proofs.Common.{◌≡◌, ◌<◌, [], length, slice_index_or, refl, arith}
 use Rattle.std.proofs.lemmas.List.{get_or_read}
 use Rattle.std.proofs.lemmas.Option.{slice_get_within, slice_get_read}
 use Rattle.spec_model.specs.declared.relation.Relation.{Relation}
-use Rattle.completion_check.specs.Relations.{FitsRelation, IsRanked, AreAllMarked, IsFirstUnrankedOf}
-use Rattle.completion_check.specs.Room.{HasPlaces}
+use Rattle.completion_check.specs.Relations.{IsRanked, AreAllMarked, IsFirstUnrankedOf}
 use Rattle.completion_check.proofs.Kept.{each_at_more}
 use Rattle.completion_check.proofs.Ranked.{fits_relation, first_unranked}
 use Rattle.completion_check.proofs.Rooms.{each_written, has_all_places_set}

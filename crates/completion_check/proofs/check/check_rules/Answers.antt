@@ -1,13 +1,11 @@
-use Rattle.std.proofs.Common.{◌≡◌, ◌<◌, ◌∙◌, ℕ, List, [], Some, length, slice_get, slice_index_or, refl, sym, ap, subst, arith}
+use Rattle.std.proofs.Common.{◌≡◌, ◌<◌, ◌∙◌, [], Some, length, slice_get, slice_index_or, refl, sym, subst, arith}
 use Rattle.std.proofs.lemmas.List.{get_or_read}
 use Rattle.std.proofs.lemmas.Option.{same_Some, slice_get_within, slice_get_read}
-use Rattle.currency_base.specs.declared.ids.RowId.{RowId}
 use Rattle.denial_rules.specs.declared.rule.Rule.{Rule}
 use Rattle.entity_rows.specs.Members.{AreEntityRows}
 use Rattle.spec_model.specs.Facts.{IsRuleOf}
 use Rattle.spec_model.specs.declared.relation.Relation.{Relation}
 use Rattle.completion_check.specs.Breaks.{NoChoiceBreaks, IsFirstBreak, tried}
-use Rattle.completion_check.specs.Tests.{Places}
 use Rattle.completion_check.proofs.Kept.{all_at, each_at_more}
 use Rattle.completion_check.proofs.Ranked.{no_earlier_rule}
 use Rattle.completion_check.proofs.check.check_rules.Goals as goal

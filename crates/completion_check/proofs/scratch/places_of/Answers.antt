@@ -1,2 +1,0 @@
-use Rattle.completion_check.proofs.Rooms.{each_next}
-use Rattle.completion_check.proofs.scratch.places_of.Goals as goal

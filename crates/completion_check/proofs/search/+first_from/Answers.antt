@@ -1,9 +1,8 @@
-use Rattle.std.proofs.Common.{◌≡◌, ◌-◌, ◌+◌, ◌<◌, ◌≤◌, ◌∙◌, ℕ, List, [], ◌∷◌, ◌++◌, Some, All, length, take, slice_get, slice_index_or, slice_set, refl, ap, sym, subst, rules, arith}
+use Rattle.std.proofs.Common.{◌≡◌, ◌-◌, ◌+◌, ◌<◌, ◌≤◌, ◌∙◌, ℕ, [], ◌∷◌, ◌++◌, length, take, slice_index_or, slice_set, ap, sym, subst, rules, arith}
 use Rattle.std.proofs.lemmas.List.{take_more_set, length-take-le, length-set}
 use Rattle.std.proofs.lemmas.Option.{slice_get-get_or}
-use Rattle.currency_base.specs.declared.ids.RowId.{RowId}
 use Rattle.completion_check.specs.Breaks.{AreTested, AreRows, NoneBreaks, BreaksFirst}
-use Rattle.completion_check.proofs.Kept.{all_at, each_at_more}
+use Rattle.completion_check.proofs.Kept.{each_at_more}
 use Rattle.completion_check.proofs.Fronts.{none_failed, none_concluded, breaks_here}
 use Rattle.completion_check.proofs.Searched.{tested_next, tested_push, none_next, first_next, rows_push}
 use Rattle.completion_check.proofs.search.+first_from.Goals as goal

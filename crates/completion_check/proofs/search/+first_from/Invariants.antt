@@ -1,4 +1,4 @@
-use Rattle.std.proofs.Common.{◌≡◌, ◌+◌, ◌-◌, ◌<◌, ℕ, [], ◌∷◌, ◌++◌, take, Some, slice_get}
+use Rattle.std.proofs.Common.{◌≡◌, ◌-◌, ◌<◌, ℕ, [], ◌∷◌, ◌++◌, take, Some, slice_get}
 use Rattle.currency_base.specs.declared.ids.RowId.{RowId}
 use Rattle.completion_check.specs.Breaks.{NoneBreaks}
 use Rattle.completion_check.proofs.search.+first_from.Given as goal

@@ -1,4 +1,4 @@
-use Rattle.std.proofs.Common.{◌≡◌, ◌-◌, ◌∙◌, List, [], ◌∷◌, length, take, slice_index_or, refl, subst, sym, arith}
+use Rattle.std.proofs.Common.{◌≡◌, ◌-◌, ◌∙◌, List, [], ◌∷◌, length, take, refl, subst, sym, arith}
 use Rattle.currency_base.specs.declared.ids.RowId.{RowId}
 use Rattle.entity_rows.specs.Members.{members}
 use Rattle.entity_rows.proofs.Membership.{members_ascend}

@@ -1,4 +1,4 @@
-use Rattle.std.proofs.Common.{◌≡◌, ◌<◌, length, get_or, All, refl, subst, sym}
+use Rattle.std.proofs.Common.{◌≡◌, ◌<◌, length, get_or, refl}
 use Rattle.std.proofs.lemmas.List.Elements.{All-get_or}
 use Rattle.entity_rows.proofs.MembersMore.{entity_rows_more}
 use Rattle.entity_rows.proofs.rows.entity_rows.Goals as goal

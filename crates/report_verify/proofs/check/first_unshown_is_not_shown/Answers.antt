@@ -1,6 +1,5 @@
 use Rattle.spec_model.specs.Spec.{Spec}
 use Rattle.spec_model.specs.declared.question.Question.{Question}
-use Rattle.spec_model.specs.declared.question.Question.TheVariants as asked
 use Rattle.currency_report.specs.declared.report.Part.{Part}
 use Rattle.currency_report.specs.declared.report.Part.TheVariants as part
 use Rattle.currency_report.specs.declared.report.Report.{Report}

@@ -1,4 +1,4 @@
-use Rattle.std.proofs.Common.{◌≡◌, ◌<◌, [], Some, length, slice_get, slice_index, slice_index_or, rules, arith, ap}
+use Rattle.std.proofs.Common.{◌≡◌, ◌<◌, Some, length, slice_get, rules, arith, ap}
 use Rattle.std.specs.Map.Iter.{deref}
 use Rattle.std.proofs.lemmas.List.{length_push}
 use Rattle.std.proofs.lemmas.Map.Iter.{iter_turn, iter_end}
