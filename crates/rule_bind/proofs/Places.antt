@@ -44,6 +44,13 @@ present names name place at = by_cases (place_of names name) refl
         (bytes_eq-Decides name (get_or names place name)).1 (sym (get_or_from_slice_get names place name name at)) in
         absurd (true≢false (sym passes ∙ fails))
 
+-- a name that has no place is not in the list
+pub missing : (names : List (List ℕ)) (name : List ℕ) → place_of names name ≡ None → Contains names name → ⊥
+missing names name none (i, within, at) =
+    let fails = position_none (bytes_eq name) names none i name within in
+    let passes : bytes_eq name (get_or names i name) ≡ true = (bytes_eq-Decides name (get_or names i name)).1 (sym at) in
+    true≢false (sym passes ∙ fails)
+
 -- a new name is not taken, and is added
 pub free : (names : List (List ℕ)) (named : Named) → (Contains names named.name → ⊥) → taken names named ≡ None
 free names named missing = rw (absent names named.name missing) refl
