@@ -1,5 +1,5 @@
 -- What is due of a rule at the place of its relation.
-use Rattle.std.proofs.Common.{◌≡◌, ◌∙◌, ◌<◌, ◌≤◌, ℕ, List, length, map, All, Contains, get_or, Option, Some, None, Result, Ok, Err, refl, ap, sym, subst, arith, slice_get}
+use Rattle.std.proofs.Common.{◌≡◌, ◌∙◌, ◌<◌, ◌≤◌, ℕ, List, length, map, Contains, get_or, Some, Result, Ok, Err, refl, ap, sym, subst, arith, slice_get}
 use Rattle.std.specs.Prelude.{IfOk, option_map}
 use Rattle.std.proofs.lemmas.List.{length-map}
 use Rattle.std.proofs.lemmas.List.Elements.{All-get_or}
@@ -7,7 +7,7 @@ use Rattle.std.proofs.lemmas.Option.{slice_get_read, slice_get-map}
 use Rattle.currency_base.specs.declared.ids.RelId.{RelId}
 use Rattle.currency_base.specs.declared.error_code.ErrorCode.TheVariants.{UnknownName}
 use Rattle.rule_syntax.specs.declared.trees.RuleTree.{RuleTree}
-use Rattle.bind_faults.specs.Faults.{and_then, found_or, refused_at, IsDue}
+use Rattle.bind_faults.specs.Faults.{and_then, found_or, refused_at}
 use Rattle.bind_faults.specs.declared.fault.BindFault.{BindFault}
 use Rattle.denial_rules.specs.Rules.{IsRuleOn}
 use Rattle.denial_rules.specs.declared.rule.Rule.{Rule}
@@ -19,7 +19,6 @@ use Rattle.spec_names.specs.NameLists.{NameLists}
 use Rattle.spec_names.specs.Names.{all_names_of, names_of, place_of}
 use Rattle.spec_names.specs.declared.names.RelationNames.{RelationNames}
 use Rattle.rule_bind.specs.Ruled.{named_in, names_of_attrs, ruled, ruled_at, ruled_on}
-use Rattle.rule_bind.proofs.Due.{due_same}
 
 -- the names of a specification, its relations as they are listed, and one of these at its place with its names
 pub record IsPlace (names : NameLists) (s : Spec) (list : List (List ℕ)) (rel : ℕ) (relations : List Relation) (r : Relation) (parts : RelationNames) : Type 0 where

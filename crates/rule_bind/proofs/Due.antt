@@ -1,5 +1,5 @@
 -- What is due of a rule, check by check.
-use Rattle.std.proofs.Common.{◌≡◌, ◌∙◌, ◌++◌, ◌∷◌, ◌+◌, ◌<◌, ◌≤◌, [], ℕ, Bool, true, false, List, length, length-append, map, Option, Some, None, Result, Ok, Err, refl, ap, sym, arith, slice_get}
+use Rattle.std.proofs.Common.{◌≡◌, ◌∙◌, ◌++◌, ◌∷◌, ◌+◌, ◌≤◌, [], ℕ, Bool, true, false, List, length, length-append, Result, Ok, Err, ap, sym, arith}
 use Rattle.std.specs.Prelude.{is_some, if◌then◌else◌}
 use Rattle.text_grammar.specs.declared.named.Named.{Named}
 use Rattle.rule_syntax.specs.declared.trees.RuleTree.{RuleTree}
@@ -9,7 +9,6 @@ use Rattle.bind_faults.specs.declared.fault.BindFault.{BindFault}
 use Rattle.bind_faults.specs.declared.fault.BindFault.TheVariants.{Refused, Limit, ReadFault, NoMemory}
 use Rattle.denial_rules.specs.declared.rule.Conclusion.{Conclusion}
 use Rattle.denial_rules.specs.declared.rule.Predicate.{Predicate}
-use Rattle.denial_rules.specs.declared.rule.Rule.{Rule}
 use Rattle.spec_model.specs.declared.relation.Relation.{Relation}
 use Rattle.spec_names.specs.Names.{place_of}
 use Rattle.rule_bind.specs.Ruled.{conclusion_of, names_of_attrs, names_of_vars, predicate_of, refused_later, rule_of, ruled_on, with_name}

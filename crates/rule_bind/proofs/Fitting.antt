@@ -1,12 +1,12 @@
 -- The rule that a tree says fits its relation, where it is short enough.
-use Rattle.std.proofs.Common.{◌≡◌, ◌∙◌, ◌<◌, ◌≤◌, ◌∷◌, [], ℕ, Bool, true, false, List, length, map, All, Contains, Option, Some, None, Result, Ok, Err, refl, ap, ap₂, sym, subst, arith, slice_get, inl, inr}
-use Rattle.std.specs.Prelude.{is_some, if◌then◌else◌, option_map}
+use Rattle.std.proofs.Common.{◌≡◌, ◌∙◌, ◌<◌, ◌≤◌, ◌∷◌, [], ℕ, Bool, true, false, List, length, All, Contains, Option, Some, None, Result, Ok, Err, refl, ap, ap₂, sym, subst, arith, inl, inr}
+use Rattle.std.specs.Prelude.{if◌then◌else◌, option_map}
 use Rattle.std.proofs.lemmas.List.{length-map}
 use Rattle.std.proofs.lemmas.List.Elements.{All-cons, All-nil}
 use Rattle.std.proofs.lemmas.List.Quantifiers.{position-Some}
 use Rattle.std.proofs.lemmas.Option.{slice_get_cases}
 use Rattle.currency_base.specs.Values.{kind_of}
-use Rattle.currency_base.specs.declared.error_code.ErrorCode.TheVariants.{UnknownName, DuplicateName}
+use Rattle.currency_base.specs.declared.error_code.ErrorCode.TheVariants.{UnknownName}
 use Rattle.currency_base.specs.declared.value.Kind.{Kind}
 use Rattle.currency_base.specs.declared.value.Kind.TheVariants.{Text, Int}
 use Rattle.text_grammar.specs.declared.named.Named.{Named}
@@ -20,7 +20,7 @@ use Rattle.rule_syntax.specs.declared.trees.ConclusionTree.{ConclusionTree}
 use Rattle.rule_syntax.specs.declared.trees.ConclusionTree.TheVariants as conclusion_tree
 use Rattle.bind_faults.specs.Faults.{refused_at, found_or, and_then, or_else, all_of, first_of}
 use Rattle.bind_faults.specs.declared.fault.BindFault.{BindFault}
-use Rattle.denial_rules.specs.Rules.{IsRuleOn, IsAtom, IsOperand, IsPredicate, IsConclusion, AreComparable, operand_kind}
+use Rattle.denial_rules.specs.Rules.{IsRuleOn, IsAtom, IsOperand, IsPredicate, IsConclusion, operand_kind}
 use Rattle.denial_rules.specs.declared.rule.Conclusion.{Conclusion}
 use Rattle.denial_rules.specs.declared.rule.Conclusion.TheVariants as a_conclusion
 use Rattle.denial_rules.specs.declared.rule.Operand.{Operand}
@@ -85,13 +85,14 @@ field_fits vars attrs n kinds var attr operand few as_many is =
     let made : an_operand.Field a.0 (record { 0 = b.0 }) ≡ operand = cc in
     let low = named_within attrs attr b.0 (length kinds) as_many b.1 in
     subst (IsFitting n kinds (kind_at kinds (place_of attrs attr.name))) made (elim (slice_get_cases kinds b.0).1 [
-    inl there ↦ record {
-      is_operand = named_within vars var a.0 n few a.1;
-      kind = there.0;
-      has_kind = there.2;
-      same_kind = ap (kind_at kinds) (named_at attrs attr b.0 b.1) ∙ there.2;
-    }
-    | inr past ↦ absurd (omega arith) ])
+      | inl there ↦ record {
+        is_operand = named_within vars var a.0 n few a.1;
+        kind = there.0;
+        has_kind = there.2;
+        same_kind = ap (kind_at kinds) (named_at attrs attr b.0 b.1) ∙ there.2;
+      }
+      | inr past ↦ absurd (omega arith)
+    ])
 
 operand_fits : (vars attrs : List (List ℕ)) (n : ℕ) (kinds : List Kind) (tree : TermTree) (operand : Operand) → length vars ≤ n
     → length attrs ≤ length kinds → operand_of vars attrs tree ≡ Ok operand → IsFitting n kinds (term_kind attrs kinds tree) operand

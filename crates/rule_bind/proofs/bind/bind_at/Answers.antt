@@ -1,17 +1,20 @@
 -- What the parts are refused for is due, in the order of the checks.
-use Rattle.std.proofs.Common.{◌≡◌, ◌∙◌, ◌<◌, ap, sym, arith, Some, Ok, Err, Result}
+use Rattle.std.proofs.Common.{◌∙◌, ap, sym, arith, Ok}
 use Rattle.std.proofs.lemmas.Result.{err_from_is_err_and}
 use Rattle.bind_faults.specs.Faults.{unless}
-use Rattle.denial_rules.specs.declared.rule.Rule.{Rule}
 use Rattle.rule_bind.specs.Ruled.{rule_of}
-use Rattle.rule_bind.proofs.Due.{AreOf, few_names, predicates_fault, conclusion_fault, parts_there, due_same}
+use Rattle.rule_bind.proofs.Due.{few_names, predicates_fault, conclusion_fault, parts_there, due_same}
 use Rattle.rule_bind.proofs.Fitting.{is_fresh, rule_fits}
 use Rattle.rule_bind.proofs.bind.bind_at.Goals as goal
 
 pub predicates_of-requires-clause-vars : goal.predicates_of-requires-clause-vars
 predicates_of-requires-clause-vars c =
-    omega (arith, few_names c.in_ok-names.field-0.names c.as_slice.result.now c.args.tree.now.vars c.in_ok-names.ensures.names c.as_slice.ensures,
-    c.if-len.false, c.len-else-len-eq0.ensures)
+    omega (
+      arith,
+      few_names c.in_ok-names.field-0.names c.as_slice.result.now c.args.tree.now.vars c.in_ok-names.ensures.names c.as_slice.ensures,
+      c.if-len.false,
+      c.len-else-len-eq0.ensures,
+    )
 
 pub returns-in_err-predicates-clause-due : goal.returns-in_err-predicates-clause-due
 returns-in_err-predicates-clause-due c =
@@ -23,8 +26,12 @@ returns-in_err-predicates-clause-due c =
 
 pub conclusion_of-requires-clause-vars : goal.conclusion_of-requires-clause-vars
 conclusion_of-requires-clause-vars c =
-    omega (arith, few_names c.in_ok-names.field-0.names c.as_slice.result.now c.args.tree.now.vars c.in_ok-names.ensures.names c.as_slice.ensures,
-    c.if-len.false, c.len-else-len-eq0.ensures)
+    omega (
+      arith,
+      few_names c.in_ok-names.field-0.names c.as_slice.result.now c.args.tree.now.vars c.in_ok-names.ensures.names c.as_slice.ensures,
+      c.if-len.false,
+      c.len-else-len-eq0.ensures,
+    )
 
 pub returns-in_err-conclusion-clause-due : goal.returns-in_err-conclusion-clause-due
 returns-in_err-conclusion-clause-due c =

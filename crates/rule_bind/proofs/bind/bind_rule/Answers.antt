@@ -1,10 +1,9 @@
 -- The relation that is found is that of the names, and what is due of it is due of the rule.
-use Rattle.std.proofs.Common.{◌≡◌, ◌∙◌, ◌<◌, ap, sym, arith, subst, Result}
+use Rattle.std.proofs.Common.{sym, arith, subst, Result}
 use Rattle.std.proofs.lemmas.Result.{err_from_is_err_and}
 use Rattle.bind_faults.specs.Faults.{IsDue}
 use Rattle.bind_faults.specs.declared.fault.BindFault.{BindFault}
 use Rattle.denial_rules.specs.declared.rule.Rule.{Rule}
-use Rattle.spec_model.specs.Facts.{AreRelations}
 use Rattle.rule_bind.proofs.Due.{due_same}
 use Rattle.rule_bind.proofs.AtPlace.{IsPlace, place_fits, relation_at, attrs_at, few_attrs, unknown_relation, due_at, fits_at, fresh_at}
 use Rattle.rule_bind.proofs.bind.bind_rule.Goals as goal
@@ -37,8 +36,11 @@ returns-in_err-rel-clause-due c =
 
 pub overflow_cast-place : goal.overflow_cast-place
 overflow_cast-place c =
-    omega (arith, place_fits c.args.names.now c.args.spec.now c.relations.result.now c.in_ok-rel.rel c.requires c.relations.ensures
-    c.in_ok-rel.ensures.within c.relations-2.ensures.facts)
+    omega (
+      arith,
+      place_fits c.args.names.now c.args.spec.now c.relations.result.now c.in_ok-rel.rel c.requires c.relations.ensures
+          c.in_ok-rel.ensures.within c.relations-2.ensures.facts,
+    )
 
 pub bind_at-requires-clause-attrs : goal.bind_at-requires-clause-attrs
 bind_at-requires-clause-attrs c = attrs_at _ _ _ _ _ _ _ (place c)
