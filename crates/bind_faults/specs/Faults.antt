@@ -29,16 +29,15 @@ abbrev pub or_else : Option BindFault → Option BindFault → Option BindFault
 or_else None later = later
 or_else (Some fault) later = Some fault
 
--- an item before others, unless there is a fault in place of those
-abbrev pub with_first : {A E : Type 0} → A → Result (List A) E → Result (List A) E
-with_first item (Ok items) = Ok (item ∷ items)
-with_first item (Err fault) = Err fault
+-- what each of these gives, where none is refused; otherwise the first refusal
+abbrev pub all_of : {A B : Type 0} → (A → Result B BindFault) → List A → Result (List B) BindFault
+all_of f [] = Ok []
+all_of f (x ∷ xs) = and_then (f x) (λ y. and_then (all_of f xs) (λ ys. Ok (y ∷ ys)))
 
--- every item, where each answer has one, and else the first fault
-abbrev pub all_ok : {A E : Type 0} → List (Result A E) → Result (List A) E
-all_ok [] = Ok []
-all_ok (Ok item ∷ rest) = with_first item (all_ok rest)
-all_ok (Err fault ∷ rest) = Err fault
+-- the first refusal of these
+abbrev pub first_of : {A : Type 0} → (A → Option BindFault) → List A → Option BindFault
+first_of fault [] = None
+first_of fault (x ∷ xs) = or_else (fault x) (first_of fault xs)
 
 -- the answer is the one that is due, or memory ran out
 abbrev pub IsDue : {A : Type 0} → Result A BindFault → Result A BindFault → Type 0

@@ -5,7 +5,7 @@ use Rattle.currency_base.specs.declared.pair.Pair.{Pair}
 use Rattle.currency_base.specs.declared.row.Row.{Row}
 use Rattle.currency_base.specs.declared.error_code.ErrorCode.{ErrorCode}
 use Rattle.currency_base.specs.declared.error_code.ErrorCode.TheVariants.{UnknownName, UnknownRow}
-use Rattle.bind_faults.specs.Faults.{all_ok, found_or, refused_at, IsDue, IsReadFault}
+use Rattle.bind_faults.specs.Faults.{all_of, and_then, found_or, refused_at, IsDue, IsReadFault}
 use Rattle.spec_names.specs.Names.{place_of}
 use Rattle.spec_model.specs.declared.relation.Relation.{Relation}
 use Rattle.spec_syntax.specs.declared.trees.OrderingTree.{OrderingTree}
@@ -35,18 +35,16 @@ pair_reads attr (Err fault) later a b h = a (same_fault Pair ℕ fault h)
 pair_reads attr (Ok earlier) (Err fault) a b h = b (same_fault Pair ℕ fault h)
 pair_reads attr (Ok earlier) (Ok later) a b h = h
 
-all_reads : (r : Result Pair BindFault) (rest : List (Result Pair BindFault)) → (IsReadFault r → ⊥) → (IsReadFault (all_ok rest) → ⊥) → IsReadFault (all_ok (r ∷ rest)) → ⊥
+all_reads : (r : Result Pair BindFault) (rest : Result (List Pair) BindFault) → (IsReadFault r → ⊥) → (IsReadFault rest → ⊥)
+    → IsReadFault (and_then r (λ p. and_then rest (λ ps. Ok (p ∷ ps)))) → ⊥
 all_reads (Err fault) rest a b h = a (same_fault (List Pair) Pair fault h)
-all_reads (Ok pair) rest a b h = cases (all_ok rest) refl
-  where
-    cases : (r : Result (List Pair) BindFault) → all_ok rest ≡ r → ⊥
-    cases (Ok pairs) e = rw e at h
-    cases (Err fault) e = b (rw e (rw e at h))
+all_reads (Ok pair) (Ok pairs) a b h = h
+all_reads (Ok pair) (Err fault) a b h = b h
 
-pairs_reads : (rows : List (List ℕ)) (attr : ℕ) (pairs : List NamedPair) → IsReadFault (all_ok (map (pair_named rows attr) pairs)) → ⊥
+pairs_reads : (rows : List (List ℕ)) (attr : ℕ) (pairs : List NamedPair) → IsReadFault (all_of (pair_named rows attr) pairs) → ⊥
 pairs_reads rows attr [] h = h
 pairs_reads rows attr (p ∷ pairs) h =
-    all_reads (pair_named rows attr p) (map (pair_named rows attr) pairs)
+    all_reads (pair_named rows attr p) (all_of (pair_named rows attr) pairs)
     (pair_reads attr (row_named rows p.first) (row_named rows p.second) (row_reads rows p.first) (row_reads rows p.second)) (pairs_reads rows attr pairs) h
 
 one_entity_reads : (A : Type 0) (p : Option NamedPair) → IsReadFault {A = A} (Err (not_one_entity p)) → ⊥
@@ -65,8 +63,8 @@ ordered_pairs_reads : (r : Relation) (o : OrderingTree) → IsReadFault (ordered
 unfolding ordered_pairs
 ordered_pairs_reads r o h =
     found_reads {A = List Pair} (place_of (map (λ a. a.name) r.attrs) o.attr.name) UnknownName o.attr
-    (λ attr. checked_pairs r.rows o.pairs (all_ok (map (pair_named (map (λ row. row.name) r.rows) attr) o.pairs)))
-    (λ attr f. checked_reads r.rows o.pairs (all_ok (map (pair_named (map (λ row. row.name) r.rows) attr) o.pairs)) (pairs_reads (map (λ row. row.name) r.rows) attr o.pairs) f) h
+    (λ attr. checked_pairs r.rows o.pairs (all_of (pair_named (map (λ row. row.name) r.rows) attr) o.pairs))
+    (λ attr f. checked_reads r.rows o.pairs (all_of (pair_named (map (λ row. row.name) r.rows) attr) o.pairs) (pairs_reads (map (λ row. row.name) r.rows) attr o.pairs) f) h
 
 -- pairs that are due are no read fault
 pub pairs_due_reads : (r : Relation) (o : OrderingTree) (fault : BindFault) → IsDue (ordered_pairs r o) (Err fault)

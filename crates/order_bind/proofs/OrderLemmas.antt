@@ -1,14 +1,14 @@
 -- How the pairs of an `order` statement are resolved and added one after another.
 use Rattle.std.proofs.Common.{◌≡◌, ℕ, zero, suc, ◌+◌, ◌<◌, ◌≤◌, List, [], ◌∷◌, ◌++◌, length, get_or, take, drop, set, map, Some, Result, Ok, Err, refl, sym, ap, ◌∙◌, append_assoc, arith, All, IfSome, slice_get}
 use Rattle.std.specs.BTreeSet.{insert_key}
-use Rattle.std.specs.Result.{result_map_both}
 use Rattle.std.proofs.lemmas.List.{append-nil, at_drop_more, at_drop_all, set-set, set-get_or, length-set, get_or-set_same, take_all}
 use Rattle.std.proofs.lemmas.List.Elements.{All-get_or}
 use Rattle.std.proofs.lemmas.List.Sums.{fold_more}
 use Rattle.std.proofs.lemmas.Option.{slice_get_within, get_or_from_slice_get, slice_get-get_or, MatchOption-at_some}
 use Rattle.std.proofs.Math.Seq.{map-set_same}
 use Rattle.currency_base.specs.declared.pair.Pair.{Pair}
-use Rattle.bind_faults.specs.Faults.{all_ok}
+use Rattle.bind_faults.specs.Faults.{all_of, and_then}
+use Rattle.bind_faults.specs.declared.fault.BindFault.{BindFault}
 use Rattle.partial_orders.specs.Pairs.{pair_cmp}
 use Rattle.denial_rules.specs.declared.rule.Rule.{Rule}
 use Rattle.spec_model.specs.Spec.{Spec}
@@ -18,55 +18,55 @@ use Rattle.spec_names.specs.Names.{names_of, all_names_of}
 use Rattle.order_bind.specs.Orders.{AddsAllGiven, with_all_given}
 
 -- items in front of what a list gives
-abbrev pub with_front : {A E : Type 0} → List A → Result (List A) E → Result (List A) E
-with_front xs r = result_map_both (λ ys. xs ++ ys) (λ e. e) r
+abbrev pub with_front : {A : Type 0} → List A → Result (List A) BindFault → Result (List A) BindFault
+with_front xs r = and_then r (λ ys. Ok (xs ++ ys))
 
 -- an item in front of what a list gives
-abbrev pub with_one : {A E : Type 0} → A → Result (List A) E → Result (List A) E
-with_one x r = result_map_both (λ ys. x ∷ ys) (λ e. e) r
+abbrev pub with_one : {A : Type 0} → A → Result (List A) BindFault → Result (List A) BindFault
+with_one x r = and_then r (λ ys. Ok (x ∷ ys))
 
-with_front-one : {A E : Type 0} (xs : List A) (x : A) (r : Result (List A) E) → with_front xs (with_one x r) ≡ with_front (xs ++ x ∷ []) r
+with_front-one : {A : Type 0} (xs : List A) (x : A) (r : Result (List A) BindFault) → with_front xs (with_one x r) ≡ with_front (xs ++ x ∷ []) r
 with_front-one xs x (Ok ys) = ap Ok (sym (append_assoc xs (x ∷ []) ys))
 with_front-one xs x (Err e) = refl
 
-all_ok-at_ok : {A E : Type 0} (r : Result A E) (x : A) (rest : List (Result A E)) → r ≡ Ok x → all_ok (r ∷ rest) ≡ with_one x (all_ok rest)
-all_ok-at_ok r x rest is = ap (λ s. all_ok (s ∷ rest)) is
+all_of-at_ok : {X A : Type 0} (f : X → Result A BindFault) (n : X) (x : A) (rest : List X) → f n ≡ Ok x → all_of f (n ∷ rest) ≡ with_one x (all_of f rest)
+all_of-at_ok f n x rest is = ap (λ s. and_then s (λ y. with_one y (all_of f rest))) is
 
-all_ok-at_err : {A E : Type 0} (r : Result A E) (e : E) (rest : List (Result A E)) → r ≡ Err e → all_ok (r ∷ rest) ≡ Err e
-all_ok-at_err r e rest is = ap (λ s. all_ok (s ∷ rest)) is
+all_of-at_err : {X A : Type 0} (f : X → Result A BindFault) (n : X) (e : BindFault) (rest : List X) → f n ≡ Err e → all_of f (n ∷ rest) ≡ Err e
+all_of-at_err f n e rest is = ap (λ s. and_then s (λ y. with_one y (all_of f rest))) is
 
 -- what a loop that reads the answers of a list one after another keeps
-pub record Resolves {X A E : Type 0} (f : X → Result A E) (xs : List X) (i : ℕ) (list : List A) : Type 0 where
-  pub rest : with_front list (all_ok (map f (drop i xs))) ≡ all_ok (map f xs)
+pub record Resolves {X A : Type 0} (f : X → Result A BindFault) (xs : List X) (i : ℕ) (list : List A) : Type 0 where
+  pub rest : with_front list (all_of f (drop i xs)) ≡ all_of f xs
 
-with_front-none : {A E : Type 0} (r : Result (List A) E) → with_front [] r ≡ r
+with_front-none : {A : Type 0} (r : Result (List A) BindFault) → with_front [] r ≡ r
 with_front-none (Ok ys) = refl
 with_front-none (Err e) = refl
 
-pub resolves_none : {X A E : Type 0} (f : X → Result A E) (xs : List X) → Resolves f xs 0 []
-resolves_none f xs = record { rest = with_front-none (all_ok (map f xs)) }
+pub resolves_none : {X A : Type 0} (f : X → Result A BindFault) (xs : List X) → Resolves f xs 0 []
+resolves_none f xs = record { rest = with_front-none (all_of f xs) }
 
-pub resolves_more : {X A E : Type 0} (f : X → Result A E) (xs : List X) (i : ℕ) (list : List A) (d : X) (x : A)
+pub resolves_more : {X A : Type 0} (f : X → Result A BindFault) (xs : List X) (i : ℕ) (list : List A) (d : X) (x : A)
     → Resolves f xs i list → i < length xs → f (get_or xs i d) ≡ Ok x → Resolves f xs (i + 1) (list ++ x ∷ [])
 resolves_more f xs i list d x so lt is = record {
   rest =
-      sym (with_front-one list x (all_ok (map f (drop (i + 1) xs))))
-      ∙ sym (ap (with_front list) (all_ok-at_ok (f (get_or xs i d)) x (map f (drop (i + 1) xs)) is))
-      ∙ sym (at_drop_more (λ ys. with_front list (all_ok (map f ys))) xs i d lt)
+      sym (with_front-one list x (all_of f (drop (i + 1) xs)))
+      ∙ sym (ap (with_front list) (all_of-at_ok f (get_or xs i d) x (drop (i + 1) xs) is))
+      ∙ sym (at_drop_more (λ ys. with_front list (all_of f ys)) xs i d lt)
       ∙ so.rest;
 }
 
-pub resolves_all : {X A E : Type 0} (f : X → Result A E) (xs : List X) (i : ℕ) (list : List A)
-    → Resolves f xs i list → length xs ≤ i → all_ok (map f xs) ≡ Ok list
+pub resolves_all : {X A : Type 0} (f : X → Result A BindFault) (xs : List X) (i : ℕ) (list : List A)
+    → Resolves f xs i list → length xs ≤ i → all_of f xs ≡ Ok list
 resolves_all f xs i list so le =
-    sym so.rest ∙ at_drop_all (λ ys. with_front list (all_ok (map f ys))) xs i le ∙ ap Ok (append-nil list)
+    sym so.rest ∙ at_drop_all (λ ys. with_front list (all_of f ys)) xs i le ∙ ap Ok (append-nil list)
 
-pub resolves_err : {X A E : Type 0} (f : X → Result A E) (xs : List X) (i : ℕ) (list : List A) (d : X) (e : E)
-    → Resolves f xs i list → i < length xs → f (get_or xs i d) ≡ Err e → all_ok (map f xs) ≡ Err e
+pub resolves_err : {X A : Type 0} (f : X → Result A BindFault) (xs : List X) (i : ℕ) (list : List A) (d : X) (e : BindFault)
+    → Resolves f xs i list → i < length xs → f (get_or xs i d) ≡ Err e → all_of f xs ≡ Err e
 resolves_err f xs i list d e so lt is =
     sym so.rest
-    ∙ at_drop_more (λ ys. with_front list (all_ok (map f ys))) xs i d lt
-    ∙ ap (with_front list) (all_ok-at_err (f (get_or xs i d)) e (map f (drop (i + 1) xs)) is)
+    ∙ at_drop_more (λ ys. with_front list (all_of f ys)) xs i d lt
+    ∙ ap (with_front list) (all_of-at_err f (get_or xs i d) e (drop (i + 1) xs) is)
 
 -- no pair is added
 pub adds_none : (old : List Relation) (rel : ℕ) (pairs : List Pair) → AddsAllGiven old old rel (take 0 pairs)

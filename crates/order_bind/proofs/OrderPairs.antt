@@ -9,7 +9,7 @@ use Rattle.std.proofs.lemmas.List.Sums.{fails_before_first}
 use Rattle.currency_base.specs.declared.error_code.ErrorCode.TheVariants.{UnknownName, UnknownRow}
 use Rattle.currency_base.specs.declared.pair.Pair.{Pair}
 use Rattle.currency_base.specs.declared.row.Row.{Row}
-use Rattle.bind_faults.specs.Faults.{IsDue, all_ok, found_or, refused_at}
+use Rattle.bind_faults.specs.Faults.{IsDue, all_of, and_then, found_or, refused_at}
 use Rattle.partial_orders.specs.Pairs.{AreOfOneEntity}
 use Rattle.spec_model.specs.Spec.{Spec}
 use Rattle.spec_model.specs.declared.relation.Relation.{Relation}
@@ -42,37 +42,41 @@ pub place_within : (names : List (List ℕ)) (name : List ℕ) (place : ℕ) →
 place_within names name place is = (position-Some _ names place [] is).0
 
 -- a list with one more answer in front
-with_one-ok : {A E : Type 0} (x : A) (r : Result (List A) E) (xs : List A) → with_one x r ≡ Ok xs
+with_one-ok : {A : Type 0} (x : A) (r : Result (List A) BindFault) (xs : List A) → with_one x r ≡ Ok xs
     → (ys : List A) × (r ≡ Ok ys) × (xs ≡ x ∷ ys)
 with_one-ok x (Ok ys) xs is = (ys, refl, cc)
 with_one-ok x (Err e) xs is = cc
 
--- a fact of each answer of a list that has only such
-pub each_ok : {X A E : Type 0} (P : A → Type 0) (f : X → Result A E) → ((n : X) (x : A) → f n ≡ Ok x → P x)
-    → (ns : List X) (xs : List A) → all_ok (map f ns) ≡ Ok xs → (k : ℕ) (d : A) → k < length xs → P (get_or xs k d)
-each_ok P f each [] xs is k d lt = let same : [] ≡ xs = cc in absurd (omega (arith, ap length same))
-each_ok {X} {A} {E} P f each (n ∷ ns) xs is k d lt = by (λ ys rest j lt'. each_ok P f each ns ys rest j d lt') (f n) refl is
+-- the first answer and the others of a list that has only such
+first_ok : {X A : Type 0} (f : X → Result A BindFault) (n : X) (ns : List X) (xs : List A) → all_of f (n ∷ ns) ≡ Ok xs
+    → (x : A) × (ys : List A) × (f n ≡ Ok x) × (all_of f ns ≡ Ok ys) × (xs ≡ x ∷ ys)
+first_ok {X} {A} f n ns xs is = by (f n) refl is
   where
-    here : ((ys : List A) → all_ok (map f ns) ≡ Ok ys → (j : ℕ) → j < length ys → P (get_or ys j d))
-        → (x : A) (ys : List A) → P x → all_ok (map f ns) ≡ Ok ys → (j : ℕ) → j < length (x ∷ ys) → P (get_or (x ∷ ys) j d)
+    by : (r : Result A BindFault) → f n ≡ r → and_then r (λ y. with_one y (all_of f ns)) ≡ Ok xs
+        → (x : A) × (ys : List A) × (f n ≡ Ok x) × (all_of f ns ≡ Ok ys) × (xs ≡ x ∷ ys)
+    by (Err e) at now = absurd (cc)
+    by (Ok x) at now = let parts = with_one-ok x (all_of f ns) xs now in (x, parts.0, at, parts.1, parts.2)
+
+-- a fact of each of its answers
+pub each_ok : {X A : Type 0} (P : A → Type 0) (f : X → Result A BindFault) → ((n : X) (x : A) → f n ≡ Ok x → P x)
+    → (ns : List X) (xs : List A) → all_of f ns ≡ Ok xs → (k : ℕ) (d : A) → k < length xs → P (get_or xs k d)
+each_ok P f each [] xs is k d lt = let same : [] ≡ xs = cc in absurd (omega (arith, ap length same))
+each_ok {X} {A} P f each (n ∷ ns) xs is k d lt =
+    let parts = first_ok f n ns xs is in
+    let there : k < length (parts.0 ∷ parts.1) = omega (arith, lt, ap length parts.4) in
+    rw parts.4 (here (λ ys rest j lt'. each_ok P f each ns ys rest j d lt') parts.0 parts.1 (each n parts.0 parts.2) parts.3 k there)
+  where
+    here : ((ys : List A) → all_of f ns ≡ Ok ys → (j : ℕ) → j < length ys → P (get_or ys j d))
+        → (x : A) (ys : List A) → P x → all_of f ns ≡ Ok ys → (j : ℕ) → j < length (x ∷ ys) → P (get_or (x ∷ ys) j d)
     here more x ys px rest zero lt' = px
     here more x ys px rest (suc j) lt' = more ys rest j (omega arith)
 
-    by : ((ys : List A) → all_ok (map f ns) ≡ Ok ys → (j : ℕ) → j < length ys → P (get_or ys j d))
-        → (r : Result A E) → f n ≡ r → all_ok (r ∷ map f ns) ≡ Ok xs → P (get_or xs k d)
-    by more (Err e) at now = absurd (cc)
-    by more (Ok x) at now =
-        let parts = with_one-ok x (all_ok (map f ns)) xs now in
-        let there : k < length (x ∷ parts.0) = omega (arith, ap length parts.2) in
-        rw parts.2 (here more x parts.0 (each n x at) parts.1 k there)
-
 -- there are as many answers
-pub all_ok-length : {A E : Type 0} (rs : List (Result A E)) (xs : List A) → all_ok rs ≡ Ok xs → length xs ≡ length rs
-all_ok-length [] xs is = ap length (let same : xs ≡ [] = cc in same)
-all_ok-length (Err e ∷ rs) xs is = absurd (cc)
-all_ok-length (Ok x ∷ rs) xs is =
-    let parts = with_one-ok x (all_ok rs) xs is in
-    ap length parts.2 ∙ ap suc (all_ok-length rs parts.0 parts.1)
+pub all_of-length : {X A : Type 0} (f : X → Result A BindFault) (ns : List X) (xs : List A) → all_of f ns ≡ Ok xs → length xs ≡ length ns
+all_of-length f [] xs is = ap length (let same : xs ≡ [] = cc in same)
+all_of-length f (n ∷ ns) xs is =
+    let parts = first_ok f n ns xs is in
+    ap length parts.4 ∙ ap suc (all_of-length f ns parts.1 parts.3)
 
 -- a pair of one attribute, of rows of some count
 pub record IsWithin (attr count : ℕ) (p : Pair) : Type 0 where
@@ -120,7 +124,7 @@ one_entity rows p is =
 
 -- the pairs of rows that have names, once each is checked, may be given
 pub all_given : (r : Relation) (named : List NamedPair) (attr : ℕ) (pairs : List Pair) → attr < length r.attrs
-    → all_ok (map (pair_named (map (λ row. row.name) r.rows) attr) named) ≡ Ok pairs
+    → all_of (pair_named (map (λ row. row.name) r.rows) attr) named ≡ Ok pairs
     → position (λ p. not (is_of_one_entity r.rows p)) pairs ≡ None → All (IsGivenPair r) pairs
 all_given r named attr pairs lt is none k d within =
     let rows : List (List ℕ) = map (λ (row : Row). row.name) r.rows in
@@ -164,24 +168,24 @@ attr_fault names r o e same is =
 -- what is due once the attribute is found
 pub attr_found : (names : RelationNames) (r : Relation) (o : OrderingTree) (attr : ℕ) → names ≡ names_of r
     → ◌≡◌ {A = Result ℕ BindFault} (Ok attr) (found_or (place_of names.attrs o.attr.name) (refused_at UnknownName o.attr) Ok)
-    → ordered_pairs r o ≡ checked_pairs r.rows o.pairs (all_ok (map (pair_named names.rows attr) o.pairs))
+    → ordered_pairs r o ≡ checked_pairs r.rows o.pairs (all_of (pair_named names.rows attr) o.pairs)
 unfolding ordered_pairs
 attr_found names r o attr same is =
     let at : place_of (map (λ (a : Attr). a.name) r.attrs) o.attr.name ≡ Some attr =
     found_place _ (refused_at UnknownName o.attr) attr (sym (rw same at is)) in
     ap (λ p. found_or p (refused_at UnknownName o.attr)
-    (λ k. checked_pairs r.rows o.pairs (all_ok (map (pair_named (map (λ (row : Row). row.name) r.rows) k) o.pairs)))) at
-    ∙ ap (λ n. checked_pairs r.rows o.pairs (all_ok (map (pair_named n attr) o.pairs))) (ap (λ (n : RelationNames). n.rows) (sym same))
+    (λ k. checked_pairs r.rows o.pairs (all_of (pair_named (map (λ (row : Row). row.name) r.rows) k) o.pairs))) at
+    ∙ ap (λ n. checked_pairs r.rows o.pairs (all_of (pair_named n attr) o.pairs)) (ap (λ (n : RelationNames). n.rows) (sym same))
 
 -- a name of a row that is not found, or want of memory
 pub row_fault : (names : RelationNames) (r : Relation) (o : OrderingTree) (attr : ℕ) (named : List NamedPair) (e : BindFault)
     → names ≡ names_of r → named ≡ o.pairs
     → ◌≡◌ {A = Result ℕ BindFault} (Ok attr) (found_or (place_of names.attrs o.attr.name) (refused_at UnknownName o.attr) Ok)
-    → IsDue (all_ok (map (pair_named names.rows attr) named)) (Err e) → IsDue (ordered_pairs r o) (Err e)
+    → IsDue (all_of (pair_named names.rows attr) named) (Err e) → IsDue (ordered_pairs r o) (Err e)
 row_fault names r o attr named e same is_named at due =
-    due_through (all_ok (map (pair_named names.rows attr) named)) (ordered_pairs r o) e due
+    due_through (all_of (pair_named names.rows attr) named) (ordered_pairs r o) e due
     (λ is. attr_found names r o attr same at
-    ∙ ap (λ n. checked_pairs r.rows o.pairs (all_ok (map (pair_named names.rows attr) n))) (sym is_named)
+    ∙ ap (λ n. checked_pairs r.rows o.pairs (all_of (pair_named names.rows attr) n)) (sym is_named)
     ∙ ap (checked_pairs r.rows o.pairs) is)
 
 -- the pairs that are read of an ordering are those that are due, and may be given
@@ -190,7 +194,7 @@ pub record IsRead (r : Relation) (o : OrderingTree) (result : Result (List Pair)
   pub given : IfOk result (All (IsGivenPair r))
 
 given_unless : (r : Relation) (named : List NamedPair) (attr : ℕ) (pairs : List Pair) (wrong : Option ℕ) → attr < length r.attrs
-    → all_ok (map (pair_named (map (λ row. row.name) r.rows) attr) named) ≡ Ok pairs
+    → all_of (pair_named (map (λ row. row.name) r.rows) attr) named ≡ Ok pairs
     → position (λ p. not (is_of_one_entity r.rows p)) pairs ≡ wrong → IfOk (unless_wrong named pairs wrong) (All (IsGivenPair r))
 given_unless r named attr pairs None lt is none = all_given r named attr pairs lt is none
 given_unless r named attr pairs (Some wrong) lt is found = tt
@@ -198,14 +202,14 @@ given_unless r named attr pairs (Some wrong) lt is found = tt
 pub pairs_read : (names : RelationNames) (r : Relation) (o : OrderingTree) (attr : ℕ) (named : List NamedPair) (rows : List Row)
     (pairs : List Pair) (result : Result (List Pair) BindFault) → names ≡ names_of r → named ≡ o.pairs → rows ≡ r.rows
     → ◌≡◌ {A = Result ℕ BindFault} (Ok attr) (found_or (place_of names.attrs o.attr.name) (refused_at UnknownName o.attr) Ok)
-    → attr < length names.attrs → all_ok (map (pair_named names.rows attr) named) ≡ Ok pairs
+    → attr < length names.attrs → all_of (pair_named names.rows attr) named ≡ Ok pairs
     → result ≡ checked_pairs rows named (Ok pairs) → IsRead r o result
 pairs_read names r o attr named rows pairs result same is_named is_rows at lt is res =
-    let is' : all_ok (map (pair_named names.rows attr) o.pairs) ≡ Ok pairs = rw (sym is_named) is in
+    let is' : all_of (pair_named names.rows attr) o.pairs ≡ Ok pairs = rw (sym is_named) is in
     let res' : result ≡ checked_pairs r.rows o.pairs (Ok pairs) = res ∙ ap (λ n. checked_pairs rows n (Ok pairs)) is_named ∙ ap (λ w. checked_pairs w o.pairs (Ok pairs)) is_rows in
     let few : attr < length r.attrs = omega (arith, lt, ap (λ (n : RelationNames). length n.attrs) same, length-map r.attrs (λ (a : Attr). a.name)) in
-    let here : all_ok (map (pair_named (map (λ (row : Row). row.name) r.rows) attr) o.pairs) ≡ Ok pairs =
-    ap (λ (n : RelationNames). all_ok (map (pair_named n.rows attr) o.pairs)) (sym same) ∙ is' in
+    let here : all_of (pair_named (map (λ (row : Row). row.name) r.rows) attr) o.pairs ≡ Ok pairs =
+    ap (λ (n : RelationNames). all_of (pair_named n.rows attr) o.pairs) (sym same) ∙ is' in
     record {
       due = due_same (ordered_pairs r o) result (attr_found names r o attr same at ∙ ap (checked_pairs r.rows o.pairs) is' ∙ sym res');
       given = rw res' (given_unless r o.pairs attr pairs _ few here refl);

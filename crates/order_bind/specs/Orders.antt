@@ -11,7 +11,7 @@ use Rattle.spec_model.specs.declared.relation.Relation.{Relation}
 use Rattle.spec_syntax.specs.declared.trees.OrderingTree.{OrderingTree}
 use Rattle.text_grammar.specs.declared.named.Named.{Named}
 use Rattle.text_grammar.specs.declared.named.NamedPair.{NamedPair}
-use Rattle.bind_faults.specs.Faults.{refused_at, found_or, all_ok}
+use Rattle.bind_faults.specs.Faults.{refused_at, found_or, all_of}
 use Rattle.bind_faults.specs.declared.fault.BindFault.{BindFault}
 use Rattle.bind_faults.specs.declared.fault.BindFault.TheVariants.{Refused, NoMemory}
 
@@ -59,7 +59,7 @@ checked_pairs rows named (Ok pairs) = unless_wrong named pairs (position (λ p. 
 -- refused, in this order, each at the first name at fault
 unfoldable pub ordered_pairs : Relation → OrderingTree → Result (List Pair) BindFault
 ordered_pairs r o = found_or (place_of (map (λ a. a.name) r.attrs) o.attr.name) (refused_at UnknownName o.attr)
-    (λ attr. checked_pairs r.rows o.pairs (all_ok (map (pair_named (map (λ row. row.name) r.rows) attr) o.pairs)))
+    (λ attr. checked_pairs r.rows o.pairs (all_of (pair_named (map (λ row. row.name) r.rows) attr) o.pairs))
 
 -- the relation with more given pairs
 abbrev pub with_all_given : Relation → List Pair → Relation

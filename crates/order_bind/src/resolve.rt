@@ -1,5 +1,5 @@
 ghost use Rattle.std.specs.Prelude.{◌≡◌, ◌<◌, ◌^◌, length, map, not, position, Ok};
-ghost use Rattle.bind_faults.specs.Faults.{IsDue, all_ok};
+ghost use Rattle.bind_faults.specs.Faults.{IsDue, all_of};
 ghost use Rattle.order_bind.specs.Orders.{pair_named, is_of_one_entity, checked_pairs};
 
 use bind_faults::{BindFault, find};
@@ -30,7 +30,7 @@ pub fn resolve(
     pairs: &[NamedPair],
 ) -> Result<PairList, BindFault>
     requires { length rows.now < 2 ^ 32 }
-    ensures { IsDue (all_ok (map (pair_named rows.now attr.0) pairs.now)) result }
+    ensures { IsDue (all_of (pair_named rows.now attr.0) pairs.now) result }
 {
     let mut list = PairList::new(alloc);
     for pair in pairs {

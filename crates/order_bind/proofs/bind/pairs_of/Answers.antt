@@ -1,8 +1,6 @@
 -- An unknown attribute, an unknown row and a wrong pair are the faults that are due, in this order.
-use Rattle.std.proofs.Common.{◌∙◌}
 use Rattle.std.proofs.lemmas.Result.{err_from_is_err_and}
-use Rattle.std.proofs.lemmas.List.{length-map}
-use Rattle.order_bind.proofs.OrderPairs.{IsRead, attr_fault, row_fault, due_same, pairs_read, all_ok-length}
+use Rattle.order_bind.proofs.OrderPairs.{IsRead, attr_fault, row_fault, due_same, pairs_read, all_of-length}
 use Rattle.order_bind.proofs.bind.pairs_of.Goals as goal
 
 pub returns-in_err-attr-clause-due : goal.returns-in_err-attr-clause-due
@@ -17,7 +15,7 @@ returns-in_err-pairs-clause-due c =
     c.in_err-pairs.field-0.0 c.requires.names c.as_slice-named.ensures c.in_ok-attr.ensures.value c.in_err-pairs.ensures)
 
 pub checked-requires : goal.checked-requires
-checked-requires c = all_ok-length _ c.in_ok-pairs.pairs c.in_ok-pairs.ensures ∙ length-map c.as_slice-named.result.now _
+checked-requires c = all_of-length _ c.as_slice-named.result.now c.in_ok-pairs.pairs c.in_ok-pairs.ensures
 
 read : (c : goal.After-checked) → IsRead c.args.relation.now c.args.ordering.now c.checked.result
 read c =
