@@ -1,0 +1,4 @@
+mod Chain
+mod Tally
+mod Bounds
+pub mod GivenPairs
