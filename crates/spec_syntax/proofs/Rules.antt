@@ -7,20 +7,23 @@ use Rattle.text_grammar.specs.Grammar.{Language, ◌⋅◌, Says, IsWord, IsSymb
 use Rattle.text_grammar.specs.Reading.{one, both, after}
 use Rattle.text_grammar.specs.Laws.{IsReader, IsPlain, Tells, AtFirst, AfterItems}
 use Rattle.text_grammar.specs.declared.named.Named.{Named}
-use Rattle.text_grammar.proofs.Readers.{always, Begins, Ended, FirstIs, Image, first_then, reads_one, reads_two, reads_then, reads_made, reads_mapped, reads_same}
+use Rattle.text_grammar.proofs.Readers.{always, Begins, Ended, FirstIs, Image, begins_image, first_then, reads_one, reads_two, reads_then, reads_made, reads_mapped, reads_same}
 use Rattle.text_grammar.proofs.Choices.{Either, maybe_ends, reads_maybe, reads_choose, reads_only}
 use Rattle.text_grammar.proofs.ListReaders.{unless, reads_many_plain}
 use Rattle.text_grammar.proofs.FixedTokens.{a_fixed, a_fixed_is, apart, reads_name, reads_string, reads_symbol, after_word, after_symbol, before_symbol, listed_symbol, begins_fixed}
 use Rattle.text_grammar.proofs.Tellings.{plain_one, plain_passing, plain_both, plain_after, plain_before, plain_mapped, plain_maybe, plain_listed, tells_only, tells_choose, tells_before, tells_mapped, tells_many}
+use Rattle.rule_syntax.specs.Grammar.{SpellsRule}
+use Rattle.rule_syntax.specs.declared.trees.RuleTree.{RuleTree}
+use Rattle.rule_syntax.proofs.Rules.{begins_rule, plain_rule, reads_rule}
 use Rattle.currency_base.specs.declared.value.Kind.TheVariants.{Text, Int}
 use Rattle.spec_syntax.specs.declared.trees.AttrTree.{AttrTree}
 use Rattle.spec_syntax.specs.declared.trees.OrderingTree.{OrderingTree}
 use Rattle.spec_syntax.specs.declared.trees.StatementTree.{StatementTree}
-use Rattle.spec_syntax.specs.declared.trees.StatementTree.TheVariants.{Relation, Order}
+use Rattle.spec_syntax.specs.declared.trees.StatementTree.TheVariants.{Relation, Order, Rule}
 use Rattle.spec_syntax.specs.declared.trees.QuestionTree.{QuestionTree}
 use Rattle.spec_syntax.specs.declared.trees.QuestionTree.TheVariants.{Consistent}
 use Rattle.spec_syntax.specs.Grammar
-use Rattle.spec_syntax.specs.Reading.{attr_at, pair_at, ordering_at, row_at, attrs_at, relation_at, order_at, statement_at, ended_statement_at, spec_at, question_at}
+use Rattle.spec_syntax.specs.Reading.{attr_at, pair_at, ordering_at, row_at, attrs_at, relation_at, order_at, constraint_at, statement_at, ended_statement_at, spec_at, question_at}
 
 -- ---- attributes
 
@@ -51,9 +54,6 @@ reads_ordering =
     (λ a t. refl) (λ x tokens h. h) (λ o tokens h. record { tree = (o.relation, (o.attr, o.pairs)); is = refl; spelled = h })
 
 -- ---- statements
-
-begins_image : {A B : Type 0} (f : A → B) (P : A → List Lexeme → Type 0) (test : Lexeme → Bool) (b : Bool) → Begins test b P → Begins test b (Image f P)
-begins_image f P test b begins tree tokens h = begins h.tree tokens h.spelled
 
 abbrev Row : Option Named → Language
 Row row = Maybe (λ column. IsWord (codes "row") ⋅ SpellsName column) row
@@ -90,6 +90,7 @@ SpellsRelation x =
 abbrev ends_statement : StatementTree → Lexeme → Bool
 ends_statement (Relation name document row entity attrs) t = true
 ends_statement (Order o) t = not (is_symbol (codes ",") t)
+ends_statement (Rule r) t = true
 
 reads_relation : IsReader (Image relation_of SpellsRelation) ends_statement relation_at
 unfolding relation_at
@@ -116,6 +117,10 @@ reads_order : IsReader (Image Order SpellsOrder) ends_statement order_at
 unfolding order_at
 reads_order = reads_mapped (after_word (codes "order") reads_ordering) Order ends_statement (λ o t. refl)
 
+reads_constraint : IsReader (Image Rule SpellsRule) ends_statement constraint_at
+unfolding constraint_at
+reads_constraint = reads_mapped reads_rule Rule ends_statement (λ r t. refl)
+
 begins_relation : (test : Lexeme → Bool) (b : Bool) → ((t : Lexeme) → is_word (codes "relation") t ≡ true → test t ≡ b) → Begins test b (Image relation_of SpellsRelation)
 begins_relation test b goes = begins_image relation_of SpellsRelation test b
     (begins_fixed
@@ -125,26 +130,44 @@ begins_relation test b goes = begins_image relation_of SpellsRelation test b
 begins_order : (test : Lexeme → Bool) (b : Bool) → ((t : Lexeme) → is_word (codes "order") t ≡ true → test t ≡ b) → Begins test b (Image Order SpellsOrder)
 begins_order test b goes = begins_image Order SpellsOrder test b (begins_fixed Grammar.SpellsOrdering Word (codes "order") test b goes)
 
-statement_spelled : (s : StatementTree) (tokens : List Lexeme) → Either (Image relation_of SpellsRelation) (Image Order SpellsOrder) s tokens → Grammar.SpellsStatement s tokens
-statement_spelled s tokens (inl h) = subst (λ (s : StatementTree). Grammar.SpellsStatement s tokens) h.is h.spelled
-statement_spelled s tokens (inr h) = subst (λ (s : StatementTree). Grammar.SpellsStatement s tokens) h.is h.spelled
+begins_constraint : (test : Lexeme → Bool) (b : Bool) → ((t : Lexeme) → is_word (codes "rule") t ≡ true → test t ≡ b) → Begins test b (Image Rule SpellsRule)
+begins_constraint test b goes = begins_image Rule SpellsRule test b (begins_rule test b goes)
 
-spelled_statement : (s : StatementTree) (tokens : List Lexeme) → Grammar.SpellsStatement s tokens → Either (Image relation_of SpellsRelation) (Image Order SpellsOrder) s tokens
+-- statements other than relations
+abbrev OrderOrRule : StatementTree → Language
+OrderOrRule = Either (Image Order SpellsOrder) (Image Rule SpellsRule)
+
+begins_order_or_rule : (test : Lexeme → Bool) (b : Bool)
+    → ((t : Lexeme) → is_word (codes "order") t ≡ true → test t ≡ b) → ((t : Lexeme) → is_word (codes "rule") t ≡ true → test t ≡ b) → Begins test b OrderOrRule
+begins_order_or_rule test b goes goes' s tokens (inl h) = begins_order test b goes s tokens h
+begins_order_or_rule test b goes goes' s tokens (inr h) = begins_constraint test b goes' s tokens h
+
+statement_spelled : (s : StatementTree) (tokens : List Lexeme) → Either (Image relation_of SpellsRelation) OrderOrRule s tokens → Grammar.SpellsStatement s tokens
+statement_spelled s tokens (inl h) = subst (λ (s : StatementTree). Grammar.SpellsStatement s tokens) h.is h.spelled
+statement_spelled s tokens (inr (inl h)) = subst (λ (s : StatementTree). Grammar.SpellsStatement s tokens) h.is h.spelled
+statement_spelled s tokens (inr (inr h)) = subst (λ (s : StatementTree). Grammar.SpellsStatement s tokens) h.is h.spelled
+
+spelled_statement : (s : StatementTree) (tokens : List Lexeme) → Grammar.SpellsStatement s tokens → Either (Image relation_of SpellsRelation) OrderOrRule s tokens
 spelled_statement (Relation name document row entity attrs) tokens h = inl (record { tree = (name, (document, (row, (entity, attrs)))); is = refl; spelled = h })
-spelled_statement (Order o) tokens h = inr (record { tree = o; is = refl; spelled = h })
+spelled_statement (Order o) tokens h = inr (inl (record { tree = o; is = refl; spelled = h }))
+spelled_statement (Rule r) tokens h = inr (inr (record { tree = r; is = refl; spelled = h }))
 
 pub reads_statement : IsReader Grammar.SpellsStatement ends_statement statement_at
 unfolding statement_at
 reads_statement = reads_same
     (reads_choose reads_relation
-    (reads_only reads_order (is_word (codes "order")) Grammar.is_unbuilt_statement (begins_order (is_word (codes "order")) true (λ t e. e)))
+    (reads_choose reads_order
+    (reads_only reads_constraint (is_word (codes "rule")) Grammar.is_unbuilt_statement (begins_constraint (is_word (codes "rule")) true (λ t e. e)))
+    (is_word (codes "order")) (begins_order (is_word (codes "order")) true (λ t e. e))
+    (begins_constraint (is_word (codes "order")) false (apart Word (codes "rule") Word (codes "order") refl)))
     (is_word (codes "relation")) (begins_relation (is_word (codes "relation")) true (λ t e. e))
-    (begins_order (is_word (codes "relation")) false (apart Word (codes "order") Word (codes "relation") refl)))
+    (begins_order_or_rule (is_word (codes "relation")) false (apart Word (codes "order") Word (codes "relation") refl) (apart Word (codes "rule") Word (codes "relation") refl)))
     statement_spelled spelled_statement
 
 ends_at_semicolon : Ended ends_statement (is_symbol (codes ";"))
 ends_at_semicolon (Relation name document row entity attrs) t e = refl
 ends_at_semicolon (Order o) t e = ap not (apart Symbol (codes ";") Symbol (codes ",") refl t e)
+ends_at_semicolon (Rule r) t e = refl
 
 pub reads_ended_statement : IsReader Grammar.SpellsEndedStatement always ended_statement_at
 unfolding ended_statement_at
@@ -158,7 +181,7 @@ begins_ended_statement s tokens h = first_then (λ t. true) true (statement_begi
     statement_begins : (s : StatementTree) (front : List Lexeme) → Grammar.SpellsStatement s front → FirstIs (λ t. true) true front
     statement_begins s front h = elim (spelled_statement s front h) [
       | inl h ↦ begins_relation (λ t. true) true (λ t e. refl) s front h
-      | inr h ↦ begins_order (λ t. true) true (λ t e. refl) s front h
+      | inr h ↦ begins_order_or_rule (λ t. true) true (λ t e. refl) (λ t e. refl) s front h
     ]
 
 pub reads_spec : IsReader Grammar.SpellsSpec (unless (λ t. true)) spec_at
@@ -193,10 +216,14 @@ one_of_three true b c d e f g h = f refl
 one_of_three false true c d e f g h = g refl
 one_of_three false false c d e f g h = h e
 
+one_of_two : (a b c : Bool) → a || b ≡ true → (a ≡ true → c ≡ false) → (b ≡ true → c ≡ false) → c ≡ false
+one_of_two true b c e f g = f refl
+one_of_two false b c e f g = g e
+
 unbuilt_statement_apart : (text : List ℕ) (t : Lexeme)
-    → (is_word (codes "orders") t ≡ true → is_word text t ≡ false) → (is_word (codes "rule") t ≡ true → is_word text t ≡ false) → (is_word (codes "copy") t ≡ true → is_word text t ≡ false)
+    → (is_word (codes "orders") t ≡ true → is_word text t ≡ false) → (is_word (codes "copy") t ≡ true → is_word text t ≡ false)
     → Grammar.is_unbuilt_statement t ≡ true → is_word text t ≡ false
-unbuilt_statement_apart text t f g h e = one_of_three (is_word (codes "orders") t) (is_word (codes "rule") t) (is_word (codes "copy") t) (is_word text t) e f g h
+unbuilt_statement_apart text t f g e = one_of_two (is_word (codes "orders") t) (is_word (codes "copy") t) (is_word text t) e f g
 
 plain_attr : IsPlain attr_at
 unfolding attr_at
@@ -229,14 +256,18 @@ plain_order : IsPlain order_at
 unfolding order_at
 plain_order = plain_mapped Order (plain_after (is_word (codes "order")) plain_ordering)
 
+plain_constraint : IsPlain constraint_at
+unfolding constraint_at
+plain_constraint = plain_mapped Rule plain_rule
+
 tells_statement : Tells (AtFirst Grammar.is_unbuilt_statement) statement_at
 unfolding statement_at
 tells_statement = tells_choose (is_word (codes "relation")) Grammar.is_unbuilt_statement plain_relation
-    (tells_only (is_word (codes "order")) Grammar.is_unbuilt_statement plain_order
-    (λ t. unbuilt_statement_apart (codes "order") t (apart Word (codes "orders") Word (codes "order") refl t)
-    (apart Word (codes "rule") Word (codes "order") refl t) (apart Word (codes "copy") Word (codes "order") refl t)))
-    (λ t. unbuilt_statement_apart (codes "relation") t (apart Word (codes "orders") Word (codes "relation") refl t)
-    (apart Word (codes "rule") Word (codes "relation") refl t) (apart Word (codes "copy") Word (codes "relation") refl t))
+    (tells_choose (is_word (codes "order")) Grammar.is_unbuilt_statement plain_order
+    (tells_only (is_word (codes "rule")) Grammar.is_unbuilt_statement plain_constraint
+    (λ t. unbuilt_statement_apart (codes "rule") t (apart Word (codes "orders") Word (codes "rule") refl t) (apart Word (codes "copy") Word (codes "rule") refl t)))
+    (λ t. unbuilt_statement_apart (codes "order") t (apart Word (codes "orders") Word (codes "order") refl t) (apart Word (codes "copy") Word (codes "order") refl t)))
+    (λ t. unbuilt_statement_apart (codes "relation") t (apart Word (codes "orders") Word (codes "relation") refl t) (apart Word (codes "copy") Word (codes "relation") refl t))
 
 tells_ended_statement : Tells (AtFirst Grammar.is_unbuilt_statement) ended_statement_at
 unfolding ended_statement_at

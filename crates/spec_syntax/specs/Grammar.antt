@@ -4,12 +4,13 @@ use Rattle.text_tokens.specs.Lexeme.{Lexeme}
 use Rattle.text_grammar.specs.Words.{is_word}
 use Rattle.text_grammar.specs.Grammar.{Language, ◌⋅◌, Says, IsWord, IsSymbol, SpellsName, SpellsString, Maybe, Many, Listed}
 use Rattle.text_grammar.specs.declared.named.NamedPair.{NamedPair}
+use Rattle.rule_syntax.specs.Grammar.{SpellsRule}
 use Rattle.currency_base.specs.declared.value.Kind.{Kind}
 use Rattle.currency_base.specs.declared.value.Kind.TheVariants.{Text, Int}
 use Rattle.spec_syntax.specs.declared.trees.AttrTree.{AttrTree}
 use Rattle.spec_syntax.specs.declared.trees.OrderingTree.{OrderingTree}
 use Rattle.spec_syntax.specs.declared.trees.StatementTree.{StatementTree}
-use Rattle.spec_syntax.specs.declared.trees.StatementTree.TheVariants.{Relation, Order}
+use Rattle.spec_syntax.specs.declared.trees.StatementTree.TheVariants.{Relation, Order, Rule}
 use Rattle.spec_syntax.specs.declared.trees.SpecTree.{SpecTree}
 use Rattle.spec_syntax.specs.declared.trees.QuestionTree.{QuestionTree}
 use Rattle.spec_syntax.specs.declared.trees.QuestionTree.TheVariants.{Consistent}
@@ -35,6 +36,7 @@ SpellsOrdering o =
 
 -- statement = "relation" name "from" string [ "row" name ] "entity" name "(" attr { "," attr } ")"
 --           | "order" ordering
+--           | rule
 abbrev pub SpellsStatement : StatementTree → Language
 SpellsStatement (Relation name document row entity attrs) =
     IsWord (codes "relation") ⋅ SpellsName name ⋅ IsWord (codes "from") ⋅ SpellsString document
@@ -42,6 +44,7 @@ SpellsStatement (Relation name document row entity attrs) =
     ⋅ IsWord (codes "entity") ⋅ SpellsName entity
     ⋅ IsSymbol (codes "(") ⋅ Listed (IsSymbol (codes ",")) SpellsAttr attrs ⋅ IsSymbol (codes ")")
 SpellsStatement (Order ordering) = IsWord (codes "order") ⋅ SpellsOrdering ordering
+SpellsStatement (Rule rule) = SpellsRule rule
 
 -- statement ";"
 abbrev pub SpellsEndedStatement : StatementTree → Language
@@ -51,9 +54,9 @@ SpellsEndedStatement s = SpellsStatement s ⋅ IsSymbol (codes ";")
 abbrev pub SpellsSpec : SpecTree → Language
 SpellsSpec spec = Many SpellsEndedStatement spec.statements
 
--- the words of the statements that aren't built: orders, rules and copies
+-- the words of the statements that aren't built: orders and copies
 abbrev pub is_unbuilt_statement : Lexeme → Bool
-is_unbuilt_statement t = is_word (codes "orders") t || is_word (codes "rule") t || is_word (codes "copy") t
+is_unbuilt_statement t = is_word (codes "orders") t || is_word (codes "copy") t
 
 -- ---- questions
 

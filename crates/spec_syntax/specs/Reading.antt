@@ -4,10 +4,11 @@ use Rattle.text_grammar.specs.Words.{is_word, is_symbol, named, quoted}
 use Rattle.text_grammar.specs.Reading.{Parser, one, passing, both, after, before, mapped, maybe, choose, only, many, listed}
 use Rattle.text_grammar.specs.declared.named.Named.{Named}
 use Rattle.text_grammar.specs.declared.named.NamedPair.{NamedPair}
+use Rattle.rule_syntax.specs.Reading.{rule_at}
 use Rattle.spec_syntax.specs.declared.trees.AttrTree.{AttrTree}
 use Rattle.spec_syntax.specs.declared.trees.OrderingTree.{OrderingTree}
 use Rattle.spec_syntax.specs.declared.trees.StatementTree.{StatementTree}
-use Rattle.spec_syntax.specs.declared.trees.StatementTree.TheVariants.{Relation, Order}
+use Rattle.spec_syntax.specs.declared.trees.StatementTree.TheVariants.{Relation, Order, Rule}
 use Rattle.spec_syntax.specs.declared.trees.SpecTree.{SpecTree}
 use Rattle.spec_syntax.specs.declared.trees.QuestionTree.{QuestionTree}
 use Rattle.spec_syntax.specs.declared.trees.QuestionTree.TheVariants.{Consistent}
@@ -42,8 +43,14 @@ relation_at =
 unfoldable pub order_at : Parser StatementTree
 order_at = mapped (λ o. Order o) (after (is_word (codes "order")) ordering_at)
 
+unfoldable pub constraint_at : Parser StatementTree
+constraint_at = mapped (λ r. Rule r) rule_at
+
 unfoldable pub statement_at : Parser StatementTree
-statement_at = choose (is_word (codes "relation")) relation_at (only (is_word (codes "order")) is_unbuilt_statement order_at)
+statement_at =
+    choose (is_word (codes "relation")) relation_at
+    (choose (is_word (codes "order")) order_at
+    (only (is_word (codes "rule")) is_unbuilt_statement constraint_at))
 
 unfoldable pub ended_statement_at : Parser StatementTree
 ended_statement_at = before statement_at (is_symbol (codes ";"))

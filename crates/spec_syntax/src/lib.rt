@@ -14,7 +14,10 @@ mod trees;
 
 pub use laws::{one_question, one_specification};
 pub use read::{read_question, read_spec};
-pub use text_grammar::{Named, NamedPair, NamedPairList};
+pub use rule_syntax::{
+    ConclusionTree, OrderAtomTree, PredicateTree, PredicateTreeList, RuleTree, TermTree,
+};
+pub use text_grammar::{Const, Named, NamedList, NamedPair, NamedPairList};
 pub use text_tokens::{TextFault, Token, TokenKind, TokenList, tokens};
 pub use trees::{
     AttrTree, AttrTreeList, OrderingTree, QuestionTree, SpecTree, StatementTree, StatementTreeList,

@@ -5,6 +5,7 @@ ghost use Rattle.spec_syntax.specs.Grammar;
 use crate::ordering::OrderingRule;
 use crate::relation::RelationRule;
 use crate::{SpecTree, StatementTree};
+use rule_syntax::RuleRule;
 use std::alloc::Global;
 use text_grammar::{Refusal, Repeats, Rule, is_fixed, many, symbol, word};
 use text_tokens::{Token, TokenKind};
@@ -80,6 +81,8 @@ impl Rule for StatementRule {
                     RelationRule::read(alloc, tokens)
                 } else if is_fixed(TokenKind::Word, b"order", first) {
                     OrderRule::read(alloc, tokens)
+                } else if is_fixed(TokenKind::Word, b"rule", first) {
+                    ConstraintRule::read(alloc, tokens)
                 } else if is_unbuilt(first) {
                     Err(Refusal::Unbuilt(tokens))
                 } else {
@@ -94,9 +97,7 @@ impl Rule for StatementRule {
 fn is_unbuilt(token: &Token) -> bool
     ensures { result ≡ Grammar.is_unbuilt_statement (lexeme_of token.now) }
 {
-    is_fixed(TokenKind::Word, b"orders", token)
-        || is_fixed(TokenKind::Word, b"rule", token)
-        || is_fixed(TokenKind::Word, b"copy", token)
+    is_fixed(TokenKind::Word, b"orders", token) || is_fixed(TokenKind::Word, b"copy", token)
 }
 
 /// Given pairs of rows, from the word `order` on.
@@ -117,5 +118,25 @@ impl Rule for OrderRule {
         let rest = word(b"order", tokens)?;
         let (ordering, rest) = OrderingRule::read(alloc, rest)?;
         Ok((StatementTree::Order(ordering), rest))
+    }
+}
+
+/// A denial constraint, from the word `rule` on.
+enum ConstraintRule {}
+
+impl Rule for ConstraintRule {
+    ghost use Rattle.spec_syntax.specs.Reading.{constraint_at};
+
+    type Tree = StatementTree;
+
+    ghost reader = { constraint_at };
+
+    #[tactic(auto, unfolding(crate::specs::Reading::constraint_at))]
+    fn read<'a>(
+        alloc: Global,
+        tokens: &'a [Token<'a>],
+    ) -> Result<(StatementTree, &'a [Token<'a>]), Refusal<'a>> {
+        let (rule, rest) = RuleRule::read(alloc, tokens)?;
+        Ok((StatementTree::Rule(rule), rest))
     }
 }

@@ -1,4 +1,5 @@
 use currency_base::{ItemList, Kind};
+use rule_syntax::RuleTree;
 use text_grammar::{Named, NamedPairList};
 
 /// A specification: its statements, in the order of the text.
@@ -21,6 +22,8 @@ pub enum StatementTree {
     },
     /// Given pairs of rows.
     Order(OrderingTree),
+    /// A denial constraint.
+    Rule(RuleTree),
 }
 
 /// Statements, in the order of the text.

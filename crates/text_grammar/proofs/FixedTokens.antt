@@ -1,14 +1,15 @@
--- Fixed words and symbols, names and strings.
-use Rattle.std.proofs.Common.{◌≡◌, ℕ, Bool, true, false, ◌&&◌, cond, List, [], ◌∷◌, refl, ap, ◌∙◌, Option, Some, None, option_map}
-use Rattle.std.specs.Str.{bytes_eq, is_utf8}
-use Rattle.std.proofs.lemmas.Str.{IsUtf8-nil, is_utf8-from_IsUtf8}
+-- Fixed words and symbols, names, strings, variables and constants.
+use Rattle.std.proofs.Common.{◌≡◌, ℕ, zero, suc, arith, Bool, true, false, ◌&&◌, cond, List, [], ◌∷◌, refl, ap, ◌∙◌, Option, Some, None, option_map}
+use Rattle.std.specs.Str.{IsAscii, bytes_eq, is_utf8}
+use Rattle.std.proofs.lemmas.Str.{IsUtf8-from_ascii, IsUtf8-nil, is_utf8-from_IsUtf8}
 use Rattle.std.proofs.lemmas.Slice.Eq.{bytes_eq-Decides}
 use Rattle.text_tokens.specs.Lexeme.{Lexeme}
 use Rattle.text_tokens.specs.declared.token.TokenKind.{TokenKind}
 use Rattle.text_tokens.specs.declared.token.TokenKind.TheVariants.{Word, Negative, Text, Symbol, Fault}
-use Rattle.text_grammar.specs.Words.{same_kind, is_fixed, is_word, is_symbol, named, quoted, on_line}
+use Rattle.text_grammar.specs.Words.{same_kind, is_fixed, is_word, is_symbol, named, quoted, variable, constant, on_line, value_on_line, text_value}
+use Rattle.text_grammar.specs.declared.named.Const.{Const}
 use Rattle.text_grammar.specs.declared.named.Named.{Named}
-use Rattle.text_grammar.specs.Grammar.{◌⋅◌, Listed, Passes, IsWord, IsSymbol, SpellsName, SpellsString}
+use Rattle.text_grammar.specs.Grammar.{◌⋅◌, Listed, Passes, Says, IsWord, IsSymbol, SpellsName, SpellsString}
 use Rattle.text_grammar.specs.Reading.{Parser, one, passing, after, before, listed}
 use Rattle.text_grammar.specs.Laws.{IsReader}
 use Rattle.text_grammar.proofs.Readers.{always, Begins, Ended, first_then, first_passes, reads_one, reads_passing, reads_after, reads_before}
@@ -122,3 +123,24 @@ reads_name = reads_one named empty_string (record { name = []; line = 1 }) said
 
 pub reads_string : IsReader SpellsString always (one quoted)
 reads_string = reads_one quoted empty_string (record { name = []; line = 1 }) said
+
+-- ---- variables and constants
+
+ascii_s : IsAscii (115 ∷ [])
+ascii_s zero = omega arith
+ascii_s (suc i) = omega arith
+
+letter_s : is_utf8 (115 ∷ []) ≡ true
+letter_s = is_utf8-from_IsUtf8 (115 ∷ []) (IsUtf8-from_ascii (115 ∷ []) ascii_s)
+
+-- the word `s`, which is a variable
+abbrev word_s : Lexeme
+word_s = record { kind = Word; text = 115 ∷ []; start = 0; line = 1 }
+
+pub reads_variable : IsReader (Says variable) always (one variable)
+reads_variable = reads_one variable word_s (record { name = 115 ∷ []; line = 1 })
+    (ap (λ (b : Bool). option_map (on_line 1) (cond b (Some (115 ∷ [])) None)) letter_s)
+
+pub reads_constant : IsReader (Says constant) always (one constant)
+reads_constant = reads_one constant empty_string (record { value = text_value []; line = 1 })
+    (ap (λ (b : Bool). option_map (value_on_line 1) (option_map text_value (cond b (Some []) None))) no_bytes)

@@ -9,3 +9,4 @@ pub mod Loops
 pub mod OneList
 pub mod TextLaws
 pub mod FixedTokens
+pub mod VariableTokens

@@ -92,7 +92,7 @@ reads_many {A} {P} {stop} {p} r test begins goes = record {
     j : Joins stop (Many P) (ends stop test) (λ (x : A × List A). ends stop test (x.0 ∷ x.1))
     j = joins_many P stop test begins goes
 
-    follows : Follows stop (Many P)
+    follows : Follows stop (λ (a : A). Many P)
     follows a [] tokens h = subst (Stopped (stop a)) (sym h) tt
     follows a (x ∷ xs) tokens h = let f = first_of_many {P = P} test begins x xs tokens h in subst (Stopped (stop a)) (sym f.is) (goes a f.token f.answers)
 
@@ -165,8 +165,8 @@ reads_many {A} {P} {stop} {p} r test begins goes = record {
     refused (suc k) [] s e = absurd (let k : ◌≡◌ {A = Outcome (List A)} (Ok ([], [])) (Err s) = e in cc)
     refused (suc k) (t ∷ ts) s e = elim (chosen (test t) (and_then (p (t ∷ ts)) (λ x rest. prepend (x ∷ []) (many_within k test p rest))) (Ok ([], t ∷ ts)) (Err s) e) [
       | inl c ↦ (elim (Outcomes.then_err (p (t ∷ ts)) (λ x rest. prepend (x ∷ []) (many_within k test p rest)) s c.1) [
-        | inl f ↦ halts (t ∷ ts) s.left (halts_in_first r (Many P) follows (record { more = []; tree = []; spelled = refl }) (t ∷ ts) s f)
-        | inr w ↦ halts (t ∷ ts) s.left (halts_in_second r (Many P) follows (t ∷ ts) w.tree w.mid w.was s.left
+        | inl f ↦ halts (t ∷ ts) s.left (halts_in_first r (λ a. Many P) follows (λ a. record { more = []; tree = []; spelled = refl }) (t ∷ ts) s f)
+        | inr w ↦ halts (t ∷ ts) s.left (halts_in_second r (λ a. Many P) follows (t ∷ ts) w.tree w.mid w.was s.left
             (refused k w.mid s (Outcomes.changed_err (λ ys. (w.tree ∷ []) ++ ys) (many_within k test p w.mid) s w.next)))
       ])
       | inr c ↦ absurd (let k : ◌≡◌ {A = Outcome (List A)} (Ok ([], t ∷ ts)) (Err s) = c.1 in cc)

@@ -2,7 +2,7 @@
 use Rattle.std.proofs.Common.{◌≡◌, Bool, true, false, cond, List, [], ◌∷◌, ◌++◌, inl, inr, refl, sym, ap, subst, ◌∙◌, append_assoc, Option, Some, None, Ok, Err}
 use Rattle.text_tokens.specs.Lexeme.{Lexeme}
 use Rattle.text_grammar.specs.Grammar.{Then, ◌⋅◌, Passes, Says, CanGoOn}
-use Rattle.text_grammar.specs.Reading.{Stop, Outcome, Parser, refuse, answer, one, passing, both, after, before, mapped, and_then, changed}
+use Rattle.text_grammar.specs.Reading.{Stop, Outcome, Parser, refuse, answer, one, passing, both, continued, after, before, mapped, and_then, changed}
 use Rattle.text_grammar.specs.Laws.{Stopped, Reads, HaltsAt, IsReader}
 use Rattle.text_grammar.proofs.Lists.{overlaps, append_empty, one_more}
 use Rattle.text_grammar.proofs.Outcomes
@@ -138,28 +138,31 @@ reads_passing test t e = record {
 
 -- ---- one reader and then another
 
--- what the second grammar spells, and what ends it, ends the first
-abbrev pub Follows : {A B : Type 0} → (A → Lexeme → Bool) → (B → List Lexeme → Type 0) → Type 0
-Follows {A} {B} stop Q = (a : A) (b : B) (tokens : List Lexeme) → Q b tokens → Stopped (stop a) tokens
+-- what the second grammar spells, which may hang on the first tree, and what ends it, ends the first
+abbrev pub Follows : {A B : Type 0} → (A → Lexeme → Bool) → (A → B → List Lexeme → Type 0) → Type 0
+Follows {A} {B} stop Q = (a : A) (b : B) (tokens : List Lexeme) → Q a b tokens → Stopped (stop a) tokens
 
 -- the first of two readers refuses
 pub halts_in_first : {A B : Type 0} {P : A → List Lexeme → Type 0} {stop : A → Lexeme → Bool} {p : Parser A} → IsReader P stop p
-    → (Q : B → List Lexeme → Type 0) → Follows stop Q → CanGoOn Q [] → (tokens : List Lexeme) (s : Stop) → p tokens ≡ Err s
-    → HaltsAt (λ (x : A × B). P x.0 ⋅ Q x.1) tokens s.left
+    → (Q : A → B → List Lexeme → Type 0) → Follows stop Q → ((a : A) → CanGoOn (Q a) []) → (tokens : List Lexeme) (s : Stop) → p tokens ≡ Err s
+    → HaltsAt (λ (x : A × B). P x.0 ⋅ Q x.0 x.1) tokens s.left
 halts_in_first {A} {B} {P} {stop} {p} r Q follows some tokens s e = record { front = h.front; split = h.split; before = begins; here = here }
   where
     h : HaltsAt P tokens s.left
     h = r.refused tokens s e
 
-    begins : CanGoOn (λ (x : A × B). P x.0 ⋅ Q x.1) h.front
+    begins : CanGoOn (λ (x : A × B). P x.0 ⋅ Q x.0 x.1) h.front
     begins = record {
-      more = h.before.more ++ some.more;
-      tree = (h.before.tree, some.tree);
-      spelled = record { front = h.front ++ h.before.more; rest = some.more; split = sym (append_assoc h.front h.before.more some.more); first = h.before.spelled; second = some.spelled };
+      more = h.before.more ++ after.more;
+      tree = (h.before.tree, after.tree);
+      spelled = record { front = h.front ++ h.before.more; rest = after.more; split = sym (append_assoc h.front h.before.more after.more); first = h.before.spelled; second = after.spelled };
     }
+      where
+        after : CanGoOn (Q h.before.tree) []
+        after = some h.before.tree
 
     shorter : (t : Lexeme) (rest more : List Lexeme) → s.left ≡ t ∷ rest → (CanGoOn P (h.front ++ t ∷ []) → ⊥)
-        → (a : A) (b : B) (g1 g2 : List Lexeme) → P a g1 → Q b g2 → (mid : List Lexeme) → h.front ++ t ∷ [] ≡ g1 ++ mid → g2 ≡ mid ++ more → ⊥
+        → (a : A) (b : B) (g1 g2 : List Lexeme) → P a g1 → Q a b g2 → (mid : List Lexeme) → h.front ++ t ∷ [] ≡ g1 ++ mid → g2 ≡ mid ++ more → ⊥
     shorter t rest more f blocked a b g1 g2 x y [] longer is = blocked (record { more = []; tree = a; spelled = subst (P a) (sym (append_empty g1) ∙ sym longer ∙ sym (append_empty (h.front ++ t ∷ []))) x })
     shorter t rest more f blocked a b g1 g2 x y (u ∷ mid) longer is =
         let ends : Stopped (stop a) ((u ∷ mid) ++ more) = subst (Stopped (stop a)) is (follows a b g2 y) in
@@ -167,7 +170,7 @@ halts_in_first {A} {B} {P} {stop} {p} r Q follows some tokens s e = record { fro
         let same : tokens ≡ g1 ++ (u ∷ mid) ++ rest = h.split ∙ ap (λ (l : List Lexeme). h.front ++ l) f ∙ one_more h.front t rest ∙ ap (λ (l : List Lexeme). l ++ rest) longer in
         Outcomes.not_both (p tokens) (a, (u ∷ mid) ++ rest) s (ap p same ∙ read) e
 
-    here : (t : Lexeme) (rest : List Lexeme) → s.left ≡ t ∷ rest → CanGoOn (λ (x : A × B). P x.0 ⋅ Q x.1) (h.front ++ t ∷ []) → ⊥
+    here : (t : Lexeme) (rest : List Lexeme) → s.left ≡ t ∷ rest → CanGoOn (λ (x : A × B). P x.0 ⋅ Q x.0 x.1) (h.front ++ t ∷ []) → ⊥
     here t rest f g =
         elim (overlaps g.spelled.front g.spelled.rest (h.front ++ t ∷ []) g.more (sym g.spelled.split)) [
           | inl o ↦ h.here t rest f (record { more = o.mid; tree = g.tree.0; spelled = subst (P g.tree.0) o.longer g.spelled.first })
@@ -176,8 +179,8 @@ halts_in_first {A} {B} {P} {stop} {p} r Q follows some tokens s e = record { fro
 
 -- the second of two readers refuses
 pub halts_in_second : {A B : Type 0} {P : A → List Lexeme → Type 0} {stop : A → Lexeme → Bool} {p : Parser A} → IsReader P stop p
-    → (Q : B → List Lexeme → Type 0) → Follows stop Q → (tokens : List Lexeme) (a : A) (mid : List Lexeme) → p tokens ≡ Ok (a, mid)
-    → (left : List Lexeme) → HaltsAt Q mid left → HaltsAt (λ (x : A × B). P x.0 ⋅ Q x.1) tokens left
+    → (Q : A → B → List Lexeme → Type 0) → Follows stop Q → (tokens : List Lexeme) (a : A) (mid : List Lexeme) → p tokens ≡ Ok (a, mid)
+    → (left : List Lexeme) → HaltsAt (Q a) mid left → HaltsAt (λ (x : A × B). P x.0 ⋅ Q x.0 x.1) tokens left
 halts_in_second {A} {B} {P} {stop} {p} r Q follows tokens a mid e left h = record {
   front = k.front ++ h.front;
   split = k.split ∙ ap (λ (l : List Lexeme). k.front ++ l) h.split ∙ sym (append_assoc k.front h.front left);
@@ -192,7 +195,7 @@ halts_in_second {A} {B} {P} {stop} {p} r Q follows tokens a mid e left h = recor
     k : Reads P stop tokens a mid
     k = r.sound tokens a mid e
 
-    here : (t : Lexeme) (rest : List Lexeme) → left ≡ t ∷ rest → CanGoOn (λ (x : A × B). P x.0 ⋅ Q x.1) ((k.front ++ h.front) ++ t ∷ []) → ⊥
+    here : (t : Lexeme) (rest : List Lexeme) → left ≡ t ∷ rest → CanGoOn (λ (x : A × B). P x.0 ⋅ Q x.0 x.1) ((k.front ++ h.front) ++ t ∷ []) → ⊥
     here t rest f g =
         let tail : List Lexeme = h.front ++ t ∷ g.more in
         let ends : Stopped (stop a) (h.front ++ t ∷ g.more) = stopped_with (stop a) h.front t rest g.more (subst (Stopped (stop a)) (h.split ∙ ap (λ (l : List Lexeme). h.front ++ l) f) k.stops) in
@@ -201,8 +204,73 @@ halts_in_second {A} {B} {P} {stop} {p} r Q follows tokens a mid e left h = recor
         let mine : p (k.front ++ (h.front ++ t ∷ g.more)) ≡ Ok (a, h.front ++ t ∷ g.more) = r.complete a k.front (h.front ++ t ∷ g.more) k.spelled ends in
         let other : p (g.spelled.front ++ g.spelled.rest) ≡ Ok (g.tree.0, g.spelled.rest) =
         r.complete g.tree.0 g.spelled.front g.spelled.rest g.spelled.first (follows g.tree.0 g.tree.1 g.spelled.rest g.spelled.second) in
-        let rests : h.front ++ t ∷ g.more ≡ g.spelled.rest = Outcomes.same_rest a g.tree.0 (h.front ++ t ∷ g.more) g.spelled.rest (sym mine ∙ ap p same ∙ other) in
-        h.here t rest f (record { more = g.more; tree = g.tree.1; spelled = subst (Q g.tree.1) (sym rests ∙ one_more h.front t g.more) g.spelled.second })
+        let one_read : ◌≡◌ {A = Outcome A} (Ok (a, h.front ++ t ∷ g.more)) (Ok (g.tree.0, g.spelled.rest)) = sym mine ∙ ap p same ∙ other in
+        let trees : a ≡ g.tree.0 = Outcomes.same_tree a g.tree.0 (h.front ++ t ∷ g.more) g.spelled.rest one_read in
+        let rests : h.front ++ t ∷ g.more ≡ g.spelled.rest = Outcomes.same_rest a g.tree.0 (h.front ++ t ∷ g.more) g.spelled.rest one_read in
+        h.here t rest f (record {
+          more = g.more;
+          tree = g.tree.1;
+          spelled = subst (λ (d : A). Q d g.tree.1 ((h.front ++ t ∷ []) ++ g.more)) (sym trees) (subst (Q g.tree.0 g.tree.1) (sym rests ∙ one_more h.front t g.more) g.spelled.second);
+        })
+
+-- the trees of a reader, changed
+pub record Image {A B : Type 0} (f : A → B) (P : A → List Lexeme → Type 0) (b : B) (tokens : List Lexeme) : Type 0 where
+  pub tree : A
+  pub is : f tree ≡ b
+  pub spelled : P tree tokens
+
+-- the trees of a reader that hangs on what another has read
+pub record Continues {A B : Type 0} (P : A → List Lexeme → Type 0) (Q : A → B → List Lexeme → Type 0) (b : B) (tokens : List Lexeme) : Type 0 where
+  pub tree : A
+  pub spelled : (P tree ⋅ Q tree b) tokens
+
+-- a reader that every token ends, and then one that hangs on what it read
+pub reads_continued : {A B : Type 0} {P : A → List Lexeme → Type 0} {p : Parser A} {Q : A → B → List Lexeme → Type 0} {stop : B → Lexeme → Bool} {next : A → Parser B}
+    → IsReader P always p → ((a : A) → IsReader (Q a) stop (next a)) → IsReader (Continues P Q) stop (continued p next)
+reads_continued {A} {B} {P} {p} {Q} {stop} {next} r w = record { some = some; sound = sound; complete = complete; refused = refused }
+  where
+    some : CanGoOn (Continues P Q) []
+    some = record {
+      more = r.some.more ++ after.more;
+      tree = after.tree;
+      spelled = record { tree = r.some.tree; spelled = record { front = r.some.more; rest = after.more; split = refl; first = r.some.spelled; second = after.spelled } };
+    }
+      where
+        after : CanGoOn (Q r.some.tree) []
+        after = (w r.some.tree).some
+
+    sound : (tokens : List Lexeme) (tree : B) (rest : List Lexeme) → continued p next tokens ≡ Ok (tree, rest) → Reads (Continues P Q) stop tokens tree rest
+    sound tokens tree rest e =
+        let t = Outcomes.then_ok (p tokens) next (tree, rest) e in
+        let one : Reads P always tokens t.tree t.mid = r.sound tokens t.tree t.mid t.was in
+        let two : Reads (Q t.tree) stop t.mid tree rest = (w t.tree).sound t.mid tree rest t.next in
+        record {
+          front = one.front ++ two.front;
+          split = one.split ∙ ap (λ (l : List Lexeme). one.front ++ l) two.split ∙ sym (append_assoc one.front two.front rest);
+          spelled = record { tree = t.tree; spelled = record { front = one.front; rest = two.front; split = refl; first = one.spelled; second = two.spelled } };
+          stops = two.stops;
+        }
+
+    complete : (tree : B) (front rest : List Lexeme) → Continues P Q tree front → Stopped (stop tree) rest → continued p next (front ++ rest) ≡ Ok (tree, rest)
+    complete tree front rest h k =
+        let same : front ++ rest ≡ h.spelled.front ++ (h.spelled.rest ++ rest) = ap (λ (l : List Lexeme). l ++ rest) h.spelled.split ∙ append_assoc h.spelled.front h.spelled.rest rest in
+        let one : p (front ++ rest) ≡ Ok (h.tree, h.spelled.rest ++ rest) =
+        ap p same ∙ r.complete h.tree h.spelled.front (h.spelled.rest ++ rest) h.spelled.first (stopped_always (h.spelled.rest ++ rest)) in
+        Outcomes.then_is (p (front ++ rest)) next h.tree (h.spelled.rest ++ rest) one ∙ (w h.tree).complete tree h.spelled.rest rest h.spelled.second k
+
+    halts : (tokens left : List Lexeme) → HaltsAt (λ (x : A × B). P x.0 ⋅ Q x.0 x.1) tokens left → HaltsAt (Continues P Q) tokens left
+    halts tokens left h = record {
+      front = h.front;
+      split = h.split;
+      before = record { more = h.before.more; tree = h.before.tree.1; spelled = record { tree = h.before.tree.0; spelled = h.before.spelled } };
+      here = λ t rest f g. h.here t rest f (record { more = g.more; tree = (g.spelled.tree, g.tree); spelled = g.spelled.spelled });
+    }
+
+    refused : (tokens : List Lexeme) (s : Stop) → continued p next tokens ≡ Err s → HaltsAt (Continues P Q) tokens s.left
+    refused tokens s e = elim (Outcomes.then_err (p tokens) next s e) [
+      | inl f ↦ halts tokens s.left (halts_in_first r Q (λ a b rest h. stopped_always rest) (λ a. (w a).some) tokens s f)
+      | inr t ↦ halts tokens s.left (halts_in_second r Q (λ a b rest h. stopped_always rest) tokens t.tree t.mid t.was s.left ((w t.tree).refused t.mid s t.next))
+    ]
 
 -- how the test of where a sequence ends goes with those of its parts
 pub record Joins {A B : Type 0} (stop : A → Lexeme → Bool) (Q : B → List Lexeme → Type 0) (stop' : B → Lexeme → Bool) (stops : A × B → Lexeme → Bool) : Type 0 where
@@ -211,7 +279,7 @@ pub record Joins {A B : Type 0} (stop : A → Lexeme → Bool) (Q : B → List L
   pub all : (a : A) (b : B) (front rest : List Lexeme) → Q b front → Stopped (stop a) (front ++ rest) → Stopped (stop' b) rest → Stopped (stops (a, b)) rest
 
 pub follows_of : {A B : Type 0} {stop : A → Lexeme → Bool} {Q : B → List Lexeme → Type 0} {stop' : B → Lexeme → Bool} {stops : A × B → Lexeme → Bool}
-    → Joins stop Q stop' stops → Follows stop Q
+    → Joins stop Q stop' stops → Follows stop (λ a. Q)
 follows_of {stop = stop} j a b tokens h = subst (Stopped (stop a)) (append_empty tokens) (j.first a b tokens [] h tt)
 
 pub reads_both : {A B : Type 0} {P : A → List Lexeme → Type 0} {stop : A → Lexeme → Bool} {p : Parser A}
@@ -250,8 +318,8 @@ reads_both {A} {B} {P} {stop} {p} {Q} {stop'} {q} {stops} r w j = record { some 
 
     refused : (tokens : List Lexeme) (s : Stop) → both p q tokens ≡ Err s → HaltsAt (λ (x : A × B). P x.0 ⋅ Q x.1) tokens s.left
     refused tokens s e = elim (Outcomes.then_err (p tokens) (λ a rest. changed (λ b. (a, b)) (q rest)) s e) [
-      | inl f ↦ halts_in_first r Q (follows_of j) w.some tokens s f
-      | inr t ↦ halts_in_second r Q (follows_of j) tokens t.tree t.mid t.was s.left
+      | inl f ↦ halts_in_first r (λ a. Q) (follows_of j) (λ a. w.some) tokens s f
+      | inr t ↦ halts_in_second r (λ a. Q) (follows_of j) tokens t.tree t.mid t.was s.left
           (w.refused t.mid s (Outcomes.changed_err (λ b. (t.tree, b)) (q t.mid) s t.next))
     ]
 
@@ -275,6 +343,34 @@ pub first_then : {L M : List Lexeme → Type 0} {tokens : List Lexeme} (test : L
 first_then test b begins h =
     let f : FirstIs test b h.front = begins h.front h.first in
     record { token = f.token; rest = f.rest ++ h.rest; is = h.split ∙ ap (λ (l : List Lexeme). l ++ h.rest) f.is; answers = f.answers }
+
+pub first_says : {A : Type 0} {says : Lexeme → Option A} (test : Lexeme → Bool) (b : Bool) → ((t : Lexeme) (a : A) → says t ≡ Some a → test t ≡ b) → Begins test b (Says says)
+first_says test b goes a tokens h = record { token = h.token; rest = []; is = h.alone; answers = goes h.token a h.said }
+
+pub begins_image : {A B : Type 0} (f : A → B) (P : A → List Lexeme → Type 0) (test : Lexeme → Bool) (b : Bool) → Begins test b P → Begins test b (Image f P)
+begins_image f P test b begins tree tokens h = begins h.tree tokens h.spelled
+
+pub begins_continues : {A B : Type 0} (P : A → List Lexeme → Type 0) (Q : A → B → List Lexeme → Type 0) (test : Lexeme → Bool) (b : Bool) → Begins test b P → Begins test b (Continues P Q)
+begins_continues P Q test b begins tree tokens h = first_then test b (begins h.tree) h.spelled
+
+-- three parts, grouped otherwise
+pub first_two : {L M N : List Lexeme → Type 0} {tokens : List Lexeme} → (L ⋅ M ⋅ N) tokens → ((L ⋅ M) ⋅ N) tokens
+first_two h = record {
+  front = h.front ++ h.second.front;
+  rest = h.second.rest;
+  split = h.split ∙ ap (λ (l : List Lexeme). h.front ++ l) h.second.split ∙ sym (append_assoc h.front h.second.front h.second.rest);
+  first = record { front = h.front; rest = h.second.front; split = refl; first = h.first; second = h.second.first };
+  second = h.second.second;
+}
+
+pub last_two : {L M N : List Lexeme → Type 0} {tokens : List Lexeme} → ((L ⋅ M) ⋅ N) tokens → (L ⋅ M ⋅ N) tokens
+last_two h = record {
+  front = h.first.front;
+  rest = h.first.rest ++ h.rest;
+  split = h.split ∙ ap (λ (l : List Lexeme). l ++ h.rest) h.first.split ∙ append_assoc h.first.front h.first.rest h.rest;
+  first = h.first.first;
+  second = record { front = h.first.rest; rest = h.rest; split = refl; first = h.first.second; second = h.second };
+}
 
 -- such tokens end what stands before them
 abbrev pub Ended : {A : Type 0} → (A → Lexeme → Bool) → (Lexeme → Bool) → Type 0
@@ -311,12 +407,6 @@ joins_plain Q stop' = record {
 pub reads_two : {A B : Type 0} {P : A → List Lexeme → Type 0} {p : Parser A} {Q : B → List Lexeme → Type 0} {stop' : B → Lexeme → Bool} {q : Parser B}
     → IsReader P always p → IsReader Q stop' q → IsReader (λ (x : A × B). P x.0 ⋅ Q x.1) (λ x. stop' x.1) (both p q)
 reads_two {Q = Q} {stop'} r w = reads_both r w (joins_plain Q stop')
-
--- the trees of a reader, changed
-pub record Image {A B : Type 0} (f : A → B) (P : A → List Lexeme → Type 0) (b : B) (tokens : List Lexeme) : Type 0 where
-  pub tree : A
-  pub is : f tree ≡ b
-  pub spelled : P tree tokens
 
 pub reads_mapped : {A B : Type 0} {P : A → List Lexeme → Type 0} {stop : A → Lexeme → Bool} {p : Parser A}
     → IsReader P stop p → (f : A → B) (stop' : B → Lexeme → Bool) → ((a : A) (t : Lexeme) → stop' (f a) t ≡ stop a t) → IsReader (Image f P) stop' (mapped f p)

@@ -2,7 +2,7 @@
 use Rattle.std.proofs.Common.{◌≡◌, ℕ, zero, suc, ◌+◌, ◌≤◌, Bool, true, false, cond, List, [], ◌∷◌, ◌++◌, length, length-append, inl, inr, refl, sym, ap, ◌∙◌, append_assoc, arith, Option, Some, None, Ok, Err}
 use Rattle.text_tokens.specs.Lexeme.{Lexeme}
 use Rattle.text_grammar.specs.Grammar.{Many}
-use Rattle.text_grammar.specs.Reading.{Stop, Outcome, Parser, refuse, refuse_unbuilt, answer, one, passing, both, after, before, mapped, maybe, choose, only, many_within, many, listed, and_then, changed, prepend, ended, whole}
+use Rattle.text_grammar.specs.Reading.{Stop, Outcome, Parser, refuse, refuse_unbuilt, answer, one, passing, both, continued, after, before, mapped, maybe, choose, only, many_within, many, listed, and_then, changed, prepend, ended, whole}
 use Rattle.text_grammar.specs.Laws.{Reads, IsReader, IsPlain, Opened, Tells, AtFirst, AfterItems}
 use Rattle.text_grammar.proofs.Outcomes
 use Rattle.text_grammar.proofs.Readers.{FirstIs, Begins, always, stopped_always}
@@ -34,6 +34,12 @@ pub plain_both : {A B : Type 0} {p : Parser A} {q : Parser B} → IsPlain p → 
 plain_both {p = p} {q} h k tokens s e = elim (Outcomes.then_err (p tokens) (λ a rest. changed (λ b. (a, b)) (q rest)) s e) [
   | inl f ↦ h tokens s f
   | inr w ↦ k w.mid s (Outcomes.changed_err (λ b. (w.tree, b)) (q w.mid) s w.next)
+]
+
+pub plain_continued : {A B : Type 0} {p : Parser A} {next : A → Parser B} → IsPlain p → ((a : A) → IsPlain (next a)) → IsPlain (continued p next)
+plain_continued {p = p} {next} h k tokens s e = elim (Outcomes.then_err (p tokens) next s e) [
+  | inl f ↦ h tokens s f
+  | inr w ↦ k w.tree w.mid s w.next
 ]
 
 pub plain_after : {A : Type 0} {p : Parser A} (test : Lexeme → Bool) → IsPlain p → IsPlain (after test p)

@@ -73,6 +73,10 @@ passing test (t ∷ ts) = if test t then Ok (tt, ts) else Err (refuse (t ∷ ts)
 abbrev pub both : {A B : Type 0} → Parser A → Parser B → Parser (A × B)
 both p q tokens = and_then (p tokens) (λ a rest. changed (λ b. (a, b)) (q rest))
 
+-- what a reader reads, and then what one reads that hangs on it
+abbrev pub continued : {A B : Type 0} → Parser A → (A → Parser B) → Parser B
+continued p next tokens = and_then (p tokens) next
+
 -- a fixed token and then what a reader reads
 abbrev pub after : {A : Type 0} → (Lexeme → Bool) → Parser A → Parser A
 after test p tokens = and_then (passing test tokens) (λ u rest. p rest)

@@ -96,6 +96,10 @@ abbrev pub variable_in : TokenKind → List ℕ → Option (List ℕ)
 variable_in Word text = if is_variable text then as_text text else None
 variable_in kind text = None
 
+-- the token is a word that is a variable
+abbrev pub is_variable_token : Lexeme → Bool
+is_variable_token t = same_kind t.kind Word && is_variable t.text
+
 -- the variable that a token spells, on the token's line
 abbrev pub variable : Lexeme → Option Named
 variable t = option_map (on_line t.line) (variable_in t.kind t.text)

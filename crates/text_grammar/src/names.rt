@@ -76,7 +76,7 @@ fn name_in(alloc: Global, token: &Token) -> Result<Option<Named>, NoMemory>
 }
 
 /// The content of a string token.
-fn string_in(alloc: Global, token: &Token) -> Result<Option<Named>, NoMemory>
+pub(crate) fn string_in(alloc: Global, token: &Token) -> Result<Option<Named>, NoMemory>
     ensures { IfOk result (λ content. content ≡ Words.quoted (lexeme_of token.now)) }
 {
     match token.kind {
@@ -89,7 +89,7 @@ fn string_in(alloc: Global, token: &Token) -> Result<Option<Named>, NoMemory>
 }
 
 /// Bytes as a name on a line, where they are text.
-fn on_line(alloc: Global, bytes: &[u8], line: u32) -> Result<Option<Named>, NoMemory>
+pub(crate) fn on_line(alloc: Global, bytes: &[u8], line: u32) -> Result<Option<Named>, NoMemory>
     ensures { IfOk result (λ name. name ≡ option_map (Words.on_line line) (Words.as_text bytes.now)) }
 {
     if !is_text(bytes) {
@@ -100,7 +100,7 @@ fn on_line(alloc: Global, bytes: &[u8], line: u32) -> Result<Option<Named>, NoMe
 }
 
 /// Is the word one of those that are no names?
-fn is_reserved(word: &[u8]) -> bool
+pub(crate) fn is_reserved(word: &[u8]) -> bool
     ensures { result ≡ Words.is_reserved word.now }
 {
     word == b"if".as_slice() || word == b"false".as_slice() || word == b"orders".as_slice()
