@@ -80,6 +80,7 @@ abbrev pub IsMade : List (List ℕ × List ℕ) → Spec → StatementTree → R
 IsMade told done (statement.Relation name doc row entity attrs) made =
     IsRelationMade told done (record { name = name; document = doc; row = row; entity = entity; attrs = attrs }) made
 IsMade told done (statement.Order o) made = made ≡ after_order done o
+IsMade told done (statement.Rule t) made = made ≡ after_rule done t
 
 -- what a statement makes, unless that exceeds one of limits 4 to 8
 abbrev pub IsStep : List (List ℕ × List ℕ) → Spec → StatementTree → Result Spec BindFault → Type 0

@@ -1,4 +1,4 @@
-ghost use Rattle.std.specs.Prelude.{◌≡◌, None, Contains, IfOk, map};
+ghost use Rattle.std.specs.Prelude.{◌≡◌, ◌≤◌, None, length, map, Contains, IfOk};
 ghost use Rattle.bind_faults.specs.Faults.{and_then, IsDue, IsReadFault};
 ghost use Rattle.spec_model.specs.Facts.{IsRuleOf};
 ghost use Rattle.spec_limits.specs.Limits.{exceeded};

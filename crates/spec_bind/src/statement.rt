@@ -6,6 +6,7 @@ ghost use Rattle.spec_bind.specs.Bound.{IsStep, ReadsTableOf};
 use crate::bound::Bound;
 use crate::order::bind_ordering;
 use crate::relation::bind_declaration;
+use crate::rule::bind_ruling;
 use bind_faults::BindFault;
 use currency_edge::Shelf;
 use relation_bind::Declaration;
@@ -44,5 +45,6 @@ pub fn bind_statement<S: Shelf>(
             bind_declaration(alloc, bound, &declaration, shelf)
         }
         StatementTree::Order(ordering) => bind_ordering(alloc, bound, ordering),
+        StatementTree::Rule(rule) => bind_ruling(alloc, bound, rule),
     }
 }
