@@ -1,17 +1,12 @@
--- A specification with one more relation or rule.
-use Rattle.std.proofs.Common.{◌≡◌, ◌∙◌, ◌⊎◌, ◌+◌, ◌<◌, ◌≤◌, ◌^◌, ◌++◌, ℕ, zero, suc, List, [], ◌∷◌, length, map, Some, None, slice_get, Contains, sym, ap, subst, refl, inl, inr, arith, length-append}
+-- Relations and rules with one more.
+use Rattle.std.proofs.Common.{◌≡◌, ◌∙◌, ◌⊎◌, ◌+◌, ◌<◌, ◌^◌, ◌++◌, ℕ, zero, suc, List, [], ◌∷◌, length, map, Some, slice_get, Contains, sym, ap, subst, refl, inl, inr, arith, length-append}
 use Rattle.std.proofs.lemmas.List.{map-append}
 use Rattle.std.proofs.lemmas.List.Elements.{All-append, All-cons, All-nil}
 use Rattle.currency_base.specs.Lists.{OnlyOnce}
 use Rattle.denial_rules.specs.declared.rule.Rule.{Rule}
 use Rattle.spec_model.specs.Facts.{IsRelation, IsRuleOf, AreRelations, AreRules}
-use Rattle.spec_model.specs.Spec.{Spec}
 use Rattle.spec_model.specs.declared.relation.Relation.{Relation}
-use Rattle.spec_names.specs.NameLists.{NameLists}
-use Rattle.spec_names.specs.Names.{names_of, all_names_of}
-use Rattle.spec_names.specs.declared.names.RelationNames.{RelationNames}
 use Rattle.relation_bind.proofs.Places.{contains_at}
-use Rattle.spec_bind.specs.Bound.{with_relation, with_rule, relation_names}
 
 -- an item of a list with one more is one of the list, or is the last
 snoc_at : {A : Type 0} (xs : List A) (x : A) (i : ℕ) (y : A) → slice_get (xs ++ x ∷ []) i ≡ Some y
@@ -48,28 +43,3 @@ longer_rules relations done rule are is few new = record {
   each = All-append (IsRuleOf relations) done (rule ∷ []) are.each (All-cons (IsRuleOf relations) rule [] is (All-nil (IsRuleOf relations)));
   names = rw map-append (once_more (map (λ r. r.name) done) rule.name are.names new);
 }
-
--- names are the same where their parts are
-same_names : (a b : NameLists) → a.relations ≡ b.relations → a.each ≡ b.each → a.rules ≡ b.rules → a ≡ b
-same_names a b first second third =
-    let at : ◌≡◌ {A = NameLists} (record { relations = a.relations; each = a.each; rules = a.rules }) (record { relations = b.relations; each = b.each; rules = b.rules }) = cc in
-    at
-
--- the names of a specification with one more relation
-pub names_with_relation : (done : Spec) (r : Relation) (names new : NameLists) → names ≡ all_names_of done
-    → new.relations ≡ names.relations ++ r.name ∷ [] → new.each ≡ names.each ++ names_of r ∷ [] → new.rules ≡ names.rules
-    → new ≡ all_names_of (with_relation done r)
-names_with_relation done r names new so_far relations each rules =
-    same_names new (all_names_of (with_relation done r))
-    (relations ∙ ap (λ n. n.relations ++ r.name ∷ []) so_far ∙ sym (map-append (λ (q : Relation). q.name) done.relations (r ∷ [])))
-    (each ∙ ap (λ n. n.each ++ names_of r ∷ []) so_far ∙ sym (map-append names_of done.relations (r ∷ [])))
-    (rules ∙ ap (λ n. n.rules) so_far)
-
--- the names of a specification with one more rule
-pub names_with_rule : (done : Spec) (rule : Rule) (names new : NameLists) → names ≡ all_names_of done
-    → new ≡ record names { rules = names.rules ++ rule.name ∷ [] } → new ≡ all_names_of (with_rule done rule)
-names_with_rule done rule names new so_far is =
-    same_names new (all_names_of (with_rule done rule))
-    (ap (λ n. n.relations) is ∙ ap (λ n. n.relations) so_far)
-    (ap (λ n. n.each) is ∙ ap (λ n. n.each) so_far)
-    (ap (λ n. n.rules) is ∙ ap (λ n. n.rules ++ rule.name ∷ []) so_far ∙ sym (map-append (λ (q : Rule). q.name) done.rules (rule ∷ [])))

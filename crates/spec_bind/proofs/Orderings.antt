@@ -7,18 +7,16 @@ use Rattle.currency_base.specs.declared.pair.Pair.{Pair}
 use Rattle.partial_orders.specs.Pairs.{pair_cmp}
 use Rattle.bind_faults.specs.Faults.{and_then, found_or, refused_at, IsDue}
 use Rattle.bind_faults.specs.declared.fault.BindFault.{BindFault}
-use Rattle.bind_faults.specs.declared.fault.BindFault.TheVariants.{Refused, Limit, ReadFault, NoMemory}
 use Rattle.spec_model.specs.Spec.{Spec}
 use Rattle.spec_model.specs.declared.relation.Relation.{Relation}
 use Rattle.spec_names.specs.NameLists.{NameLists}
 use Rattle.spec_names.specs.Names.{place_of, all_names_of}
 use Rattle.spec_syntax.specs.declared.trees.OrderingTree.{OrderingTree}
-use Rattle.order_bind.specs.Orders.{giving_pairs, ordered, ordered_at, ordered_pairs, Steps}
+use Rattle.order_bind.specs.Orders.{giving_pairs, ordered, ordered_at, ordered_pairs}
 use Rattle.spec_limits.specs.Limits.{exceeded, rows_together}
 use Rattle.spec_limits.proofs.GivenPairs.{exceeded_given, rows_together_given}
 use Rattle.spec_bind.specs.Bound.{after_order, limited, unless_above}
 use Rattle.spec_bind.specs.Known.{IsKnown}
-use Rattle.spec_bind.proofs.Dues.{due_through}
 
 -- new is old with other given pairs at one of its relations
 record Gives (old new : List Relation) : Type 0 where
@@ -78,16 +76,3 @@ pub ordered_due : (old new : Spec) (o : OrderingTree) → ordered old.relations 
 ordered_due old new o e rules within =
     ap (λ (r : Result (List Relation) BindFault). and_then (and_then r (λ relations. Ok (record old { relations = relations }))) limited) e
     ∙ ap limited (same_rules old new rules) ∙ ap (λ k. unless_above k new) (ordered_within old new o e rules within)
-
--- and so is a fault
-steps_due : (new : List Relation) (due : Result (List Relation) BindFault) (fault : BindFault) → Steps new due (Err fault) → IsDue due (Err fault)
-steps_due new due (Refused refusal) is = is
-steps_due new due (Limit k) is = is
-steps_due new due (ReadFault name) is = is
-steps_due new due NoMemory is = tt
-
-pub order_fault : (old : Spec) (new : List Relation) (o : OrderingTree) (fault : BindFault) → Steps new (ordered old.relations o) (Err fault)
-    → IsDue (and_then (after_order old o) limited) (Err fault)
-order_fault old new o fault is =
-    due_through (after_order old o) limited fault
-    (due_through (ordered old.relations o) (λ relations. Ok (record old { relations = relations })) fault (steps_due new (ordered old.relations o) fault is))

@@ -1,4 +1,4 @@
--- A rule reads nothing, and what is due of it.
+-- A rule reads nothing.
 use Rattle.std.proofs.Common.{◌≡◌, ◌∙◌, ◌++◌, ℕ, Bool, true, false, List, [], ◌∷◌, length, map, Option, Some, None, option_map, Result, Ok, Err, slice_get, if◌then◌else◌, sym, ap, refl}
 use Rattle.currency_base.specs.declared.error_code.ErrorCode.TheVariants.{UnknownName, DuplicateName}
 use Rattle.currency_base.specs.declared.value.Kind.{Kind}
@@ -20,8 +20,7 @@ use Rattle.spec_model.specs.Facts.{kinds_of}
 use Rattle.spec_model.specs.declared.relation.Relation.{Relation}
 use Rattle.spec_names.specs.Names.{place_of}
 use Rattle.rule_bind.specs.Ruled.{named_in, atom_of, operand_of, predicate_of, conclusion_of, taken, repeated, differ, term_kind, mismatch, names_of_attrs, names_of_vars, refused_later, rule_of, ruled_on, ruled_at, ruled}
-use Rattle.spec_bind.specs.Bound.{after_rule, limited, with_rule}
-use Rattle.spec_bind.proofs.Dues.{due_through, same_fault}
+use Rattle.spec_bind.proofs.Dues.{same_fault}
 
 -- no fault of reading
 abbrev Reads : {A : Type 0} → Result A BindFault → Type 0
@@ -132,14 +131,3 @@ rule_reads s tree (Refused refusal) is h = h
 rule_reads s tree (Limit k) is h = h
 rule_reads s tree (ReadFault name) is h = ruled_reads s tree (rw is h)
 rule_reads s tree NoMemory is h = h
-
--- and is what is due
-pub rule_fault : (s : Spec) (tree : RuleTree) (fault : BindFault) → IsDue (ruled s tree) (Err fault) → IsDue (and_then (after_rule s tree) limited) (Err fault)
-rule_fault s tree fault is =
-    due_through (after_rule s tree) limited fault (due_through (ruled s tree) (λ rule. Ok (with_rule s rule)) fault is)
-
--- so is what comes of a rule
-pub rule_due : (s : Spec) (tree : RuleTree) (rule : Rule) (result : Result Spec BindFault) → ruled s tree ≡ Ok rule
-    → IsDue (limited (with_rule s rule)) result → IsDue (and_then (after_rule s tree) limited) result
-rule_due s tree rule result is due =
-    rw (ap (λ (r : Result Rule BindFault). and_then (and_then r (λ made. Ok (with_rule s made))) limited) is) due

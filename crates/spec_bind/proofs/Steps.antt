@@ -27,9 +27,11 @@ pub relation_step : (texts : Option (List (List ℕ × List ℕ))) (done : Spec)
     → taken ≡ relation_names done → IfSome texts (λ told. IsDeclared told taken d (Ok r)) → IsDue (limited (with_relation done r)) result
     → IsSettled result → IfSome texts (λ told. IsRelationStep told done d result)
 relation_step None done d taken r result same declared due settled = tt
-relation_step (Some told) done d taken r result same declared due settled =
-    (Ok (with_relation done r), (Ok r, subst (λ (names : List (List ℕ)). IsDeclared told names d (Ok r)) same declared, refl),
-    sym (due_settled (limited (with_relation done r)) result due settled))
+relation_step (Some told) done d taken r result same declared due settled = (
+  Ok (with_relation done r),
+  (Ok r, subst (λ (names : List (List ℕ)). IsDeclared told names d (Ok r)) same declared, refl),
+  sym (due_settled (limited (with_relation done r)) result due settled),
+)
 
 -- the table of a declaration that could not be read
 pub relation_table : (done : Spec) (d : Declared) (taken : List (List ℕ)) (fault : BindFault) (table : List ℕ) → taken ≡ relation_names done

@@ -5,8 +5,11 @@ use Rattle.spec_bind.proofs.relation.with_relation.Goals as goal
 
 pub overflow_add-rows : goal.overflow_add-rows
 overflow_add-rows c =
-    omega (arith, room c.bound.inside.spec c.args.bound c.args.relation c.into_parts-relation.result.0 c.bound.inside.rows c.len.result
-    c.bound.view_is c.into_parts-relation.ensures.relation c.bound.invariant.rows_are c.len.ensures c.requires.within)
+    omega (
+      arith,
+      room c.bound.inside.spec c.args.bound c.args.relation c.into_parts-relation.result.0 c.bound.inside.rows c.len.result
+          c.bound.view_is c.into_parts-relation.ensures.relation c.bound.invariant.rows_are c.len.ensures c.requires.within,
+    )
 
 pub add_relation-requires : goal.add_relation-requires
 add_relation-requires c =
