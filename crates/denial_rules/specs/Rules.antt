@@ -1,8 +1,6 @@
 -- Rules that fit a relation, and rows that can be taken for their variables.
-use Rattle.std.specs.Prelude.{◌≡◌, ◌<◌, ◌≤◌, ℕ, List, map, length, All, Option, Some, None, slice_get}
+use Rattle.std.specs.Prelude.{◌≡◌, ◌<◌, ◌≤◌, ℕ, List, length, All, Option, Some, slice_get}
 use Rattle.currency_base.specs.Values.{kind_of}
-use Rattle.currency_base.specs.declared.ids.RowId.{RowId}
-use Rattle.currency_base.specs.declared.row.Row.{Row}
 use Rattle.currency_base.specs.declared.value.Kind.{Kind}
 use Rattle.denial_rules.specs.declared.rule.Conclusion.{Conclusion}
 use Rattle.denial_rules.specs.declared.rule.Conclusion.TheVariants as conclusion

@@ -1,6 +1,6 @@
 -- The rule that a tree says of a specification, or its first fault: first the names that are unknown, in the order of the
 -- text, then those that stand twice, then the terms that are of two kinds.
-use Rattle.std.specs.Prelude.{ℕ, Bool, true, false, List, [], ◌∷◌, ◌++◌, length, map, Option, Some, None, option_map, Result, Ok, Err, if◌then◌else◌, slice_get}
+use Rattle.std.specs.Prelude.{ℕ, Bool, true, false, List, [], ◌∷◌, ◌++◌, length, map, Option, Some, None, option_map, is_some, Result, Ok, Err, if◌then◌else◌, slice_get}
 use Rattle.currency_base.specs.Values.{kind_of}
 use Rattle.currency_base.specs.declared.error_code.ErrorCode.TheVariants.{UnknownName, DuplicateName, Mismatch}
 use Rattle.currency_base.specs.declared.value.Kind.{Kind}
@@ -42,10 +42,14 @@ atom_of vars attrs tree =
     and_then (named_in vars tree.earlier) (λ earlier. and_then (named_in vars tree.later) (λ later.
     and_then (named_in attrs tree.attr) (λ attr. Ok record { earlier = earlier; later = later; attr = record { 0 = attr } })))
 
+-- the field that a variable and an attribute say
+abbrev pub field_of : List (List ℕ) → List (List ℕ) → Named → Named → Result Operand BindFault
+field_of vars attrs var attr =
+    and_then (named_in vars var) (λ v. and_then (named_in attrs attr) (λ a. Ok (operand.Field v (record { 0 = a }))))
+
 -- the operand that a term says
 abbrev pub operand_of : List (List ℕ) → List (List ℕ) → TermTree → Result Operand BindFault
-operand_of vars attrs (term_tree.Field var attr) =
-    and_then (named_in vars var) (λ v. and_then (named_in attrs attr) (λ a. Ok (operand.Field v (record { 0 = a }))))
+operand_of vars attrs (term_tree.Field var attr) = field_of vars attrs var attr
 operand_of vars attrs (term_tree.Constant constant) = Ok (operand.Constant constant.value)
 
 -- the predicate that a tree says
@@ -65,10 +69,14 @@ conclusion_of vars attrs (conclusion_tree.Order tree) = and_then (atom_of vars a
 abbrev pub taken : List (List ℕ) → Named → Option BindFault
 taken names named = option_map (λ place. refused_at DuplicateName named) (place_of names named.name)
 
--- the refusal of the first name that stands before itself, or among the names before the list
+-- the names with one more, unless it is there already
+abbrev pub with_name : List (List ℕ) → List ℕ → List (List ℕ)
+with_name names name = if is_some (place_of names name) then names else names ++ name ∷ []
+
+-- the refusal of the first variable that stands before itself, or among the names before the list
 abbrev pub repeated : List (List ℕ) → List Named → Option BindFault
 repeated before [] = None
-repeated before (named ∷ more) = or_else (taken before named) (repeated (before ++ named.name ∷ []) more)
+repeated before (named ∷ more) = or_else (taken before named) (repeated (with_name before named.name) more)
 
 -- ---- terms of two kinds
 
@@ -103,22 +111,24 @@ mismatch attrs kinds (predicate_tree.Compare left cmp right) =
 
 -- ---- the rule
 
--- the names of the listed variables
-abbrev pub names_of_vars : List Named → List (List ℕ)
-names_of_vars vars = map (λ v. v.name) vars
+-- the names of the listed variables after those before the list, each where it stands first. A variable's number is its
+-- place in these
+abbrev pub names_of_vars : List (List ℕ) → List Named → List (List ℕ)
+names_of_vars before [] = before
+names_of_vars before (named ∷ more) = names_of_vars (with_name before named.name) more
 
 -- the names of the attributes of a relation
 abbrev pub names_of_attrs : Relation → List (List ℕ)
 names_of_attrs r = map (λ a. a.name) r.attrs
 
--- what is refused once every name is known: the rule's own name where an earlier rule has it, then a variable that is
--- listed twice, then a comparison of two kinds
-abbrev pub refused_later : List Rule → Relation → RuleTree → Option BindFault
+-- what is refused once every name is known, where earlier rules have these names: the rule's own name where it is one of
+-- them, then a variable that is listed twice, then a comparison of two kinds
+abbrev pub refused_later : List (List ℕ) → Relation → RuleTree → Option BindFault
 refused_later rules r tree =
-    or_else (taken (map (λ rule. rule.name) rules) tree.name)
+    or_else (taken rules tree.name)
     (or_else (repeated [] tree.vars) (first_of (mismatch (names_of_attrs r) (kinds_of r)) tree.predicates))
 
--- the rule of these parts. A variable's number is its place among the listed ones
+-- the rule of these parts
 abbrev pub rule_of : RuleTree → ℕ → List Predicate → Conclusion → Rule
 rule_of tree rel predicates conclusion = record {
   name = tree.name.name;
@@ -128,18 +138,20 @@ rule_of tree rel predicates conclusion = record {
   conclusion = conclusion;
 }
 
--- the rule that a tree says of the relation at a place, after earlier rules
-unfoldable pub ruled_on : List Rule → ℕ → Relation → RuleTree → Result Rule BindFault
+-- the rule that a tree says of the relation at a place, where earlier rules have these names
+unfoldable pub ruled_on : List (List ℕ) → ℕ → Relation → RuleTree → Result Rule BindFault
 ruled_on rules rel r tree =
-    and_then (all_of (predicate_of (names_of_vars tree.vars) (names_of_attrs r)) tree.predicates) (λ predicates.
-    and_then (conclusion_of (names_of_vars tree.vars) (names_of_attrs r) tree.conclusion) (λ conclusion.
+    and_then (all_of (predicate_of (names_of_vars [] tree.vars) (names_of_attrs r)) tree.predicates) (λ predicates.
+    and_then (conclusion_of (names_of_vars [] tree.vars) (names_of_attrs r) tree.conclusion) (λ conclusion.
     unless (refused_later rules r tree) (Ok (rule_of tree rel predicates conclusion))))
 
 -- the same, where a relation is there
-abbrev pub ruled_at : List Rule → ℕ → Option Relation → RuleTree → Result Rule BindFault
+abbrev pub ruled_at : List (List ℕ) → ℕ → Option Relation → RuleTree → Result Rule BindFault
 ruled_at rules rel None tree = Err (refused_at UnknownName tree.relation)
 ruled_at rules rel (Some r) tree = ruled_on rules rel r tree
 
 -- the rule that a tree says of a specification: an unknown relation is refused first
 unfoldable pub ruled : Spec → RuleTree → Result Rule BindFault
-ruled s tree = and_then (named_in (map (λ r. r.name) s.relations) tree.relation) (λ rel. ruled_at s.rules rel (slice_get s.relations rel) tree)
+ruled s tree =
+    and_then (named_in (map (λ r. r.name) s.relations) tree.relation)
+    (λ rel. ruled_at (map (λ rule. rule.name) s.rules) rel (slice_get s.relations rel) tree)

@@ -2,5 +2,8 @@
 #![tactic(auto)]
 
 mod bind;
+mod kinds;
+mod resolve;
+mod variables;
 
 pub use bind::bind_rule;
