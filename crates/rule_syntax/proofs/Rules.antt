@@ -3,12 +3,12 @@ use Rattle.std.proofs.Common.{◌≡◌, Bool, true, false, not, cond, List, [],
 use Rattle.text_tokens.specs.Lexeme.{Lexeme}
 use Rattle.text_tokens.specs.declared.token.TokenKind.TheVariants.{Word, Symbol}
 use Rattle.text_grammar.specs.Words.{is_word, is_symbol, is_variable_token, named, variable, constant}
-use Rattle.text_grammar.specs.Grammar.{Language, ◌⋅◌, Passes, Says, IsWord, IsSymbol, SpellsName, Maybe, Listed}
-use Rattle.text_grammar.specs.Reading.{one, both, after, before, maybe, listed, mapped}
+use Rattle.text_grammar.specs.Grammar.{Language, ◌⋅◌, Says, IsWord, IsSymbol, SpellsName, Maybe, Listed}
+use Rattle.text_grammar.specs.Reading.{one, both, after, before, listed}
 use Rattle.text_grammar.specs.Laws.{IsReader, IsPlain}
 use Rattle.text_grammar.specs.declared.named.Const.{Const}
 use Rattle.text_grammar.specs.declared.named.Named.{Named}
-use Rattle.text_grammar.proofs.Readers.{always, Begins, Continues, Ended, Image, begins_continues, begins_image, first_passes, first_says, first_then, first_two, last_two, reads_continued, reads_made, reads_mapped, reads_one, reads_passing, reads_same, reads_then, reads_two}
+use Rattle.text_grammar.proofs.Readers.{always, Begins, Continues, Ended, Image, begins_continues, begins_image, first_passes, first_says, first_then, first_two, last_two, reads_continued, reads_made, reads_mapped, reads_one, reads_same, reads_then, reads_two}
 use Rattle.text_grammar.proofs.Choices.{Either, maybe_ends, reads_choose, reads_maybe}
 use Rattle.text_grammar.proofs.ListReaders.{reads_until}
 use Rattle.text_grammar.proofs.FixedTokens.{a_fixed, a_fixed_is, apart, reads_constant, reads_name, reads_variable, reads_word, after_word, after_symbol, before_word, listed_symbol, listed_word, begins_fixed}

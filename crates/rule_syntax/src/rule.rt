@@ -7,9 +7,7 @@ use crate::atom::OrderAtomRule;
 use crate::predicate::PredicateRule;
 use crate::{ConclusionTree, PredicateTreeList, RuleTree};
 use std::alloc::Global;
-use text_grammar::{
-    Refusal, Rule, VariableRule, after_fixed, listed, name, symbol, word,
-};
+use text_grammar::{Refusal, Rule, VariableRule, after_fixed, listed, name, symbol, word};
 use text_tokens::{Token, TokenKind};
 
 /// A denial constraint, from its word on.
@@ -60,8 +58,7 @@ fn conditions<'a>(
 {
     match after_fixed(TokenKind::Word, b"if", tokens) {
         Some(rest) => {
-            let (predicates, rest) =
-                listed::<PredicateRule>(alloc, TokenKind::Word, b"and", rest)?;
+            let (predicates, rest) = listed::<PredicateRule>(alloc, TokenKind::Word, b"and", rest)?;
             let rest = word(b"then", rest)?;
             Ok((predicates, rest))
         }

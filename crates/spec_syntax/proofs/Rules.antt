@@ -13,7 +13,6 @@ use Rattle.text_grammar.proofs.ListReaders.{unless, reads_many_plain}
 use Rattle.text_grammar.proofs.FixedTokens.{a_fixed, a_fixed_is, apart, reads_name, reads_string, reads_symbol, after_word, after_symbol, before_symbol, listed_symbol, begins_fixed}
 use Rattle.text_grammar.proofs.Tellings.{plain_one, plain_passing, plain_both, plain_after, plain_before, plain_mapped, plain_maybe, plain_listed, tells_only, tells_choose, tells_before, tells_mapped, tells_many}
 use Rattle.rule_syntax.specs.Grammar.{SpellsRule}
-use Rattle.rule_syntax.specs.declared.trees.RuleTree.{RuleTree}
 use Rattle.rule_syntax.proofs.Rules.{begins_rule, plain_rule, reads_rule}
 use Rattle.currency_base.specs.declared.value.Kind.TheVariants.{Text, Int}
 use Rattle.spec_syntax.specs.declared.trees.AttrTree.{AttrTree}

@@ -43,6 +43,7 @@ relation_at =
 unfoldable pub order_at : Parser StatementTree
 order_at = mapped (λ o. Order o) (after (is_word (codes "order")) ordering_at)
 
+-- a rule as a statement
 unfoldable pub constraint_at : Parser StatementTree
 constraint_at = mapped (λ r. Rule r) rule_at
 

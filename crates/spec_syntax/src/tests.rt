@@ -1,12 +1,12 @@
 use crate::TextFault::{NotUtf8, Syntax, Unbuilt};
 use crate::{
-    AttrTree, AttrTreeList, OrderingTree, QuestionTree, SpecTree, StatementTree, StatementTreeList,
-    TextFault, read_question, read_spec,
+    AttrTree, AttrTreeList, ConclusionTree, Const, Named, NamedList, NamedPair, NamedPairList,
+    OrderAtomTree, OrderingTree, PredicateTree, PredicateTreeList, QuestionTree, RuleTree,
+    SpecTree, StatementTree, StatementTreeList, TermTree, TextFault, read_question, read_spec,
 };
-use currency_base::{Kind, Name, NoMemory};
+use currency_base::{Cmp, Kind, Name, NoMemory, Value};
 use std::alloc::Global;
 use std::test::Fail;
-use text_grammar::{Named, NamedPair, NamedPairList};
 
 fn named(alloc: Global, text: &str, line: u32) -> Result<Named, NoMemory> {
     let name = Name::from_bytes(alloc, text.as_bytes())?;
@@ -17,6 +17,29 @@ fn pair(alloc: Global, first: &str, second: &str, line: u32) -> Result<NamedPair
     let first = named(alloc, first, line)?;
     let second = named(alloc, second, line)?;
     Ok(NamedPair { first, second })
+}
+
+fn field(alloc: Global, var: &str, attr: &str, line: u32) -> Result<TermTree, NoMemory> {
+    let var = named(alloc, var, line)?;
+    let attr = named(alloc, attr, line)?;
+    Ok(TermTree::Field { var, attr })
+}
+
+fn atom(
+    alloc: Global,
+    earlier: &str,
+    later: &str,
+    attr: &str,
+    line: u32,
+) -> Result<OrderAtomTree, NoMemory> {
+    let earlier = named(alloc, earlier, line)?;
+    let later = named(alloc, later, line)?;
+    let attr = named(alloc, attr, line)?;
+    Ok(OrderAtomTree {
+        earlier,
+        later,
+        attr,
+    })
 }
 
 fn spec_of(alloc: Global, statement: StatementTree) -> Result<SpecTree, NoMemory> {
@@ -107,6 +130,133 @@ fn reads_an_order(rt: HostRuntime) -> Result<(), Fail> {
 }
 
 #[test]
+fn reads_a_rule(rt: HostRuntime) -> Result<(), Fail> {
+    let alloc = rt.alloc();
+    let mut vars = NamedList::new(alloc);
+    vars.push(named(alloc, "s", 1)?)?;
+    vars.push(named(alloc, "_t1", 1)?)?;
+    let mut predicates = PredicateTreeList::new(alloc);
+    predicates.push(PredicateTree::Compare {
+        left: field(alloc, "s", "a", 2)?,
+        cmp: Cmp::Ne,
+        right: field(alloc, "_t1", "b c", 2)?,
+    })?;
+    predicates.push(PredicateTree::Order(atom(alloc, "_t1", "s", "b", 3)?))?;
+    predicates.push(PredicateTree::Compare {
+        left: TermTree::Constant(Const {
+            value: Value::Int(-3),
+            line: 3,
+        }),
+        cmp: Cmp::Le,
+        right: TermTree::Constant(Const {
+            value: Value::Text(Name::from_bytes(alloc, "x".as_bytes())?),
+            line: 3,
+        }),
+    })?;
+    let rule = RuleTree {
+        name: named(alloc, "no way", 1)?,
+        relation: named(alloc, "R", 1)?,
+        vars,
+        predicates,
+        conclusion: ConclusionTree::Order(atom(alloc, "s", "_t1", "a", 4)?),
+    };
+    let found = read_spec(
+        alloc,
+        b"rule \"no way\" on R (s, _t1):\nif s.a != _t1.\"b c\"\nand _t1 before s in b and -3 <= \"x\"\nthen s before _t1 in a;",
+    )?;
+    assert_eq!(rt; found, spec_of(alloc, StatementTree::Rule(rule))?);
+    Ok(())
+}
+
+#[test]
+fn reads_words_of_rules_as_variables(rt: HostRuntime) -> Result<(), Fail> {
+    let alloc = rt.alloc();
+    let mut vars = NamedList::new(alloc);
+    vars.push(named(alloc, "before", 1)?)?;
+    vars.push(named(alloc, "then", 1)?)?;
+    let mut predicates = PredicateTreeList::new(alloc);
+    let order = atom(alloc, "before", "then", "in", 2)?;
+    predicates.push(PredicateTree::Order(order))?;
+    predicates.push(PredicateTree::Compare {
+        left: field(alloc, "then", "and", 2)?,
+        cmp: Cmp::Gt,
+        right: TermTree::Constant(Const {
+            value: Value::Int(7),
+            line: 2,
+        }),
+    })?;
+    let rule = RuleTree {
+        name: named(alloc, "rule", 1)?,
+        relation: named(alloc, "on", 1)?,
+        vars,
+        predicates,
+        conclusion: ConclusionTree::Never,
+    };
+    let found = read_spec(
+        alloc,
+        b"rule rule on on (before, then):\nif before before then in in and then.and > 007 then false;",
+    )?;
+    assert_eq!(rt; found, spec_of(alloc, StatementTree::Rule(rule))?);
+    Ok(())
+}
+
+#[test]
+fn refuses_rules(rt: HostRuntime) {
+    let rows: [(&[u8], TextFault); 22] = [
+        (b"rule n on R (s,\n_): false;", Syntax { line: 2 }),
+        (b"rule n on R (s,\n1): false;", Syntax { line: 2 }),
+        (b"rule n on R (s,\nif): false;", Syntax { line: 2 }),
+        (b"rule n on R (\n\"s\"): false;", Syntax { line: 2 }),
+        (b"rule n on R (\n): false;", Syntax { line: 2 }),
+        (b"rule n on R\n: false;", Syntax { line: 2 }),
+        (b"rule n on R (s)\n;", Syntax { line: 2 }),
+        (b"rule n on R (s):\n;", Syntax { line: 2 }),
+        (b"rule n on R (s): if\nfalse;", Syntax { line: 2 }),
+        (b"rule n on R (s): if s.a = 1\n;", Syntax { line: 2 }),
+        (b"rule n on R (s): if s.a = 1\nfalse;", Syntax { line: 2 }),
+        (b"rule n on R (s): if s.a = 1 then\n;", Syntax { line: 2 }),
+        (
+            b"rule n on R (s): if s.a = 1 and then\nfalse;",
+            Syntax { line: 2 },
+        ),
+        (
+            b"rule n on R (s): if s.a\n! s.b then false;",
+            Syntax { line: 2 },
+        ),
+        (
+            b"rule n on R (s): if s.a <\n9223372036854775808 then false;",
+            Syntax { line: 2 },
+        ),
+        (
+            b"rule n on R (s, t): if 1\nbefore t in a then false;",
+            Syntax { line: 2 },
+        ),
+        (
+            b"rule n on R (s, t): if s\n= t then false;",
+            Syntax { line: 2 },
+        ),
+        (b"rule n on R (s, t): s before t\n;", Syntax { line: 2 }),
+        (b"rule n on R (s, t): s before t in\n;", Syntax { line: 2 }),
+        (
+            b"rule n on R (s): false\nbefore s in a;",
+            Syntax { line: 2 },
+        ),
+        (b"rule n on R (s): false\n", Syntax { line: 2 }),
+        (
+            b"rule n on R (s): false;\norders R from \"o.csv\";",
+            Unbuilt { line: 2 },
+        ),
+    ];
+    for (source, wanted) in rows {
+        assert_eq!(rt;
+            read_spec(rt.alloc(), source).err(),
+            Some(wanted),
+            "{source:?}"
+        );
+    }
+}
+
+#[test]
 fn reads_an_empty_text_as_no_statement(rt: HostRuntime) -> Result<(), Fail> {
     let found = read_spec(rt.alloc(), b" \n# nothing")?;
     assert_eq!(rt; found.statements.len(), 0);
@@ -119,7 +269,7 @@ fn refuses_specifications(rt: HostRuntime) {
         (b"order R.a: x < y;\norder R.a r1 < r2;", Syntax { line: 2 }),
         (
             b"order R.a: x < y;\nrule n on R (s, t): ..",
-            Unbuilt { line: 2 },
+            Syntax { line: 2 },
         ),
         (b"orders R from \"o.csv\";", Unbuilt { line: 1 }),
         (

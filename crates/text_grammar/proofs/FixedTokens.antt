@@ -7,7 +7,6 @@ use Rattle.text_tokens.specs.Lexeme.{Lexeme}
 use Rattle.text_tokens.specs.declared.token.TokenKind.{TokenKind}
 use Rattle.text_tokens.specs.declared.token.TokenKind.TheVariants.{Word, Negative, Text, Symbol, Fault}
 use Rattle.text_grammar.specs.Words.{same_kind, is_fixed, is_word, is_symbol, named, quoted, variable, constant, on_line, value_on_line, text_value}
-use Rattle.text_grammar.specs.declared.named.Const.{Const}
 use Rattle.text_grammar.specs.declared.named.Named.{Named}
 use Rattle.text_grammar.specs.Grammar.{◌⋅◌, Listed, Passes, Says, IsWord, IsSymbol, SpellsName, SpellsString}
 use Rattle.text_grammar.specs.Reading.{Parser, one, passing, after, before, listed}

@@ -1,7 +1,8 @@
 use crate::{
-    NameRule, Named, Refusal, Repeats, Rule, is_fixed, listed, many, name, string, symbol, word,
+    NameRule, Named, Refusal, Repeats, Rule, VariableRule, constant, is_fixed, is_variable, listed,
+    many, name, string, symbol, variable, word,
 };
-use currency_base::{Name, NoMemory};
+use currency_base::{Name, NoMemory, Value};
 use std::alloc::Global;
 use std::test::Fail;
 use text_tokens::{Token, TokenKind};
@@ -95,6 +96,70 @@ fn takes_names_and_strings(rt: HostRuntime) -> Result<(), Fail> {
 }
 
 #[test]
+fn takes_variables(rt: HostRuntime) -> Result<(), Fail> {
+    let alloc = rt.alloc();
+    let rows: [(TokenKind, &'static [u8], Option<&str>); 11] = [
+        (TokenKind::Word, b"s", Some("s")),
+        (TokenKind::Word, b"Z1_", Some("Z1_")),
+        (TokenKind::Word, b"_1", Some("_1")),
+        (TokenKind::Word, b"before", Some("before")),
+        (TokenKind::Word, b"_", None),
+        (TokenKind::Word, b"1s", None),
+        (TokenKind::Word, b"if", None),
+        (TokenKind::Word, b"false", None),
+        (TokenKind::Word, b"orders", None),
+        (TokenKind::Text, b"\"s\"", None),
+        (TokenKind::Negative, b"-s", None),
+    ];
+    for (kind, text, wanted) in rows {
+        let tokens = [token(kind, text, 7), token(TokenKind::Symbol, b".", 7)];
+        assert_eq!(rt; is_variable(&tokens[0]), wanted.is_some());
+        match (variable(alloc, tokens.as_slice()), wanted) {
+            (Ok((found, rest)), Some(wanted)) => {
+                assert_eq!(rt; found, named(alloc, wanted, 7)?);
+                assert_eq!(rt; rest.len(), 1);
+            }
+            (Err(Refusal::Syntax(left)), None) => assert_eq!(rt; left.len(), 2),
+            _ => assert!(rt; false, "the variable {text:?}"),
+        }
+    }
+    Ok(())
+}
+
+#[test]
+fn takes_constants(rt: HostRuntime) -> Result<(), Fail> {
+    let alloc = rt.alloc();
+    let rows: [(TokenKind, &'static [u8], Option<Value>); 9] = [
+        (TokenKind::Word, b"012", Some(Value::Int(12))),
+        (TokenKind::Negative, b"-3", Some(Value::Int(-3))),
+        (
+            TokenKind::Text,
+            b"\"-3\"",
+            Some(Value::Text(Name::from_bytes(alloc, "-3".as_bytes())?)),
+        ),
+        (TokenKind::Word, b"1a", None),
+        (TokenKind::Word, b"s", None),
+        (TokenKind::Word, b"9223372036854775808", None),
+        (TokenKind::Negative, b"-x", None),
+        (TokenKind::Symbol, b"<", None),
+        (TokenKind::Fault, b"\"3", None),
+    ];
+    for (kind, text, wanted) in rows {
+        let tokens = [token(kind, text, 7), token(TokenKind::Symbol, b";", 8)];
+        match (constant(alloc, tokens.as_slice()), wanted) {
+            (Ok((found, rest)), Some(wanted)) => {
+                assert_eq!(rt; found.value, wanted);
+                assert_eq!(rt; found.line, 7);
+                assert_eq!(rt; rest.len(), 1);
+            }
+            (Err(Refusal::Syntax(left)), None) => assert_eq!(rt; left.len(), 2),
+            _ => assert!(rt; false, "the constant {text:?}"),
+        }
+    }
+    Ok(())
+}
+
+#[test]
 fn takes_fixed_tokens(rt: HostRuntime) {
     let tokens = [
         token(TokenKind::Word, b"row", 1),
@@ -130,6 +195,13 @@ fn reads_lists(rt: HostRuntime) -> Result<(), Fail> {
     match listed::<NameRule>(alloc, TokenKind::Symbol, b",", &tokens[..4]) {
         Err(Refusal::Syntax(left)) => assert_eq!(rt; left.len(), 0),
         _ => assert!(rt; false, "the list that is cut"),
+    }
+    match listed::<VariableRule>(alloc, TokenKind::Symbol, b",", &tokens[2..]) {
+        Ok((variables, rest)) => {
+            assert_eq!(rt; variables.len(), 2);
+            assert_eq!(rt; rest.len(), 2);
+        }
+        Err(_) => assert!(rt; false, "the list of variables"),
     }
     match many::<EndedRule>(alloc, &tokens[4..]) {
         Ok((names, rest)) => {
