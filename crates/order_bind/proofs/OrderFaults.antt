@@ -1,5 +1,5 @@
 -- An ordering makes no read fault.
-use Rattle.std.proofs.Common.{◌≡◌, ℕ, List, [], ◌∷◌, map, not, Option, Some, None, Result, Ok, Err, refl}
+use Rattle.std.proofs.Common.{ℕ, List, [], ◌∷◌, map, not, Option, Some, None, Result, Ok, Err}
 use Rattle.std.specs.List.{position, slice_get}
 use Rattle.currency_base.specs.declared.pair.Pair.{Pair}
 use Rattle.currency_base.specs.declared.row.Row.{Row}

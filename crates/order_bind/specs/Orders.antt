@@ -1,7 +1,6 @@
 -- What an `order` statement adds to the relations declared so far.
 use Rattle.std.specs.Prelude.{◌≡◌, ℕ, ◌==◌, Bool, false, not, ◌&&◌, List, map, fold, Option, Some, None, Result, Ok, Err, position, slice_get, slice_set}
 use Rattle.std.specs.BTreeSet.{insert_key}
-use Rattle.currency_base.specs.declared.error_code.ErrorCode.{ErrorCode}
 use Rattle.currency_base.specs.declared.error_code.ErrorCode.TheVariants.{UnknownName, UnknownRow, NotOneEntity}
 use Rattle.currency_base.specs.declared.pair.Pair.{Pair}
 use Rattle.currency_base.specs.declared.row.Row.{Row}

@@ -1,5 +1,5 @@
 -- Names that a declaration takes.
-use Rattle.std.proofs.Common.{◌≡◌, ◌∙◌, ◌+◌, ◌<◌, ◌++◌, ℕ, List, [], ◌∷◌, length, drop, get_or, Option, Some, None, Contains, sym, ap, true, false, append_assoc, map, Result, Ok, Err, inl, inr, Bool, is_some, subst}
+use Rattle.std.proofs.Common.{◌≡◌, ◌∙◌, ◌+◌, ◌<◌, ◌++◌, ℕ, List, [], ◌∷◌, length, drop, get_or, Option, Some, None, Contains, sym, ap, true, false, append_assoc, Result, Ok, Err, inl, inr, Bool, is_some, subst}
 use Rattle.std.specs.List.{list_any}
 use Rattle.std.specs.Str.{bytes_eq}
 use Rattle.spec_syntax.specs.declared.trees.AttrTree.{AttrTree}

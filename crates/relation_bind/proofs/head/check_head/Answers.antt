@@ -1,4 +1,4 @@
-use Rattle.std.proofs.Common.{◌≡◌, ◌∙◌, inr, sym, subst, List, ℕ, Some, None}
+use Rattle.std.proofs.Common.{◌≡◌, ◌∙◌, inr, sym, subst, List, Some, None}
 use Rattle.spec_names.specs.Names.{place_of}
 use Rattle.spec_syntax.specs.declared.trees.AttrTree.{AttrTree}
 use Rattle.relation_bind.specs.Declarations.{Declared}
