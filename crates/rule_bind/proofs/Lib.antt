@@ -1,2 +1,5 @@
+mod AtPlace
+mod Due
+mod Fitting
 mod Places
 mod Walk

@@ -1,5 +1,5 @@
 -- Names that are found in a list, and names that are not.
-use Rattle.std.proofs.Common.{◌≡◌, ◌∙◌, ◌<◌, ◌≤◌, ◌⊎◌, ◌++◌, ◌∷◌, [], ℕ, Bool, true, false, List, length, get_or, Option, Some, None, Contains, slice_get, inl, inr, refl, ap, sym, arith}
+use Rattle.std.proofs.Common.{◌≡◌, ◌∙◌, ◌<◌, ◌≤◌, ◌⊎◌, ◌++◌, ◌∷◌, [], ℕ, Bool, true, false, List, length, get_or, Option, Some, None, Contains, slice_get, inl, inr, refl, sym, arith}
 use Rattle.std.proofs.lemmas.Bool.{cases_lt, lt-ltb, cond-true, true≢false}
 use Rattle.std.proofs.lemmas.List.Quantifiers.{position-Some}
 use Rattle.std.proofs.lemmas.List.Sums.{fails_before_first}
@@ -43,6 +43,13 @@ present names name place at = by_cases (place_of names name) refl
         let passes : bytes_eq name (get_or names place name) ≡ true =
         (bytes_eq-Decides name (get_or names place name)).1 (sym (get_or_from_slice_get names place name name at)) in
         absurd (true≢false (sym passes ∙ fails))
+
+-- a name that has no place is not in the list
+pub missing : (names : List (List ℕ)) (name : List ℕ) → place_of names name ≡ None → Contains names name → ⊥
+missing names name none (i, within, at) =
+    let fails = position_none (bytes_eq name) names none i name within in
+    let passes : bytes_eq name (get_or names i name) ≡ true = (bytes_eq-Decides name (get_or names i name)).1 (sym at) in
+    true≢false (sym passes ∙ fails)
 
 -- a new name is not taken, and is added
 pub free : (names : List (List ℕ)) (named : Named) → (Contains names named.name → ⊥) → taken names named ≡ None

@@ -32,7 +32,10 @@ fn mismatch(attrs: &NameIndex, relation: &Relation, tree: &PredicateTree) -> Opt
     match tree {
         PredicateTree::Order(_) => None,
         PredicateTree::Compare { left, right, .. } => {
-            let kinds = (term_kind(attrs, relation, left), term_kind(attrs, relation, right));
+            let kinds = (
+                term_kind(attrs, relation, left),
+                term_kind(attrs, relation, right),
+            );
             if !differ(kinds.0, kinds.1) {
                 return None;
             }

@@ -23,7 +23,11 @@ fn place_of(names: &NameIndex, named: &Named) -> Result<u32, BindFault>
 }
 
 /// The order atom that a tree says.
-fn atom_of(vars: &NameIndex, attrs: &NameIndex, tree: &OrderAtomTree) -> Result<OrderAtom, BindFault>
+fn atom_of(
+    vars: &NameIndex,
+    attrs: &NameIndex,
+    tree: &OrderAtomTree,
+) -> Result<OrderAtom, BindFault>
     requires vars { length vars.now < 4294967296 }
     requires attrs { length attrs.now < 4294967296 }
     ensures { result ≡ atom_of vars.now attrs.now tree.now }
