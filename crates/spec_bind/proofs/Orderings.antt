@@ -1,5 +1,5 @@
 -- An ordering gives pairs to one relation, which changes no limit.
-use Rattle.std.proofs.Common.{◌≡◌, ◌∙◌, ℕ, List, Option, Some, None, Result, Ok, Err, slice_get, slice_set, sym, ap, subst, refl, map}
+use Rattle.std.proofs.Common.{◌≡◌, ◌∙◌, ℕ, List, Option, Some, None, Result, Ok, Err, slice_get, slice_set, sym, ap, refl, map}
 use Rattle.std.specs.Prelude.{fold}
 use Rattle.std.specs.BTreeSet.{insert_key}
 use Rattle.currency_base.specs.declared.error_code.ErrorCode.TheVariants.{UnknownName}

@@ -1,5 +1,5 @@
 -- A rule reads nothing.
-use Rattle.std.proofs.Common.{◌≡◌, ◌∙◌, ◌++◌, ℕ, Bool, true, false, List, [], ◌∷◌, length, map, Option, Some, None, option_map, Result, Ok, Err, slice_get, if◌then◌else◌, sym, ap, refl}
+use Rattle.std.proofs.Common.{ℕ, Bool, true, false, List, [], ◌∷◌, map, Option, Some, None, option_map, Result, Ok, Err, slice_get, if◌then◌else◌}
 use Rattle.currency_base.specs.declared.error_code.ErrorCode.TheVariants.{UnknownName, DuplicateName}
 use Rattle.currency_base.specs.declared.value.Kind.{Kind}
 use Rattle.text_grammar.specs.declared.named.Named.{Named}
@@ -14,12 +14,11 @@ use Rattle.rule_syntax.specs.declared.trees.ConclusionTree.TheVariants as conclu
 use Rattle.bind_faults.specs.Faults.{refused_at, found_or, and_then, unless, or_else, all_of, first_of, IsDue, IsReadFault}
 use Rattle.bind_faults.specs.declared.fault.BindFault.{BindFault}
 use Rattle.bind_faults.specs.declared.fault.BindFault.TheVariants.{Refused, Limit, ReadFault, NoMemory}
-use Rattle.denial_rules.specs.declared.rule.Rule.{Rule}
 use Rattle.spec_model.specs.Spec.{Spec}
 use Rattle.spec_model.specs.Facts.{kinds_of}
 use Rattle.spec_model.specs.declared.relation.Relation.{Relation}
 use Rattle.spec_names.specs.Names.{place_of}
-use Rattle.rule_bind.specs.Ruled.{named_in, atom_of, operand_of, predicate_of, conclusion_of, taken, repeated, differ, term_kind, mismatch, names_of_attrs, names_of_vars, refused_later, rule_of, ruled_on, ruled_at, ruled}
+use Rattle.rule_bind.specs.Ruled.{named_in, atom_of, operand_of, predicate_of, conclusion_of, taken, repeated, differ, term_kind, mismatch, with_name, names_of_attrs, names_of_vars, refused_later, rule_of, ruled_on, ruled_at, ruled}
 use Rattle.spec_bind.proofs.Dues.{same_fault}
 
 -- no fault of reading
@@ -85,7 +84,7 @@ taken_refuses names named = place_refuses (place_of names named.name) named
 repeated_refuses : (before : List (List ℕ)) (named : List Named) → Refuses (repeated before named)
 repeated_refuses before [] = tt
 repeated_refuses before (n ∷ named) =
-    else_refuses (taken before n) (repeated (before ++ n.name ∷ []) named) (taken_refuses before n) (repeated_refuses (before ++ n.name ∷ []) named)
+    else_refuses (taken before n) (repeated (with_name before n.name) named) (taken_refuses before n) (repeated_refuses (with_name before n.name) named)
 
 test_refuses : (b : Bool) (fault : BindFault) → (IsReadFault {A = Spec} (Err fault) → ⊥) → Refuses (if b then Some fault else None)
 test_refuses true fault none = none
@@ -100,22 +99,22 @@ first_refuses : {A : Type 0} (f : A → Option BindFault) (xs : List A) → ((x 
 first_refuses f [] each = tt
 first_refuses f (x ∷ xs) each = else_refuses (f x) (first_of f xs) (each x) (first_refuses f xs each)
 
-later_refuses : (rules : List Rule) (r : Relation) (tree : RuleTree) → Refuses (refused_later rules r tree)
+later_refuses : (rules : List (List ℕ)) (r : Relation) (tree : RuleTree) → Refuses (refused_later rules r tree)
 later_refuses rules r tree =
-    else_refuses (taken (map (λ rule. rule.name) rules) tree.name) _ (taken_refuses (map (λ rule. rule.name) rules) tree.name)
+    else_refuses (taken rules tree.name) _ (taken_refuses rules tree.name)
     (else_refuses (repeated [] tree.vars) _ (repeated_refuses [] tree.vars)
     (first_refuses (mismatch (names_of_attrs r) (kinds_of r)) tree.predicates (mismatch_refuses (names_of_attrs r) (kinds_of r))))
 
-ruled_on_reads : (rules : List Rule) (rel : ℕ) (r : Relation) (tree : RuleTree) → Reads (ruled_on rules rel r tree)
+ruled_on_reads : (rules : List (List ℕ)) (rel : ℕ) (r : Relation) (tree : RuleTree) → Reads (ruled_on rules rel r tree)
 unfolding ruled_on
 ruled_on_reads rules rel r tree h =
-    then_reads (all_of (predicate_of (names_of_vars tree.vars) (names_of_attrs r)) tree.predicates) _
-    (all_reads (predicate_of (names_of_vars tree.vars) (names_of_attrs r)) tree.predicates (predicate_reads (names_of_vars tree.vars) (names_of_attrs r)))
-    (λ predicates. then_reads (conclusion_of (names_of_vars tree.vars) (names_of_attrs r) tree.conclusion) _
-    (conclusion_reads (names_of_vars tree.vars) (names_of_attrs r) tree.conclusion)
+    then_reads (all_of (predicate_of (names_of_vars [] tree.vars) (names_of_attrs r)) tree.predicates) _
+    (all_reads (predicate_of (names_of_vars [] tree.vars) (names_of_attrs r)) tree.predicates (predicate_reads (names_of_vars [] tree.vars) (names_of_attrs r)))
+    (λ predicates. then_reads (conclusion_of (names_of_vars [] tree.vars) (names_of_attrs r) tree.conclusion) _
+    (conclusion_reads (names_of_vars [] tree.vars) (names_of_attrs r) tree.conclusion)
     (λ conclusion. unless_reads (refused_later rules r tree) (rule_of tree rel predicates conclusion) (later_refuses rules r tree))) h
 
-ruled_at_reads : (rules : List Rule) (rel : ℕ) (r : Option Relation) (tree : RuleTree) → Reads (ruled_at rules rel r tree)
+ruled_at_reads : (rules : List (List ℕ)) (rel : ℕ) (r : Option Relation) (tree : RuleTree) → Reads (ruled_at rules rel r tree)
 ruled_at_reads rules rel None tree h = h
 ruled_at_reads rules rel (Some r) tree h = ruled_on_reads rules rel r tree h
 
@@ -123,7 +122,7 @@ ruled_reads : (s : Spec) (tree : RuleTree) → Reads (ruled s tree)
 unfolding ruled
 ruled_reads s tree h =
     then_reads (named_in (map (λ r. r.name) s.relations) tree.relation) _ (named_reads (map (λ r. r.name) s.relations) tree.relation)
-    (λ rel. ruled_at_reads s.rules rel (slice_get s.relations rel) tree) h
+    (λ rel. ruled_at_reads (map (λ rule. rule.name) s.rules) rel (slice_get s.relations rel) tree) h
 
 -- a fault of a rule is none of reading
 pub rule_reads : (s : Spec) (tree : RuleTree) (fault : BindFault) → IsDue (ruled s tree) (Err fault) → IsReadFault {A = Spec} (Err fault) → ⊥

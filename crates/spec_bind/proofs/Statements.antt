@@ -1,5 +1,5 @@
 -- What statements make one after another, where the shelf tells its documents.
-use Rattle.std.proofs.Common.{◌≡◌, ◌+◌, ◌<◌, ◌≤◌, ℕ, List, [], ◌∷◌, length, drop, get_or, Option, Some, None, Result, Ok, Err, IfSome, inl, inr, sym, subst, refl}
+use Rattle.std.proofs.Common.{◌≡◌, ◌+◌, ◌<◌, ◌≤◌, ℕ, List, ◌∷◌, length, drop, get_or, Option, Some, None, Result, Ok, Err, IfSome, inl, inr, sym, subst, refl}
 use Rattle.std.proofs.lemmas.List.{at_drop_all}
 use Rattle.bind_faults.specs.Faults.{IsDue, IsSettled, IsReadFaultOf}
 use Rattle.bind_faults.specs.declared.fault.BindFault.{BindFault}

@@ -1,5 +1,5 @@
-use Rattle.std.proofs.Common.{arith, subst, sym}
-use Rattle.spec_model.specs.Facts.{IsRelation, IsSpecification}
+use Rattle.std.proofs.Common.{arith, subst}
+use Rattle.spec_model.specs.Facts.{IsSpecification}
 use Rattle.spec_bind.proofs.Within.{room, relation_follows}
 use Rattle.spec_bind.proofs.relation.with_relation.Goals as goal
 
