@@ -1,9 +1,8 @@
-pub mod Places
-pub mod Heads
-pub mod Tables
 pub mod Longer
-pub mod OrderFaults
-pub mod Binding
+pub mod Within
 pub mod OneOutcome
-pub mod OrderLemmas
-pub mod OrderPairs
+pub mod Dues
+pub mod Steps
+pub mod Statements
+pub mod Orderings
+pub mod Rulings

@@ -1,55 +1,55 @@
--- Documents and statements have one outcome, where a text has one list of records.
-use Rattle.std.proofs.Common.{◌≡◌, ◌∙◌, ℕ, List, [], ◌∷◌, Option, Some, None, Result, Ok, Err, MatchOption, MatchResult, inl, inr, sym, ap, subst, arith}
-use Rattle.currency_csv.specs.Table.{AreRecordsOf, table_of}
-use Rattle.table_rows.specs.declared.rows.TableRows.{TableRows}
+-- Documents and statements have one outcome, where documents and a declaration have one.
+use Rattle.std.proofs.Common.{◌≡◌, ◌∙◌, ℕ, List, [], ◌∷◌, Result, Ok, Err, MatchResult, sym, ap, subst}
+use Rattle.spec_model.specs.Spec.{Spec}
 use Rattle.spec_model.specs.declared.relation.Relation.{Relation}
+use Rattle.spec_syntax.specs.declared.trees.SpecTree.{SpecTree}
 use Rattle.spec_syntax.specs.declared.trees.StatementTree.{StatementTree}
 use Rattle.spec_syntax.specs.declared.trees.StatementTree.TheVariants as statement
-use Rattle.spec_bind.specs.Bound.{IsTable, IsDeclaration, IsStep, IsBound}
-use Rattle.spec_bind.specs.Declarations.{Declared}
-use Rattle.spec_bind.specs.Relations.{columns_of, declared_with, head_fault, rows_read}
-use Rattle.spec_bind.specs.declared.fault.BindFault.{BindFault}
+use Rattle.bind_faults.specs.Faults.{and_then}
+use Rattle.bind_faults.specs.declared.fault.BindFault.{BindFault}
+use Rattle.relation_bind.specs.Declarations.{Declared}
+use Rattle.relation_bind.specs.Relations.{IsDeclared}
+use Rattle.spec_bind.specs.Bound.{IsMade, IsStep, IsBound, IsSpecBound, limited, limited_at_last, nothing, relation_names, with_relation}
 
--- each text has one list of records
-abbrev pub OneList : Type 0
-OneList = (bytes : List ℕ) (a b : List (List (List ℕ))) → AreRecordsOf bytes a → AreRecordsOf bytes b → a ≡ b
+-- documents and a declaration have one outcome
+abbrev pub OneDeclaration : Type 0
+OneDeclaration = (told : List (List ℕ × List ℕ)) (taken : List (List ℕ)) (d : Declared) (a b : Result Relation BindFault)
+    → IsDeclared told taken d a → IsDeclared told taken d b → a ≡ b
 
--- a table gives one answer
-one_table : OneList → (told : List (List ℕ × List ℕ)) (d : Declared) (a b : Result TableRows BindFault) → IsTable told d a → IsTable told d b → a ≡ b
-unfolding IsTable
-one_table one told d a b (inl x) (inl y) = x.1 ∙ sym y.1
-one_table one told d a b (inl x) (inr y) = absurd (omega (arith, x.0, y.0))
-one_table one told d a b (inr x) (inl y) = absurd (omega (arith, x.0, y.0))
-one_table one told d a b (inr x) (inr y) =
-    x.3 ∙ ap (λ records. rows_read d (table_of (columns_of d) records)) (one _ x.1 y.1 x.2 y.2) ∙ sym y.3
-
--- a declaration gives one answer
-one_declaration : OneList → (told : List (List ℕ × List ℕ)) (done : List Relation) (d : Declared) (fault : Option BindFault) (a b : Result (List Relation) BindFault)
-    → MatchOption fault (IsDeclaration told done d a) (λ f. a ≡ Err f) → MatchOption fault (IsDeclaration told done d b) (λ f. b ≡ Err f) → a ≡ b
-one_declaration one told done d None a b x y = x.2 ∙ ap (declared_with done d) (one_table one told d x.0 y.0 x.1 y.1) ∙ sym y.2
-one_declaration one told done d (Some fault) a b x y = x ∙ sym y
-
--- a statement gives one answer
-one_step : OneList → (told : List (List ℕ × List ℕ)) (done : List Relation) (s : StatementTree) (a b : Result (List Relation) BindFault)
-    → IsStep told done s a → IsStep told done s b → a ≡ b
-one_step one told done (statement.Relation name doc row entity attrs) a b x y =
+-- a statement makes one thing
+one_made : OneDeclaration → (told : List (List ℕ × List ℕ)) (done : Spec) (s : StatementTree) (a b : Result Spec BindFault)
+    → IsMade told done s a → IsMade told done s b → a ≡ b
+one_made one told done (statement.Relation name doc row entity attrs) a b x y =
     let d : Declared = record { name = name; document = doc; row = row; entity = entity; attrs = attrs } in
-    one_declaration one told done d (head_fault done d) a b x y
-one_step one told done (statement.Order o) a b x y = x ∙ sym y
+    x.2 ∙ ap (λ (r : Result Relation BindFault). and_then r (λ made. Ok (with_relation done made))) (one told (relation_names done) d x.0 y.0 x.1 y.1) ∙ sym y.2
+one_made one told done (statement.Order o) a b x y = x ∙ sym y
+one_made one told done (statement.Rule t) a b x y = x ∙ sym y
+
+-- and so it is one step
+one_step : OneDeclaration → (told : List (List ℕ × List ℕ)) (done : Spec) (s : StatementTree) (a b : Result Spec BindFault)
+    → IsStep told done s a → IsStep told done s b → a ≡ b
+one_step one told done s a b x y =
+    x.2 ∙ ap (λ (made : Result Spec BindFault). and_then made limited) (one_made one told done s x.0 y.0 x.1 y.1) ∙ sym y.2
 
 -- what follows a step gives one answer, if the rest does
-one_further : (told : List (List ℕ × List ℕ)) (rest : List StatementTree) (a b : Result (List Relation) BindFault)
-    → ((next : List Relation) → IsBound told next rest a → IsBound told next rest b → a ≡ b) → (step : Result (List Relation) BindFault)
+one_further : (told : List (List ℕ × List ℕ)) (rest : List StatementTree) (a b : Result Spec BindFault)
+    → ((next : Spec) → IsBound told next rest a → IsBound told next rest b → a ≡ b) → (step : Result Spec BindFault)
     → MatchResult step (λ next. IsBound told next rest a) (λ fault. a ≡ Err fault)
     → MatchResult step (λ next. IsBound told next rest b) (λ fault. b ≡ Err fault) → a ≡ b
 one_further told rest a b later (Ok next) x y = later next x y
 one_further told rest a b later (Err fault) x y = x ∙ sym y
 
 -- statements give one answer
-pub one_bound : OneList → (told : List (List ℕ × List ℕ)) (done : List Relation) (statements : List StatementTree) (a b : Result (List Relation) BindFault)
+one_bound : OneDeclaration → (told : List (List ℕ × List ℕ)) (done : Spec) (statements : List StatementTree) (a b : Result Spec BindFault)
     → IsBound told done statements a → IsBound told done statements b → a ≡ b
 one_bound one told done [] a b x y = x ∙ sym y
 one_bound one told done (s ∷ rest) a b x y =
     let same = one_step one told done s x.0 y.0 x.1 y.1 in
     one_further told rest a b (λ next. one_bound one told next rest a b) y.0
-    (subst (λ (step : Result (List Relation) BindFault). MatchResult step (λ next. IsBound told next rest a) (λ fault. a ≡ Err fault)) same x.2) y.2
+    (subst (λ (step : Result Spec BindFault). MatchResult step (λ next. IsBound told next rest a) (λ fault. a ≡ Err fault)) same x.2) y.2
+
+-- and a tree
+pub one_tree : OneDeclaration → (told : List (List ℕ × List ℕ)) (tree : SpecTree) (a b : Result Spec BindFault)
+    → IsSpecBound told tree a → IsSpecBound told tree b → a ≡ b
+one_tree one told tree a b x y =
+    x.2 ∙ ap (λ (bound : Result Spec BindFault). and_then bound limited_at_last) (one_bound one told nothing tree.statements x.0 y.0 x.1 y.1) ∙ sym y.2

@@ -1,8 +1,4 @@
-pub mod Orders
-pub mod Declarations
-pub mod Relations
 pub mod Bound
-pub mod Steps
+pub mod Known
 pub use Rattle.currency_edge.specs.Shelf
 pub use Rattle.currency_edge.specs.Fault
-pub use Rattle.currency_csv.specs.Table

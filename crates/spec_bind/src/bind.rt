@@ -1,17 +1,22 @@
-ghost use Rattle.std.specs.Prelude.{◌≡◌, ◌≤◌, [], IfSome};
+ghost use Rattle.std.specs.Prelude.{◌≡◌, ◌≤◌, ℕ, List, None, IfOk, IfSome};
 ghost use Rattle.currency_edge.specs.Fault.{Rose};
-ghost use Rattle.spec_bind.specs.Bound.{IsBound, IsSettled, IsReadFault};
+ghost use Rattle.bind_faults.specs.Faults.{IsDue, IsSettled, IsReadFault, IsReadFaultOf};
+ghost use Rattle.spec_limits.specs.Limits.{too_many_variables};
+ghost use Rattle.spec_bind.specs.Bound.{IsSpecBound, IsWithinLimits, TableDue, limited_at_last, nothing};
 
-use crate::BindFault;
 use crate::bound::Bound;
-use crate::relation::bind_statement;
+use crate::statement::bind_statement;
+use bind_faults::BindFault;
+use currency_base::NoMemory;
 use currency_edge::Shelf;
+use spec_limits::limit_of_variables;
 use spec_model::Specification;
 use spec_syntax::SpecTree;
 use std::alloc::Global;
 
 /// The specification that the statements say, with the tables that they name. Statements are bound in
-/// the order of the text, each whole before the next; the first check that fails is the answer.
+/// the order of the text, each whole before the next, and then within limits 4 to 8; limit 10 comes
+/// after all of them. The first check that fails is the answer.
 pub fn bind_spec<S: Shelf>(
     alloc: Global,
     tree: &SpecTree,
@@ -20,8 +25,11 @@ pub fn bind_spec<S: Shelf>(
     ensures kept { S.texts shelf.new ≡ S.texts shelf.old }
     ensures later { S.faults shelf.old ≤ S.faults shelf.new }
     ensures bound { IsSettled result
-        → IfSome (S.texts shelf.old) (λ told. IsBound told [] tree.now.statements result) }
+        → IfSome (S.texts shelf.old) (λ told. IsSpecBound told tree.now result) }
     ensures read_fault { IsReadFault result → Rose (S.faults shelf.old) (S.faults shelf.new) }
+    ensures table_due { (name : List ℕ) → IsReadFaultOf result name
+        → IfSome (S.texts shelf.old) (λ told. TableDue told nothing tree.now.statements name) }
+    ensures within { IfOk result IsWithinLimits }
 {
     let mut bound = Bound::new(alloc);
     for statement in tree.statements.as_slice() {
@@ -30,5 +38,18 @@ pub fn bind_spec<S: Shelf>(
             Err(fault) => return Err(fault),
         };
     }
-    Ok(bound.spec)
+    within_variables(alloc, bound)
+}
+
+/// The specification that is bound, unless the variables of its orders are too many.
+fn within_variables(alloc: Global, bound: Bound) -> Result<Specification, BindFault>
+    ensures due { IsDue (limited_at_last bound) result }
+    ensures reads { IsReadFault result → ⊥ }
+    ensures within { IfOk result IsWithinLimits }
+{
+    match limit_of_variables(alloc, &bound.spec) {
+        Ok(None) => Ok(bound.spec),
+        Ok(Some(limit)) => Err(BindFault::Limit(limit)),
+        Err(NoMemory) => Err(BindFault::NoMemory),
+    }
 }

@@ -1,16 +1,15 @@
 ghost use Rattle.std.specs.Prelude.{◌≡◌, ℕ, List, Result};
-ghost use Rattle.spec_model.specs.declared.relation.Relation.{Relation};
-ghost use Rattle.spec_syntax.specs.declared.trees.StatementTree.{StatementTree};
-ghost use Rattle.spec_bind.specs.Bound.{IsBound};
-ghost use Rattle.spec_bind.specs.declared.fault.BindFault.{BindFault};
+ghost use Rattle.spec_model.specs.Spec.{Spec};
+ghost use Rattle.spec_syntax.specs.declared.trees.SpecTree.{SpecTree};
+ghost use Rattle.bind_faults.specs.declared.fault.BindFault.{BindFault};
+ghost use Rattle.spec_bind.specs.Bound.{IsSpecBound};
 
-use currency_csv::one_list_of_records;
+use relation_bind::one_declaration;
 
-/// A law: documents and statements have one outcome at most, whatever was declared before them.
+/// A law: documents and a tree have one outcome at most.
 pub fn one_outcome()
-    ensures { (told : List (List ℕ × List ℕ)) (done : List Relation) (statements : List StatementTree)
-        (a b : Result (List Relation) BindFault)
-        → IsBound told done statements a → IsBound told done statements b → a ≡ b }
+    ensures { (told : List (List ℕ × List ℕ)) (tree : SpecTree) (a b : Result Spec BindFault)
+        → IsSpecBound told tree a → IsSpecBound told tree b → a ≡ b }
 {
-    one_list_of_records();
+    one_declaration();
 }

@@ -3,14 +3,12 @@
 
 mod bind;
 mod bound;
-mod declaration;
-mod fault;
-mod head;
 mod laws;
 mod order;
 mod relation;
-mod table;
+mod rule;
+mod statement;
 
 pub use bind::bind_spec;
-pub use fault::{BindFault, Refusal};
+pub use bind_faults::{BindFault, Refusal};
 pub use laws::one_outcome;

@@ -1,24 +1,28 @@
-//! Binding of `order` statements.
+ghost use Rattle.bind_faults.specs.Faults.{and_then, IsDue, IsReadFault};
+ghost use Rattle.spec_bind.specs.Bound.{after_order, limited};
 
-mod add;
-mod resolve;
-
-ghost use Rattle.spec_bind.specs.Steps.{Steps};
-ghost use Rattle.spec_bind.specs.Orders.{ordered};
-
-use crate::BindFault;
 use crate::bound::Bound;
-use add::add_order;
+use bind_faults::BindFault;
+use order_bind::bind_order;
 use spec_syntax::OrderingTree;
 use std::alloc::Global;
 
-/// Binds an `order` statement.
-pub fn bind_order(
+/// Binds an ordering. More given pairs exceed no limit.
+pub fn bind_ordering(
     alloc: Global,
-    bound: &mut Bound,
+    bound: Bound,
     ordering: &OrderingTree,
-) -> Result<(), BindFault>
-    ensures { Steps bound.new (ordered bound.old ordering.now) result }
+) -> Result<Bound, BindFault>
+    ensures due { IsDue (and_then (after_order bound ordering.now) limited) result }
+    ensures reads { IsReadFault result → ⊥ }
 {
-    add_order(alloc, &bound.names, &mut bound.spec, ordering)
+    let Bound {
+        mut spec,
+        names,
+        rows,
+    } = bound;
+    match bind_order(alloc, &names, &mut spec, ordering) {
+        Ok(()) => Ok(Bound { spec, names, rows }),
+        Err(fault) => Err(fault),
+    }
 }

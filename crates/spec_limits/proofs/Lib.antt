@@ -1,4 +1,4 @@
-mod Chain
+pub mod Chain
 mod Tally
 mod Bounds
 pub mod GivenPairs

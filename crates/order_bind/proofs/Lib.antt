@@ -1,0 +1,3 @@
+pub mod OrderFaults
+pub mod OrderLemmas
+pub mod OrderPairs

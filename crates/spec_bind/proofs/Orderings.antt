@@ -1,0 +1,78 @@
+-- An ordering gives pairs to one relation, which changes no limit.
+use Rattle.std.proofs.Common.{◌≡◌, ◌∙◌, ℕ, List, Option, Some, None, Result, Ok, Err, slice_get, slice_set, sym, ap, refl, map}
+use Rattle.std.specs.Prelude.{fold}
+use Rattle.std.specs.BTreeSet.{insert_key}
+use Rattle.currency_base.specs.declared.error_code.ErrorCode.TheVariants.{UnknownName}
+use Rattle.currency_base.specs.declared.pair.Pair.{Pair}
+use Rattle.partial_orders.specs.Pairs.{pair_cmp}
+use Rattle.bind_faults.specs.Faults.{and_then, found_or, refused_at, IsDue}
+use Rattle.bind_faults.specs.declared.fault.BindFault.{BindFault}
+use Rattle.spec_model.specs.Spec.{Spec}
+use Rattle.spec_model.specs.declared.relation.Relation.{Relation}
+use Rattle.spec_names.specs.NameLists.{NameLists}
+use Rattle.spec_names.specs.Names.{place_of, all_names_of}
+use Rattle.spec_syntax.specs.declared.trees.OrderingTree.{OrderingTree}
+use Rattle.order_bind.specs.Orders.{giving_pairs, ordered, ordered_at, ordered_pairs}
+use Rattle.spec_limits.specs.Limits.{exceeded, rows_together}
+use Rattle.spec_limits.proofs.GivenPairs.{exceeded_given, rows_together_given}
+use Rattle.spec_bind.specs.Bound.{after_order, limited, unless_above}
+use Rattle.spec_bind.specs.Known.{IsKnown}
+
+-- new is old with other given pairs at one of its relations
+record Gives (old new : List Relation) : Type 0 where
+  rel : ℕ
+  r : Relation
+  given : List Pair
+  there : slice_get old rel ≡ Some r
+  is : new ≡ slice_set old rel (record r { given = given })
+
+gives_pairs : (done new : List Relation) (rel : ℕ) (r : Relation) (pairs : Result (List Pair) BindFault) → slice_get done rel ≡ Some r
+    → giving_pairs done rel r pairs ≡ Ok new → Gives done new
+gives_pairs done new rel r (Err fault) there e = absurd (cc)
+gives_pairs done new rel r (Ok pairs) there e =
+    record { rel = rel; r = r; given = fold (insert_key pair_cmp) r.given pairs; there = there; is = cc }
+
+gives_at : (done new : List Relation) (o : OrderingTree) (rel : ℕ) (r : Option Relation) → slice_get done rel ≡ r → ordered_at done o rel r ≡ Ok new → Gives done new
+gives_at done new o rel None there e = absurd (cc)
+gives_at done new o rel (Some r) there e = gives_pairs done new rel r (ordered_pairs r o) there e
+
+gives_found : (done new : List Relation) (o : OrderingTree) (place : Option ℕ)
+    → found_or place (refused_at UnknownName o.relation) (λ rel. ordered_at done o rel (slice_get done rel)) ≡ Ok new → Gives done new
+gives_found done new o None e = absurd (cc)
+gives_found done new o (Some rel) e = gives_at done new o rel (slice_get done rel) refl e
+
+ordered_gives : (done new : List Relation) (o : OrderingTree) → ordered done o ≡ Ok new → Gives done new
+unfolding ordered
+ordered_gives done new o e = gives_found done new o (place_of (map (λ r. r.name) done) o.relation.name) e
+
+-- the specification with these relations
+same_rules : (old new : Spec) → new.rules ≡ old.rules → record old { relations = new.relations } ≡ new
+same_rules old new rules =
+    let at : ◌≡◌ {A = Spec} (record { relations = new.relations; rules = old.rules }) (record { relations = new.relations; rules = new.rules }) = cc in
+    at
+
+-- it exceeds no limit
+pub ordered_within : (old new : Spec) (o : OrderingTree) → ordered old.relations o ≡ Ok new.relations → new.rules ≡ old.rules
+    → exceeded old ≡ None → exceeded new ≡ None
+ordered_within old new o e rules within =
+    let g = ordered_gives old.relations new.relations o e in
+    ap exceeded (sym (same_rules old new rules)) ∙ ap (λ (rs : List Relation). exceeded (record old { relations = rs })) g.is
+    ∙ exceeded_given old g.rel g.r g.given g.there ∙ within
+
+-- what is known of it
+pub ordered_known : (old new : Spec) (o : OrderingTree) (names : NameLists) (rows : ℕ) → ordered old.relations o ≡ Ok new.relations → new.rules ≡ old.rules
+    → all_names_of new ≡ all_names_of old → IsKnown old names rows → IsKnown new names rows
+ordered_known old new o names rows e rules same known =
+    let g = ordered_gives old.relations new.relations o e in
+    record {
+      names_are = known.names_are ∙ sym same;
+      rows_are = known.rows_are ∙ sym (ap rows_together g.is ∙ rows_together_given old.relations g.rel g.r g.given g.there);
+      within = ordered_within old new o e rules known.within;
+    }
+
+-- it is what is due
+pub ordered_due : (old new : Spec) (o : OrderingTree) → ordered old.relations o ≡ Ok new.relations → new.rules ≡ old.rules
+    → exceeded old ≡ None → IsDue (and_then (after_order old o) limited) (Ok new)
+ordered_due old new o e rules within =
+    ap (λ (r : Result (List Relation) BindFault). and_then (and_then r (λ relations. Ok (record old { relations = relations }))) limited) e
+    ∙ ap limited (same_rules old new rules) ∙ ap (λ k. unless_above k new) (ordered_within old new o e rules within)

@@ -1,0 +1,50 @@
+ghost use Rattle.std.specs.Prelude.{◌≡◌, ◌≤◌, ℕ, List, IfSome};
+ghost use Rattle.currency_edge.specs.Fault.{Rose};
+ghost use Rattle.bind_faults.specs.Faults.{IsSettled, IsReadFault, IsReadFaultOf};
+ghost use Rattle.spec_bind.specs.Bound.{IsStep, ReadsTableOf};
+
+use crate::bound::Bound;
+use crate::order::bind_ordering;
+use crate::relation::bind_declaration;
+use crate::rule::bind_ruling;
+use bind_faults::BindFault;
+use currency_edge::Shelf;
+use relation_bind::Declaration;
+use spec_syntax::StatementTree;
+use std::alloc::Global;
+
+/// Binds a statement, a `relation` with its table.
+pub fn bind_statement<S: Shelf>(
+    alloc: Global,
+    bound: Bound,
+    statement: &StatementTree,
+    shelf: &mut S,
+) -> Result<Bound, BindFault>
+    ensures kept { S.texts shelf.new ≡ S.texts shelf.old }
+    ensures later { S.faults shelf.old ≤ S.faults shelf.new }
+    ensures step { IsSettled result
+        → IfSome (S.texts shelf.old) (λ told. IsStep told bound statement.now result) }
+    ensures read_fault { IsReadFault result → Rose (S.faults shelf.old) (S.faults shelf.new) }
+    ensures table { (name : List ℕ) → IsReadFaultOf result name → ReadsTableOf bound statement.now name }
+{
+    match statement {
+        StatementTree::Relation {
+            name,
+            document,
+            row,
+            entity,
+            attrs,
+        } => {
+            let declaration = Declaration {
+                name,
+                document,
+                row,
+                entity,
+                attrs,
+            };
+            bind_declaration(alloc, bound, &declaration, shelf)
+        }
+        StatementTree::Order(ordering) => bind_ordering(alloc, bound, ordering),
+        StatementTree::Rule(rule) => bind_ruling(alloc, bound, rule),
+    }
+}
