@@ -5,7 +5,7 @@ use Rattle.spec_model.specs.Completion.{Rankings}
 use Rattle.spec_model.specs.Consistent.{IsConsistent, IsSatisfiable}
 use Rattle.spec_model.specs.declared.question.Question.{Question}
 use Rattle.spec_model.specs.declared.question.Question.TheVariants as asked
-use Rattle.spec_model.specs.declared.relation.Relation.{Relation}
+use Rattle.spec_model.specs.Spec.{Spec}
 use Rattle.currency_report.specs.declared.report.ReadReport.{ReadReport}
 use Rattle.currency_report.specs.declared.report.Verdict.{Verdict}
 use Rattle.currency_report.specs.declared.report.Verdict.TheVariants as verdict
@@ -17,46 +17,46 @@ use Rattle.currency_cli.specs.declared.trouble.Trouble.{Trouble}
 use Rattle.currency_cli.specs.declared.trouble.Trouble.TheVariants as trouble
 
 -- a listed completion that is consistent
-listed : (relations : List Relation) (q : Question) (v : Verdict) (completions : List Rankings)
-    → All (IsConsistent relations) completions → IsSupported q v completions → IsSatisfiable relations
-listed relations asked.Consistent verdict.Consistent completions all some =
-    (get_or completions 0 [], All-get_or (IsConsistent relations) completions 0 [] some all)
+listed : (s : Spec) (q : Question) (v : Verdict) (completions : List Rankings)
+    → All (IsConsistent s) completions → IsSupported q v completions → IsSatisfiable s
+listed s asked.Consistent verdict.Consistent completions all some =
+    (get_or completions 0 [], All-get_or (IsConsistent s) completions 0 [] some all)
 
 -- the job of a report
-judged : (relations : List Relation) (q : Question) (name : List ℕ) (r : ReadReport) → IsJudged relations q name r (Ok tt) → IsSatisfiable relations
-judged relations q name r (inl shown) =
-    listed relations q r.report.verdict r.report.completions shown.0.consistent shown.0.supported
-judged relations q name r (inr unshown) = absurd (let no : ⊥ = cc unshown.3 in no)
+judged : (s : Spec) (q : Question) (name : List ℕ) (r : ReadReport) → IsJudged s q name r (Ok tt) → IsSatisfiable s
+judged s q name r (inl shown) =
+    listed s q r.report.verdict r.report.completions shown.0.consistent shown.0.supported
+judged s q name r (inr unshown) = absurd (let no : ⊥ = cc unshown.3 in no)
 
 -- what is due where the job is done
 abbrev done : Result (Unit {0}) Trouble
 done = Ok tt
 
 -- after the report
-reported : (relations : List Relation) (q : Question) (name : List ℕ) (r : Result ReadReport Trouble)
-    → MatchResult r (λ read. IsJudged relations q name read done) (λ e. done ≡ Err e) → IsSatisfiable relations
-reported relations q name (Ok read) h = judged relations q name read h
-reported relations q name (Err e) h = absurd (let no : ⊥ = cc h in no)
+reported : (s : Spec) (q : Question) (name : List ℕ) (r : Result ReadReport Trouble)
+    → MatchResult r (λ read. IsJudged s q name read done) (λ e. done ≡ Err e) → IsSatisfiable s
+reported s q name (Ok read) h = judged s q name read h
+reported s q name (Err e) h = absurd (let no : ⊥ = cc h in no)
 
 -- after the question
-asked_for : (told : List (List ℕ × List ℕ)) (relations : List Relation) (name : List ℕ) (q : Result Question Trouble)
-    → MatchResult q (λ question. Then (IsReportRead told relations name) (IsJudged relations question name) done) (λ e. done ≡ Err e)
-    → IsSatisfiable relations
-asked_for told relations name (Ok question) h = reported relations question name h.0 h.2
-asked_for told relations name (Err e) h = absurd (let no : ⊥ = cc h in no)
+asked_for : (told : List (List ℕ × List ℕ)) (s : Spec) (name : List ℕ) (q : Result Question Trouble)
+    → MatchResult q (λ question. Then (IsReportRead told s.relations name) (IsJudged s question name) done) (λ e. done ≡ Err e)
+    → IsSatisfiable s
+asked_for told s name (Ok question) h = reported s question name h.0 h.2
+asked_for told s name (Err e) h = absurd (let no : ⊥ = cc h in no)
 
 -- after the specification
 found : (told : List (List ℕ × List ℕ)) (words : List (List ℕ)) (d : Documents) → documents_in words ≡ Some d
-    → (s : Result (List Relation) Trouble) → IsSpecRead told d.spec s
-    → MatchResult s (λ relations. Then (IsQuestionRead told d.question) (λ question.
-    Then (IsReportRead told relations d.report) (IsJudged relations question d.report)) done) (λ e. done ≡ Err e)
+    → (r : Result Spec Trouble) → IsSpecRead told d.spec r
+    → MatchResult r (λ s. Then (IsQuestionRead told d.question) (λ question.
+    Then (IsReportRead told s.relations d.report) (IsJudged s question d.report)) done) (λ e. done ≡ Err e)
     → NamesConsistent told words
-found told words d named (Ok relations) read h = record {
+found told words d named (Ok s) read h = record {
   documents = d;
   named = named;
-  relations = relations;
+  said = s;
   read = read;
-  satisfiable = asked_for told relations d.report h.0 h.2;
+  satisfiable = asked_for told s d.report h.0 h.2;
 }
 found told words d named (Err e) read h = absurd (let no : ⊥ = cc h in no)
 

@@ -10,8 +10,9 @@ use Rattle.report_syntax.specs.Reads.{ReadsReportText, RefusesReportText}
 use Rattle.report_syntax.specs.declared.tree.ReportTree.{ReportTree}
 use Rattle.spec_model.specs.declared.question.Question.{Question}
 use Rattle.spec_model.specs.declared.relation.Relation.{Relation}
-use Rattle.spec_bind.specs.Bound.{IsBound}
-use Rattle.spec_bind.specs.declared.fault.BindFault.{BindFault}
+use Rattle.spec_model.specs.Spec.{Spec}
+use Rattle.spec_bind.specs.Bound.{IsSpecBound as IsBound}
+use Rattle.bind_faults.specs.declared.fault.BindFault.{BindFault}
 use Rattle.currency_report.specs.Reads.{ReadsReport, RefusesReport, fault_of, said}
 use Rattle.currency_report.specs.declared.report.Part.{Part}
 use Rattle.currency_report.specs.declared.report.ReadReport.{ReadReport}
@@ -35,12 +36,10 @@ pub record Laws : Type 0 where
   pub report_tree : (source : List ℕ) (a b : ReportTree) → ReadsReportText source a → ReadsReportText source b → a ≡ b
   pub report_refusal : (source : List ℕ) (e f : TextFault) → RefusesReportText source e → RefusesReportText source f → e ≡ f
   pub report_not_both : (source : List ℕ) (t : ReportTree) (e : TextFault) → ReadsReportText source t → RefusesReportText source e → ⊥
-  pub binding : (told : List (List ℕ × List ℕ)) (done : List Relation) (statements : List StatementTree) (a b : Result (List Relation) BindFault)
-      → IsBound told done statements a → IsBound told done statements b → a ≡ b
-  pub unshown : (relations : List Relation) (q : Question) (r : Report) (p p' : Part) (why why' : Unshown)
-      → IsFirstUnshown relations q r p why → IsFirstUnshown relations q r p' why' → (p ≡ p') × (why ≡ why')
-  pub not_shown : (relations : List Relation) (q : Question) (r : Report) (p : Part) (why : Unshown)
-      → IsFirstUnshown relations q r p why → ShowsVerdict relations q r → ⊥
+  pub binding : (told : List (List ℕ × List ℕ)) (t : SpecTree) (a b : Result Spec BindFault) → IsBound told t a → IsBound told t b → a ≡ b
+  pub unshown : (s : Spec) (q : Question) (r : Report) (p p' : Part) (why why' : Unshown)
+      → IsFirstUnshown s q r p why → IsFirstUnshown s q r p' why' → (p ≡ p') × (why ≡ why')
+  pub not_shown : (s : Spec) (q : Question) (r : Report) (p : Part) (why : Unshown) → IsFirstUnshown s q r p why → ShowsVerdict s q r → ⊥
 
 -- a stage has one outcome
 abbrev IsOne : {A : Type 0} → (Result A Trouble → Type 0) → Type 0
@@ -84,11 +83,11 @@ apart x y e = cc
 
 spec_bound_one : Laws → (told : List (List ℕ × List ℕ)) (name : List ℕ) (t : SpecTree) → IsOne (IsSpecBound told name t)
 spec_bound_one laws told name t a b (inl h) (inl k) =
-    h.2 ∙ ap Ok (ok_same h.0 k.0 (laws.binding told [] t.statements (Ok h.0) (Ok k.0) h.1 k.1)) ∙ sym k.2
-spec_bound_one laws told name t a b (inl h) (inr k) = absurd (apart h.0 k.0 (laws.binding told [] t.statements (Ok h.0) (Err k.0) h.1 k.1))
-spec_bound_one laws told name t a b (inr h) (inl k) = absurd (apart k.0 h.0 (laws.binding told [] t.statements (Ok k.0) (Err h.0) k.1 h.1))
+    h.2 ∙ ap Ok (ok_same h.0 k.0 (laws.binding told t (Ok h.0) (Ok k.0) h.1 k.1)) ∙ sym k.2
+spec_bound_one laws told name t a b (inl h) (inr k) = absurd (apart h.0 k.0 (laws.binding told t (Ok h.0) (Err k.0) h.1 k.1))
+spec_bound_one laws told name t a b (inr h) (inl k) = absurd (apart k.0 h.0 (laws.binding told t (Ok k.0) (Err h.0) k.1 h.1))
 spec_bound_one laws told name t a b (inr h) (inr k) =
-    h.2 ∙ ap (λ f. Err (bind_trouble name f)) (err_same h.0 k.0 (laws.binding told [] t.statements (Err h.0) (Err k.0) h.1 k.1)) ∙ sym k.2
+    h.2 ∙ ap (λ f. Err (bind_trouble name f)) (err_same h.0 k.0 (laws.binding told t (Err h.0) (Err k.0) h.1 k.1)) ∙ sym k.2
 
 spec_read_one : Laws → (told : List (List ℕ × List ℕ)) (name : List ℕ) → IsOne (IsSpecRead told name)
 spec_read_one laws told name =
@@ -130,12 +129,12 @@ report_one laws relations name bytes a b (inl h) (inr k) = absurd (not_refused l
 report_one laws relations name bytes a b (inr h) (inl k) = absurd (not_refused laws relations bytes k.0 h.0 k.1 h.1)
 report_one laws relations name bytes a b (inr h) (inr k) = h.2 ∙ ap (λ f. Err (report_trouble name f)) (refusal_one laws relations bytes h.0 k.0 h.1 k.1) ∙ sym k.2
 
-judged_one : Laws → (relations : List Relation) (q : Question) (name : List ℕ) (r : ReadReport) → IsOne (IsJudged relations q name r)
-judged_one laws relations q name r a b (inl h) (inl k) = h.1 ∙ sym k.1
-judged_one laws relations q name r a b (inl h) (inr k) = absurd (laws.not_shown relations q r.report k.0 k.1 k.2 h.0)
-judged_one laws relations q name r a b (inr h) (inl k) = absurd (laws.not_shown relations q r.report h.0 h.1 h.2 k.0)
-judged_one laws relations q name r a b (inr h) (inr k) =
-    let same = laws.unshown relations q r.report h.0 k.0 h.1 k.1 h.2 k.2 in
+judged_one : Laws → (s : Spec) (q : Question) (name : List ℕ) (r : ReadReport) → IsOne (IsJudged s q name r)
+judged_one laws s q name r a b (inl h) (inl k) = h.1 ∙ sym k.1
+judged_one laws s q name r a b (inl h) (inr k) = absurd (laws.not_shown s q r.report k.0 k.1 k.2 h.0)
+judged_one laws s q name r a b (inr h) (inl k) = absurd (laws.not_shown s q r.report h.0 h.1 h.2 k.0)
+judged_one laws s q name r a b (inr h) (inr k) =
+    let same = laws.unshown s q r.report h.0 k.0 h.1 k.1 h.2 k.2 in
     let first = h.3 in
     let second = k.3 in
     let part = same.0 in
@@ -146,10 +145,10 @@ judged_one laws relations q name r a b (inr h) (inr k) =
 
 for_documents : Laws → (told : List (List ℕ × List ℕ)) (d : Documents) → IsOne (IsDueFor told d)
 for_documents laws told d =
-    then_one (IsSpecRead told d.spec) _ (spec_read_one laws told d.spec) (λ relations.
+    then_one (IsSpecRead told d.spec) _ (spec_read_one laws told d.spec) (λ s.
     then_one (IsQuestionRead told d.question) _ (question_read_one laws told d.question) (λ question.
-    then_one (IsReportRead told relations d.report) _ (report_one laws relations d.report (document told d.report))
-    (judged_one laws relations question d.report)))
+    then_one (IsReportRead told s.relations d.report) _ (report_one laws s.relations d.report (document told d.report))
+    (judged_one laws s question d.report)))
 
 for_words : Laws → (told : List (List ℕ × List ℕ)) (o : Option Documents) (a b : Result (Unit {0}) Trouble)
     → MatchOption o (a ≡ Err trouble.Words) (λ d. IsDueFor told d a) → MatchOption o (b ≡ Err trouble.Words) (λ d. IsDueFor told d b) → a ≡ b

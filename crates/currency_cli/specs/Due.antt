@@ -11,10 +11,11 @@ use Rattle.spec_syntax.specs.declared.trees.QuestionTree.TheVariants as tree
 use Rattle.spec_syntax.specs.declared.trees.SpecTree.{SpecTree}
 use Rattle.spec_model.specs.declared.question.Question.{Question}
 use Rattle.spec_model.specs.declared.question.Question.TheVariants as asked
+use Rattle.spec_model.specs.Spec.{Spec}
 use Rattle.spec_model.specs.declared.relation.Relation.{Relation}
-use Rattle.spec_bind.specs.Bound.{IsBound}
-use Rattle.spec_bind.specs.declared.fault.BindFault.{BindFault}
-use Rattle.spec_bind.specs.declared.fault.BindFault.TheVariants as bind
+use Rattle.spec_bind.specs.Bound.{IsSpecBound as IsBound, TableDue, nothing}
+use Rattle.bind_faults.specs.declared.fault.BindFault.{BindFault}
+use Rattle.bind_faults.specs.declared.fault.BindFault.TheVariants as bind
 use Rattle.currency_report.specs.Lines.{line_of}
 use Rattle.currency_report.specs.Reads.{ReadsReport, RefusesReport}
 use Rattle.currency_report.specs.declared.report.Part.{Part}
@@ -78,17 +79,17 @@ IsSpecTree name bytes outcome =
     ⊎ ((fault : TextFault) × RefusesSpec bytes fault × (outcome ≡ Err (text_trouble name fault)))
 
 -- the tree is bound with the tables that it names
-abbrev pub IsSpecBound : List (List ℕ × List ℕ) → List ℕ → SpecTree → Result (List Relation) Trouble → Type 0
+abbrev pub IsSpecBound : List (List ℕ × List ℕ) → List ℕ → SpecTree → Result Spec Trouble → Type 0
 IsSpecBound told name t outcome =
-    ((relations : List Relation) × IsBound told [] t.statements (Ok relations) × (outcome ≡ Ok relations))
-    ⊎ ((fault : BindFault) × IsBound told [] t.statements (Err fault) × (outcome ≡ Err (bind_trouble name fault)))
+    ((s : Spec) × IsBound told t (Ok s) × (outcome ≡ Ok s))
+    ⊎ ((fault : BindFault) × IsBound told t (Err fault) × (outcome ≡ Err (bind_trouble name fault)))
 
 -- the specification that a text says, with its tables
-abbrev pub IsSpecSaid : List (List ℕ × List ℕ) → List ℕ → List ℕ → Result (List Relation) Trouble → Type 0
+abbrev pub IsSpecSaid : List (List ℕ × List ℕ) → List ℕ → List ℕ → Result Spec Trouble → Type 0
 IsSpecSaid told name bytes = Then (IsSpecTree name bytes) (IsSpecBound told name)
 
 -- the specification
-abbrev pub IsSpecRead : List (List ℕ × List ℕ) → List ℕ → Result (List Relation) Trouble → Type 0
+abbrev pub IsSpecRead : List (List ℕ × List ℕ) → List ℕ → Result Spec Trouble → Type 0
 IsSpecRead told name = Within text_bound (document told name) (IsSpecSaid told name (document told name))
 
 -- the question that a tree says
@@ -116,18 +117,18 @@ abbrev pub IsReportRead : List (List ℕ × List ℕ) → List Relation → List
 IsReportRead told relations name = IsReportSaid relations name (document told name)
 
 -- the job: the report shows its verdict, or the first check that it fails, with the line of the part
-abbrev pub IsJudged : List Relation → Question → List ℕ → ReadReport → Result (Unit {0}) Trouble → Type 0
-IsJudged relations question name r outcome =
-    (ShowsVerdict relations question r.report × (outcome ≡ Ok tt))
-    ⊎ ((part : Part) × (why : Unshown) × IsFirstUnshown relations question r.report part why
+abbrev pub IsJudged : Spec → Question → List ℕ → ReadReport → Result (Unit {0}) Trouble → Type 0
+IsJudged s question name r outcome =
+    (ShowsVerdict s question r.report × (outcome ≡ Ok tt))
+    ⊎ ((part : Part) × (why : Unshown) × IsFirstUnshown s question r.report part why
     × (outcome ≡ Err (trouble.Unshown (check_of why) name (line_of r.lines part))))
 
 -- what is due for three documents
 abbrev pub IsDueFor : List (List ℕ × List ℕ) → Documents → Result (Unit {0}) Trouble → Type 0
 IsDueFor told d =
-    Then (IsSpecRead told d.spec) (λ relations.
+    Then (IsSpecRead told d.spec) (λ s.
     Then (IsQuestionRead told d.question) (λ question.
-    Then (IsReportRead told relations d.report) (IsJudged relations question d.report)))
+    Then (IsReportRead told s.relations d.report) (IsJudged s question d.report)))
 
 -- what is due for words
 abbrev pub IsDue : List (List ℕ × List ℕ) → List (List ℕ) → Result (Unit {0}) Trouble → Type 0

@@ -4,7 +4,7 @@ use Rattle.std.specs.Io.KnownBytes.{Appends}
 use Rattle.currency_edge.specs.Fault.{Rose}
 use Rattle.currency_edge.specs.Sink.{AppendsPrefix}
 use Rattle.spec_model.specs.Consistent.{IsSatisfiable}
-use Rattle.spec_model.specs.declared.relation.Relation.{Relation}
+use Rattle.spec_model.specs.Spec.{Spec}
 use Rattle.currency_cli.specs.Due.{IsSpecRead, IsDue}
 use Rattle.currency_cli.specs.Texts.{accepted_text, trouble_text, trouble_status}
 use Rattle.currency_cli.specs.Words.{Documents, documents_in}
@@ -36,9 +36,9 @@ EndsWith old new before now outcome status =
 pub record NamesConsistent (told : List (List ℕ × List ℕ)) (words : List (List ℕ)) : Type 0 where
   pub documents : Documents
   pub named : documents_in words ≡ Some documents
-  pub relations : List Relation
-  pub read : IsSpecRead told documents.spec (Ok relations)
-  pub satisfiable : IsSatisfiable relations
+  pub said : Spec
+  pub read : IsSpecRead told documents.spec (Ok said)
+  pub satisfiable : IsSatisfiable said
 
 -- where an outcome is due, the program ends with its status; or with the one for its text met by a failing sink, or for a
 -- document that could not be read, both where the count of faults rose; or memory ran out

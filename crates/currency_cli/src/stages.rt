@@ -103,9 +103,9 @@ fn report_said(
     bytes: &[u8],
     spec: &Specification,
 ) -> Result<ReadReport, Trouble>
-    ensures said { IsSettled result → IsReportSaid spec.now name.now bytes.now result }
+    ensures said { IsSettled result → IsReportSaid spec.now.relations name.now bytes.now result }
     ensures inside { IsReadFault result → ⊥ }
-    ensures shape { IfOk result (λ r. All (HasShape spec.now) r.report.completions) }
+    ensures shape { IfOk result (λ r. All (HasShape spec.now.relations) r.report.completions) }
     ensures few { IfOk result (λ r. length r.report.completions < 2 ^ 32) }
     ensures lines { IfOk result (λ r. length r.lines.completions ≡ length r.report.completions) }
     ensures not_words { IfErr result (λ e. e ≢ Trouble.Words) }
@@ -125,9 +125,9 @@ fn read_the_report<S: Shelf>(
 ) -> Result<ReadReport, Trouble>
     ensures kept { S.texts shelf.new ≡ S.texts shelf.old }
     ensures later { S.faults shelf.old ≤ S.faults shelf.new }
-    ensures stage { IsSettled result → IfSome (S.texts shelf.old) (λ told. IsReportRead told spec.now name.now result) }
+    ensures stage { IsSettled result → IfSome (S.texts shelf.old) (λ told. IsReportRead told spec.now.relations name.now result) }
     ensures read_fault { IsReadFault result → Rose (S.faults shelf.old) (S.faults shelf.new) }
-    ensures shape { IfOk result (λ r. All (HasShape spec.now) r.report.completions) }
+    ensures shape { IfOk result (λ r. All (HasShape spec.now.relations) r.report.completions) }
     ensures few { IfOk result (λ r. length r.report.completions < 2 ^ 32) }
     ensures lines { IfOk result (λ r. length r.lines.completions ≡ length r.report.completions) }
     ensures not_words { IfErr result (λ e. e ≢ Trouble.Words) }
@@ -149,7 +149,7 @@ fn judge(
     question: &Question,
     read: &ReadReport,
 ) -> Result<(), Trouble>
-    requires shape { All (HasShape spec.now) read.now.report.completions }
+    requires shape { All (HasShape spec.now.relations) read.now.report.completions }
     requires few { length read.now.report.completions < 2 ^ 32 }
     requires lines { length read.now.lines.completions ≡ length read.now.report.completions }
     ensures job { IsSettled result → IsJudged spec.now question.now name.now read.now result }

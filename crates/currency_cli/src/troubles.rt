@@ -5,7 +5,7 @@ use crate::{Check, Trouble};
 use currency_base::{ErrorCode, Name};
 use currency_report::ReportFault;
 use report_verify::Unshown;
-use spec_bind::{BindFault, Refusal};
+use bind_faults::{BindFault, Refusal};
 use std::alloc::Global;
 use text_tokens::TextFault;
 
