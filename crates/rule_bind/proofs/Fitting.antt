@@ -167,7 +167,7 @@ conclusion_fits vars attrs n kinds (conclusion_tree.Order tree) made few as_many
     let same : a_conclusion.Order a.0 ≡ made = cc in
     subst (IsConclusion n kinds) same (atom_fits vars attrs n kinds tree a.0 few as_many a.1)
 
-none_mapped : {A B : Type 0} (f : A → B) (o : Option A) → option_map f o ≡ None → o ≡ None
+pub none_mapped : {A B : Type 0} (f : A → B) (o : Option A) → option_map f o ≡ None → o ≡ None
 none_mapped f None is = refl
 none_mapped f (Some a) is = absurd (cc)
 

@@ -1,5 +1,7 @@
 mod AtPlace
 mod Due
 mod Fitting
+mod Numbers
 mod Places
+mod Small
 mod Walk

@@ -1,4 +1,4 @@
-ghost use Rattle.std.specs.Prelude.{◌≡◌, ◌<◌, ◌≤◌, [], length, map, Contains, IfOk};
+ghost use Rattle.std.specs.Prelude.{◌≡◌, ◌<◌, ◌≤◌, [], ◌∷◌, length, map, Contains, IfOk};
 ghost use Rattle.bind_faults.specs.Faults.{IsDue, or_else};
 ghost use Rattle.denial_rules.specs.Rules.{IsRuleOn};
 ghost use Rattle.spec_model.specs.Facts.{IsRuleOf, kinds_of};
@@ -104,5 +104,131 @@ fn taken(names: &NameIndex, named: &Named) -> Option<BindFault>
     match names.find(&named.name) {
         Some(_) => Some(BindFault::at(ErrorCode::DuplicateName, named)),
         None => None,
+    }
+}
+
+#[cfg(test)]
+mod tests {
+    use super::*;
+    use bind_faults::Refusal;
+    use currency_base::{AttrId, Cmp, ItemList, Kind, Name, NameList, NoMemory, Rows};
+    use denial_rules::{Conclusion, Operand, OrderAtom, Predicate};
+    use rule_syntax::{ConclusionTree, OrderAtomTree, PredicateTree, TermTree};
+    use spec_model::{Attr, Pairs};
+    use std::test::Fail;
+
+    fn one<T: Drop>(alloc: Global, item: T) -> Result<ItemList<T>, NoMemory>
+        ensures { IfOk result (λ list. list ≡ item ∷ []) }
+    {
+        let mut list = ItemList::new(alloc);
+        list.push(item)?;
+        Ok(list)
+    }
+
+    fn name(alloc: Global, text: &str) -> Result<Name, NoMemory> {
+        Name::from_bytes(alloc, text.as_bytes())
+    }
+
+    fn named(alloc: Global, text: &str, line: u32) -> Result<Named, NoMemory> {
+        Ok(Named {
+            name: name(alloc, text)?,
+            line,
+        })
+    }
+
+    #[tactic(auto, using(crate::proofs::Small::is_small))]
+    fn small(alloc: Global) -> Result<Specification, NoMemory> {
+        let pay = Attr {
+            name: name(alloc, "pay")?,
+            kind: Kind::Int,
+        };
+        let relation = Relation {
+            name: name(alloc, "emp")?,
+            attrs: one(alloc, pay)?,
+            rows: Rows::new(alloc),
+            entities: NameList::new(alloc),
+            given: Pairs::new(alloc),
+        };
+        let mut spec = Specification::new(alloc);
+        spec.add_relation(relation)?;
+        Ok(spec)
+    }
+
+    fn field(alloc: Global, var: &str) -> Result<TermTree, NoMemory> {
+        Ok(TermTree::Field {
+            var: named(alloc, var, 2)?,
+            attr: named(alloc, "pay", 2)?,
+        })
+    }
+
+    // The rule that a row with less pay than another is older in pay.
+    fn tree(alloc: Global, second: &str) -> Result<RuleTree, NoMemory> {
+        let mut vars = one(alloc, named(alloc, "s", 1)?)?;
+        vars.push(named(alloc, second, 1)?)?;
+        let less = PredicateTree::Compare {
+            left: field(alloc, "s")?,
+            cmp: Cmp::Lt,
+            right: field(alloc, "t")?,
+        };
+        let older = OrderAtomTree {
+            earlier: named(alloc, "s", 3)?,
+            later: named(alloc, "t", 3)?,
+            attr: named(alloc, "pay", 3)?,
+        };
+        Ok(RuleTree {
+            name: named(alloc, "raise", 1)?,
+            relation: named(alloc, "emp", 1)?,
+            vars,
+            predicates: one(alloc, less)?,
+            conclusion: ConclusionTree::Order(older),
+        })
+    }
+
+    #[test]
+    fn a_rule_is_bound(rt: HostRuntime) -> Result<(), Fail> {
+        let alloc = rt.alloc();
+        let spec = small(alloc)?;
+        let names = SpecNames::of(alloc, &spec)?;
+        let less = Predicate::Compare {
+            left: Operand::Field {
+                var: 0,
+                attr: AttrId(0),
+            },
+            cmp: Cmp::Lt,
+            right: Operand::Field {
+                var: 1,
+                attr: AttrId(0),
+            },
+        };
+        let older = OrderAtom {
+            earlier: 0,
+            later: 1,
+            attr: AttrId(0),
+        };
+        let rule = Rule {
+            name: name(alloc, "raise")?,
+            relation: RelId(0),
+            vars: 2,
+            predicates: one(alloc, less)?,
+            conclusion: Conclusion::Order(older),
+        };
+        let tree = tree(alloc, "t")?;
+        assert!(rt; bind_rule(alloc, &names, &spec, &tree) == Ok(rule));
+        Ok(())
+    }
+
+    #[test]
+    fn an_unknown_variable_is_refused(rt: HostRuntime) -> Result<(), Fail> {
+        let alloc = rt.alloc();
+        let spec = small(alloc)?;
+        let names = SpecNames::of(alloc, &spec)?;
+        let unknown = BindFault::Refused(Refusal {
+            code: ErrorCode::UnknownName,
+            document: None,
+            line: 2,
+        });
+        let tree = tree(alloc, "s")?;
+        assert!(rt; bind_rule(alloc, &names, &spec, &tree) == Err(unknown));
+        Ok(())
     }
 }

@@ -3,7 +3,9 @@
 
 mod bind;
 mod kinds;
+mod laws;
 mod resolve;
 mod variables;
 
 pub use bind::bind_rule;
+pub use laws::numbers_are_places;
