@@ -1,11 +1,10 @@
 -- What is due is determined: words and told documents have one outcome.
-use Rattle.std.proofs.Common.{◌≡◌, ◌∙◌, ℕ, List, [], Option, Some, None, MatchOption, MatchResult, Result, Ok, Err, sym, subst, ap, inl, inr, arith}
+use Rattle.std.proofs.Common.{◌≡◌, ◌∙◌, ℕ, List, Option, Some, None, MatchOption, MatchResult, Result, Ok, Err, sym, subst, ap, inl, inr, arith}
 use Rattle.currency_edge.specs.Shelf.{document}
 use Rattle.text_tokens.specs.declared.token.TextFault.{TextFault}
 use Rattle.spec_syntax.specs.Texts.{ReadsSpec, RefusesSpec, ReadsQuestion, RefusesQuestion}
 use Rattle.spec_syntax.specs.declared.trees.QuestionTree.{QuestionTree}
 use Rattle.spec_syntax.specs.declared.trees.SpecTree.{SpecTree}
-use Rattle.spec_syntax.specs.declared.trees.StatementTree.{StatementTree}
 use Rattle.report_syntax.specs.Reads.{ReadsReportText, RefusesReportText}
 use Rattle.report_syntax.specs.declared.tree.ReportTree.{ReportTree}
 use Rattle.spec_model.specs.declared.question.Question.{Question}

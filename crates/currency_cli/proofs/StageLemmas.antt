@@ -1,6 +1,14 @@
 -- What a stage answers is what is due.
-use Rattle.std.proofs.Common.{ℕ, List, Option, Some, None, IfSome, Err, refl}
-use Rattle.currency_cli.specs.Due.{IsSpecTree, IsSpecSaid}
+use Rattle.std.proofs.Common.{◌≡◌, ◌⊎◌, ℕ, List, Option, Some, None, IfSome, Ok, Err, inl, inr, refl, subst}
+use Rattle.bind_faults.specs.Faults.{IsReadFaultOf}
+use Rattle.bind_faults.specs.declared.fault.BindFault.{BindFault}
+use Rattle.bind_faults.specs.declared.fault.BindFault.TheVariants as bind
+use Rattle.spec_model.specs.Spec.{Spec}
+use Rattle.spec_syntax.specs.declared.trees.SpecTree.{SpecTree}
+use Rattle.spec_bind.specs.Bound.{TableDue, nothing}
+use Rattle.currency_cli.specs.Due.{IsSpecTree, IsSpecSaid, IsSaidTableDue, bind_trouble}
+use Rattle.currency_cli.specs.Named.{IsUnread}
+use Rattle.currency_cli.specs.declared.trouble.Trouble.TheVariants as trouble
 use Rattle.currency_cli.specs.declared.trouble.Trouble.{Trouble}
 
 -- a specification whose text is refused
@@ -8,3 +16,19 @@ pub tree_refused : (told : Option (List (List ℕ × List ℕ))) (name bytes : L
     → IsSpecTree name bytes (Err e) → IfSome told (λ t. IsSpecSaid t name bytes (Err e))
 tree_refused None name bytes e refused = tt
 tree_refused (Some t) name bytes e refused = (Err e, refused, refl)
+
+-- a trouble that names a document is a fault that names it
+unread_fault : (name : List ℕ) (fault : BindFault) (e : Trouble) (n : List ℕ) → (e ≡ trouble.NoMemory) ⊎ (e ≡ bind_trouble name fault) → IsUnread e n → IsReadFaultOf {A = Spec} (Err fault) n
+unread_fault name fault e n (inl none) h = absurd (subst (λ (x : Trouble). IsUnread x n) none h)
+unread_fault name (bind.Refused refusal) e n (inr is) h = absurd (subst (λ (x : Trouble). IsUnread x n) is h)
+unread_fault name (bind.Limit k) e n (inr is) h = absurd (subst (λ (x : Trouble). IsUnread x n) is h)
+unread_fault name (bind.ReadFault table) e n (inr is) h = subst (λ (x : Trouble). IsUnread x n) is h
+unread_fault name bind.NoMemory e n (inr is) h = absurd (subst (λ (x : Trouble). IsUnread x n) is h)
+
+-- a table that could not be read is due to be
+pub table_unread : (told : Option (List (List ℕ × List ℕ))) (name bytes : List ℕ) (t : SpecTree) (fault : BindFault) (e : Trouble) → IsSpecTree name bytes (Ok t)
+    → (e ≡ trouble.NoMemory) ⊎ (e ≡ bind_trouble name fault)
+    → ((n : List ℕ) → IsReadFaultOf {A = Spec} (Err fault) n → IfSome told (λ d. TableDue d nothing t.statements n))
+    → (n : List ℕ) → IsUnread e n → IfSome told (λ d. IsSaidTableDue d name bytes n)
+table_unread None name bytes t fault e read due unread n h = tt
+table_unread (Some d) name bytes t fault e read due unread n h = (t, read, unread n (unread_fault name fault e n due h))

@@ -1,6 +1,6 @@
 -- What is due for words and told documents, stage by stage: the words, the specification with its tables, the question,
 -- the report, and then the job. The first stage that is refused decides.
-use Rattle.std.specs.Prelude.{◌≡◌, ◌⊎◌, ◌<◌, ◌≤◌, ℕ, List, [], length, unwrap_or, Result, Ok, Err, MatchOption, MatchResult}
+use Rattle.std.specs.Prelude.{◌≡◌, ◌⊎◌, ◌<◌, ◌≤◌, ℕ, List, length, unwrap_or, Result, Ok, Err, MatchOption, MatchResult}
 use Rattle.currency_base.specs.declared.error_code.ErrorCode.TheVariants as code
 use Rattle.currency_edge.specs.Shelf.{document}
 use Rattle.text_tokens.specs.declared.token.TextFault.{TextFault}
@@ -133,3 +133,26 @@ IsDueFor told d =
 -- what is due for words
 abbrev pub IsDue : List (List ℕ × List ℕ) → List (List ℕ) → Result (Unit {0}) Trouble → Type 0
 IsDue told words outcome = MatchOption (documents_in words) (outcome ≡ Err trouble.Words) (λ d. IsDueFor told d outcome)
+
+-- ---- documents
+
+-- a table is due to be read: these bytes of a specification name it, and what stands before is bound
+abbrev pub IsSaidTableDue : List (List ℕ × List ℕ) → List ℕ → List ℕ → List ℕ → Type 0
+IsSaidTableDue told name bytes table = (t : SpecTree) × IsSpecTree name bytes (Ok t) × TableDue told nothing t.statements table
+
+-- the same of the document of that name, where it is not too long
+abbrev pub IsTableDue : List (List ℕ × List ℕ) → List ℕ → List ℕ → Type 0
+IsTableDue told name table = (length (document told name) ≤ text_bound) × IsSaidTableDue told name (document told name) table
+
+-- a document is due to be read: the specification; a table that it names; the question, once the specification is read;
+-- or the report, once both are
+abbrev pub IsDocumentDue : List (List ℕ × List ℕ) → Documents → List ℕ → Type 0
+IsDocumentDue told d name =
+    (name ≡ d.spec)
+    ⊎ (IsTableDue told d.spec name
+    ⊎ (((s : Spec) × IsSpecRead told d.spec (Ok s) × (name ≡ d.question))
+    ⊎ ((s : Spec) × (q : Question) × IsSpecRead told d.spec (Ok s) × IsQuestionRead told d.question (Ok q) × (name ≡ d.report))))
+
+-- a document of this name is due to be read for these words
+abbrev pub IsReadDue : List (List ℕ × List ℕ) → List (List ℕ) → List ℕ → Type 0
+IsReadDue told words name = MatchOption (documents_in words) ⊥ (λ d. IsDocumentDue told d name)

@@ -1,14 +1,15 @@
 -- How the program ends: with which status, and what its sink got.
-use Rattle.std.specs.Prelude.{◌≡◌, ◌⊎◌, ℕ, List, Option, Some, Result, Ok, Err}
+use Rattle.std.specs.Prelude.{◌≡◌, ◌⊎◌, ℕ, List, Option, Some, IfSome, Result, Ok, Err}
 use Rattle.std.specs.Io.KnownBytes.{Appends}
 use Rattle.currency_edge.specs.Fault.{Rose}
 use Rattle.currency_edge.specs.Sink.{AppendsPrefix}
 use Rattle.spec_model.specs.Consistent.{IsSatisfiable}
 use Rattle.spec_model.specs.Spec.{Spec}
-use Rattle.currency_cli.specs.Due.{IsSpecRead, IsDue}
+use Rattle.currency_cli.specs.Due.{IsSpecRead, IsDue, IsReadDue}
 use Rattle.currency_cli.specs.Texts.{accepted_text, trouble_text, trouble_status}
 use Rattle.currency_cli.specs.Words.{Documents, documents_in}
 use Rattle.currency_cli.specs.declared.trouble.Trouble.{Trouble}
+use Rattle.currency_cli.specs.declared.trouble.Trouble.TheVariants.{ReadFault}
 
 -- what an outcome writes
 abbrev pub output_of : Result (Unit {0}) Trouble → List ℕ
@@ -56,3 +57,9 @@ IsRefusal status = (status ≡ 2) ⊎ ((status ≡ 4) ⊎ ((status ≡ 5) ⊎ (s
 -- a trouble with this status is due
 abbrev pub RefusalDue : List (List ℕ × List ℕ) → List (List ℕ) → ℕ → Type 0
 RefusalDue told words status = (e : Trouble) × IsDue told words (Err e) × (status ≡ trouble_status e)
+
+-- the document that could not be read was due, and its name was written, whole or up to a prefix
+pub record NamesUnread (texts : Option (List (List ℕ × List ℕ))) (words : List (List ℕ)) (old new : Option (List ℕ)) : Type 0 where
+  pub name : List ℕ
+  pub due : IfSome texts (λ told. IsReadDue told words name)
+  pub text : AppendsPrefix old new (trouble_text (ReadFault name))

@@ -1,5 +1,5 @@
 -- What the code's own types say.
-use Rattle.std.specs.Prelude.{Result, Ok, Err}
+use Rattle.std.specs.Prelude.{◌≡◌, ℕ, List, Result, Ok, Err}
 use Rattle.currency_cli.specs.Words.{Documents}
 use Rattle.currency_cli.specs.declared.words.Documents.{Documents as Names}
 use Rattle.currency_cli.specs.declared.trouble.Trouble.{Trouble}
@@ -22,6 +22,16 @@ IsDetermined NoMemory = ⊥
 abbrev pub IsSettled : {A : Type 0} → Result A Trouble → Type 0
 IsSettled (Ok a) = Unit {0}
 IsSettled (Err e) = IsDetermined e
+
+-- the trouble is that the document of this name could not be read
+abbrev pub IsUnread : Trouble → List ℕ → Type 0
+IsUnread (ReadFault document) name = document ≡ name
+IsUnread other name = ⊥
+
+-- the outcome is that the document of this name could not be read
+abbrev pub IsReadFaultOf : {A : Type 0} → Result A Trouble → List ℕ → Type 0
+IsReadFaultOf (Err e) name = IsUnread e name
+IsReadFaultOf other name = ⊥
 
 -- a document could not be read
 abbrev pub IsReadFault : {A : Type 0} → Result A Trouble → Type 0

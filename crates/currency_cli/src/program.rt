@@ -2,9 +2,9 @@ ghost use Rattle.std.specs.Prelude.{◌≡◌, ◌≢◌, ◌⊎◌, ◌≤◌, 
 ghost use Rattle.std.specs.Io.KnownBytes.{Appends};
 ghost use Rattle.currency_edge.specs.Fault.{Rose};
 ghost use Rattle.currency_edge.specs.Sink.{AppendsPrefix};
-ghost use Rattle.currency_cli.specs.Due.{IsDue};
-ghost use Rattle.currency_cli.specs.Ends.{EndsWith, ComesTo, status_of, IsRefusal, RefusalDue, NamesConsistent};
-ghost use Rattle.currency_cli.specs.Named.{IsSettled, IsReadFault};
+ghost use Rattle.currency_cli.specs.Due.{IsDue, IsReadDue};
+ghost use Rattle.currency_cli.specs.Ends.{EndsWith, ComesTo, status_of, IsRefusal, RefusalDue, NamesConsistent, NamesUnread};
+ghost use Rattle.currency_cli.specs.Named.{IsSettled, IsReadFault, IsReadFaultOf};
 ghost use Rattle.currency_cli.specs.Texts.{accepted_text, trouble_status};
 ghost use Rattle.currency_cli.specs.Words.{documents_in};
 ghost use Rattle.currency_cli.specs.declared.trouble.Trouble.{Trouble};
@@ -76,6 +76,7 @@ pub fn run<S: Shelf, K: Sink>(alloc: Global, words: &[String], shelf: &mut S, ou
     ensures ends { (outcome : Result (Unit {0}) Trouble)
         × (IsSettled outcome → IfSome (S.texts shelf.old) (λ told. IsDue told (map (λ w. string_bytes w) words.now) outcome))
         × (IsReadFault outcome → Rose (S.faults shelf.old) (S.faults shelf.new))
+        × ((n : List ℕ) → IsReadFaultOf outcome n → IfSome (S.texts shelf.old) (λ told. IsReadDue told (map (λ w. string_bytes w) words.now) n))
         × EndsWith (K.written out.old) (K.written out.new) (K.faults out.old) (K.faults out.new) outcome result }
 
     // The other way round: where an outcome is due, the answer is its status, unless the outside fails.
@@ -102,6 +103,8 @@ pub fn run<S: Shelf, K: Sink>(alloc: Global, words: &[String], shelf: &mut S, ou
 
     // Faults of the outside.
     ensures read_fault { result ≡ 7 → Rose (S.faults shelf.old) (S.faults shelf.new) }
+    ensures read_fault_text { result ≡ 7
+        → NamesUnread (S.texts shelf.old) (map (λ w. string_bytes w) words.now) (K.written out.old) (K.written out.new) }
     ensures write_fault { result ≡ 8 → Rose (K.faults out.old) (K.faults out.new) }
     ensures write_fault_text { result ≡ 8 → AppendsPrefix (K.written out.old) (K.written out.new) accepted_text }
 {

@@ -1,8 +1,8 @@
-ghost use Rattle.std.specs.Prelude.{◌≡◌, ◌≢◌, ◌≤◌, ◌<◌, IfOk, IfSome, IfErr, length, vec_len};
+ghost use Rattle.std.specs.Prelude.{◌≡◌, ◌≢◌, ℕ, List, ◌≤◌, ◌<◌, IfOk, IfSome, IfErr, length, vec_len};
 ghost use Rattle.currency_edge.specs.Fault.{Rose};
 ghost use Rattle.currency_edge.specs.Shelf.{document};
 ghost use Rattle.currency_cli.specs.Due.{IsSpecRead, IsQuestionRead, IsReportRead};
-ghost use Rattle.currency_cli.specs.Named.{IsDetermined, IsSettled, IsReadFault};
+ghost use Rattle.currency_cli.specs.Named.{IsDetermined, IsSettled, IsReadFault, IsReadFaultOf, IsUnread};
 
 use crate::Trouble;
 use currency_base::Name;
@@ -15,6 +15,7 @@ pub const TEXT_BOUND: usize = 16_777_216;
 // The trouble that names a document which could not be read.
 fn read_fault(alloc: Global, name: &str) -> Trouble
     ensures outside { IsDetermined result → ⊥ }
+    ensures named { (n : List ℕ) → IsUnread result n → n ≡ name.now }
     ensures not_words { result ≢ Trouble.Words }
 {
     match Name::from_bytes(alloc, name.as_bytes()) {
@@ -37,6 +38,7 @@ pub fn read_bytes<S: Shelf>(
     ensures long { IfErr result (λ e. IsDetermined e → (e ≡ Trouble.Limit 1)) }
     ensures longer { IfErr result (λ e. IsDetermined e → IfSome (S.texts shelf.old) (λ told. at_most < length (document told name.now))) }
     ensures read_fault { IsReadFault result → Rose (S.faults shelf.old) (S.faults shelf.new) }
+    ensures named { (n : List ℕ) → IsReadFaultOf result n → n ≡ name.now }
     ensures not_words { IfErr result (λ e. e ≢ Trouble.Words) }
 {
     let mut bytes = Vec::new(alloc);

@@ -1,9 +1,9 @@
-ghost use Rattle.std.specs.Prelude.{◌≡◌, ◌≢◌, IfErr, None, ◌≤◌, ◌<◌, ◌^◌, ◌⊎◌, All, IfOk, IfSome, Ok, Err, length, map, string_bytes};
+ghost use Rattle.std.specs.Prelude.{◌≡◌, ◌≢◌, ℕ, List, IfErr, None, ◌≤◌, ◌<◌, ◌^◌, ◌⊎◌, All, IfOk, IfSome, Ok, Err, length, map, string_bytes};
 ghost use Rattle.currency_edge.specs.Fault.{Rose};
 ghost use Rattle.spec_model.specs.Completion.{HasShape};
-ghost use Rattle.currency_cli.specs.Due.{IsSpecTree, IsSpecSaid, IsSpecRead, IsQuestionSaid, IsQuestionRead, IsReportSaid, IsReportRead, IsJudged, IsDueFor, IsDue};
+ghost use Rattle.currency_cli.specs.Due.{IsSpecTree, IsSpecSaid, IsSpecRead, IsQuestionSaid, IsQuestionRead, IsReportSaid, IsReportRead, IsJudged, IsDueFor, IsDue, IsSaidTableDue, IsTableDue, IsDocumentDue, IsReadDue};
 ghost use Rattle.currency_cli.specs.Words.{documents_in};
-ghost use Rattle.currency_cli.specs.Named.{IsSettled, IsReadFault, documents_of};
+ghost use Rattle.currency_cli.specs.Named.{IsSettled, IsReadFault, IsReadFaultOf, documents_of};
 
 use crate::Trouble;
 use crate::read::{TEXT_BOUND, read_bytes};
@@ -40,6 +40,8 @@ fn spec_said<S: Shelf>(
     ensures later { S.faults shelf.old ≤ S.faults shelf.new }
     ensures said { IsSettled result → IfSome (S.texts shelf.old) (λ told. IsSpecSaid told name.now bytes.now result) }
     ensures read_fault { IsReadFault result → Rose (S.faults shelf.old) (S.faults shelf.new) }
+    ensures unread { (n : List ℕ) → IsReadFaultOf result n
+        → IfSome (S.texts shelf.old) (λ told. IsSaidTableDue told name.now bytes.now n) }
     ensures not_words { IfErr result (λ e. e ≢ Trouble.Words) }
 {
     let tree = match spec_tree(alloc, name, bytes) {
@@ -62,6 +64,8 @@ fn read_specification<S: Shelf>(
     ensures later { S.faults shelf.old ≤ S.faults shelf.new }
     ensures stage { IsSettled result → IfSome (S.texts shelf.old) (λ told. IsSpecRead told name.now result) }
     ensures read_fault { IsReadFault result → Rose (S.faults shelf.old) (S.faults shelf.new) }
+    ensures unread { (n : List ℕ) → IsReadFaultOf result n
+        → IfSome (S.texts shelf.old) (λ told. (n ≡ name.now) ⊎ IsTableDue told name.now n) }
     ensures not_words { IfErr result (λ e. e ≢ Trouble.Words) }
 {
     let bytes = read_bytes(alloc, shelf, name, TEXT_BOUND)?;
@@ -90,6 +94,7 @@ fn read_the_question<S: Shelf>(
     ensures later { S.faults shelf.old ≤ S.faults shelf.new }
     ensures stage { IsSettled result → IfSome (S.texts shelf.old) (λ told. IsQuestionRead told name.now result) }
     ensures read_fault { IsReadFault result → Rose (S.faults shelf.old) (S.faults shelf.new) }
+    ensures named { (n : List ℕ) → IsReadFaultOf result n → n ≡ name.now }
     ensures not_words { IfErr result (λ e. e ≢ Trouble.Words) }
 {
     let bytes = read_bytes(alloc, shelf, name, TEXT_BOUND)?;
@@ -130,6 +135,7 @@ fn read_the_report<S: Shelf>(
     ensures shape { IfOk result (λ r. All (HasShape spec.now.relations) r.report.completions) }
     ensures few { IfOk result (λ r. length r.report.completions < 2 ^ 32) }
     ensures lines { IfOk result (λ r. length r.lines.completions ≡ length r.report.completions) }
+    ensures named { (n : List ℕ) → IsReadFaultOf result n → n ≡ name.now }
     ensures not_words { IfErr result (λ e. e ≢ Trouble.Words) }
 {
     let bytes = match read_bytes(alloc, shelf, name, usize::MAX) {
@@ -174,6 +180,8 @@ fn verify_documents<S: Shelf>(
     ensures later { S.faults shelf.old ≤ S.faults shelf.new }
     ensures due { IsSettled result → IfSome (S.texts shelf.old) (λ told. IsDueFor told (documents_of documents.entry) result) }
     ensures read_fault { IsReadFault result → Rose (S.faults shelf.old) (S.faults shelf.new) }
+    ensures unread { (n : List ℕ) → IsReadFaultOf result n
+        → IfSome (S.texts shelf.old) (λ told. IsDocumentDue told (documents_of documents.entry) n) }
     ensures not_words { IfErr result (λ e. e ≢ Trouble.Words) }
 {
     let spec = read_specification(alloc, shelf, documents.spec)?;
@@ -188,6 +196,8 @@ pub fn outcome<S: Shelf>(alloc: Global, words: &[String], shelf: &mut S) -> Resu
     ensures later { S.faults shelf.old ≤ S.faults shelf.new }
     ensures due { IsSettled result → IfSome (S.texts shelf.old) (λ told. IsDue told (map (λ w. string_bytes w) words.now) result) }
     ensures read_fault { IsReadFault result → Rose (S.faults shelf.old) (S.faults shelf.new) }
+    ensures unread { (n : List ℕ) → IsReadFaultOf result n
+        → IfSome (S.texts shelf.old) (λ told. IsReadDue told (map (λ w. string_bytes w) words.now) n) }
     ensures words { result ≡ Err Trouble.Words → documents_in (map (λ w. string_bytes w) words.now) ≡ None }
     ensures words_refused { documents_in (map (λ w. string_bytes w) words.now) ≡ None → result ≡ Err Trouble.Words }
 {

@@ -2,10 +2,10 @@ ghost use Rattle.std.specs.Prelude.{◌≡◌, ◌≢◌, ◌⊎◌, unwrap_or};
 ghost use Rattle.currency_cli.specs.Due.{text_trouble, bind_trouble, report_trouble, check_of};
 
 use crate::{Check, Trouble};
+use bind_faults::{BindFault, Refusal};
 use currency_base::{ErrorCode, Name};
 use currency_report::ReportFault;
 use report_verify::Unshown;
-use bind_faults::{BindFault, Refusal};
 use std::alloc::Global;
 use text_tokens::TextFault;
 
