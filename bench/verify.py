@@ -65,7 +65,7 @@ def write_documents(folder, attrs, rules, rows):
 
 
 def run(folder):
-    """The seconds and the megabytes of one run."""
+    """The seconds and the megabytes of one run. The megabytes are never below those of this script."""
     begin = time.perf_counter()
     child = subprocess.Popen([PROGRAM, "verify", "s", "q", "p"], cwd=folder, stdout=subprocess.PIPE)
     said = child.stdout.read()
