@@ -130,59 +130,10 @@ impl SpecNames {
 #[cfg(test)]
 mod tests {
     use super::*;
-    use currency_base::{EntId, ItemList, Kind, Row, Tuple};
-    use spec_model::{Attr, Pairs};
     use std::test::Fail;
-
-    fn one<T: Drop>(alloc: Global, item: T) -> Result<ItemList<T>, NoMemory>
-        ensures { IfOk result (λ list. list ≡ item ∷ []) }
-    {
-        let mut list = ItemList::new(alloc);
-        list.push(item)?;
-        Ok(list)
-    }
 
     fn name(alloc: Global, text: &str) -> Result<Name, NoMemory> {
         Name::from_bytes(alloc, text.as_bytes())
-    }
-
-    #[tactic(auto, using(crate::proofs::Small::is_small))]
-    fn small(alloc: Global) -> Result<Specification, NoMemory>
-        ensures { IfOk result (λ spec. length spec.relations ≡ 1) }
-    {
-        let salary = Attr {
-            name: name(alloc, "salary")?,
-            kind: Kind::Int,
-        };
-        let row = Row {
-            name: name(alloc, "s1")?,
-            entity: EntId(0),
-            values: Tuple::new(alloc),
-        };
-        let relation = Relation {
-            name: name(alloc, "emp")?,
-            attrs: one(alloc, salary)?,
-            rows: one(alloc, row)?,
-            entities: one(alloc, name(alloc, "Mary")?)?,
-            given: Pairs::new(alloc),
-        };
-        let mut spec = Specification::new(alloc);
-        spec.add_relation(relation)?;
-        Ok(spec)
-    }
-
-    #[test]
-    fn names_are_found_at_their_places(rt: HostRuntime) -> Result<(), Fail> {
-        let alloc = rt.alloc();
-        let spec = small(alloc)?;
-        let names = SpecNames::of(alloc, &spec)?;
-        assert_eq!(rt; names.relations().find(&name(alloc, "emp")?), Some(0));
-        assert_eq!(rt; names.relations().find(&name(alloc, "dept")?), None);
-        let parts = names.relation(0);
-        assert_eq!(rt; parts.attrs.find(&name(alloc, "salary")?), Some(0));
-        assert_eq!(rt; parts.rows.find(&name(alloc, "s1")?), Some(0));
-        assert_eq!(rt; parts.entities.find(&name(alloc, "Mary")?), Some(0));
-        Ok(())
     }
 
     #[test]
