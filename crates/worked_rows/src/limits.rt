@@ -225,38 +225,31 @@ fn eight_relations(alloc: Global) -> Result<String, Fail> {
     with_each(alloc, "", numbers, "relation R", rest)
 }
 
+// The eight relations have 4,000,000 variables; two rows of one entity make one more.
 #[test]
 fn order_variables_are_limited(rt: HostRuntime) -> Result<(), Fail> {
     let table = pairs_table(rt.alloc())?;
     let relations = eight_relations(rt.alloc())?;
-    for (line, status, text) in [
-        ("", 4, "refused V3 p 2\n"),
-        (
-            "relation T from \"one.csv\" row id entity eid (a: int);\n",
-            4,
-            "refused V3 p 2\n",
-        ),
-        (
-            "relation T from \"two.csv\" row id entity eid (a: int);\n",
-            6,
-            "limit 10\n",
-        ),
-        // The limit comes after the last statement.
-        (
-            "relation T from \"two.csv\" row id entity eid (a: int);\norder Q.a: f1 < f2;\n",
-            5,
-            "error E03 s 10\n",
-        ),
+    let tables = [
+        ("one.csv", b"id,eid,a\nt1,x,1\nt2,y,2\n".as_slice()),
+        ("two.csv", b"id,eid,a\nt1,x,1\nt2,x,2\n".as_slice()),
+    ];
+    let without_pair = "relation T from \"one.csv\" row id entity eid (a: int);\n";
+    let with_pair = "relation T from \"two.csv\" row id entity eid (a: int);\n";
+    // The limit comes after the last statement.
+    let further = "relation T from \"two.csv\" row id entity eid (a: int);\norder Q.a: t1 < t2;\n";
+    for (rest, (status, text)) in [
+        ("", WITHIN),
+        (without_pair, WITHIN),
+        (with_pair, LIMIT_10),
+        (further, (5, "error E03 s 10\n")),
     ] {
-        let spec = with_line(rt.alloc(), relations.as_bytes(), line)?;
+        let spec = with_line(rt.alloc(), relations.as_bytes(), rest)?;
         let documents = Documents {
             s: spec.as_slice(),
             r: table.as_bytes(),
             p: NOTHING.as_bytes(),
-            tables: &[
-                ("one.csv", b"id,eid,a\nt1,x,1\nt2,y,2\n".as_slice()),
-                ("two.csv", b"id,eid,a\nt1,x,1\nt2,x,2\n".as_slice()),
-            ],
+            tables: &tables,
             ..first()
         };
         expect(&rt, documents, status, text)?;
