@@ -9,6 +9,27 @@ const TWO: &str = "id,eid,a\nr1,x,1\nr2,x,2\n";
 const IN_ORDER: &str =
     "currency report 1;\nverdict consistent;\ncompletion;\nranking R.a of x: r1 < r2;\nend;\n";
 
+const FOUR: &str = "id,eid,a\nr1,x,1\nr2,x,2\nr3,x,3\nr4,x,4\n";
+
+const FOUR_IN_ORDER: &str =
+    "currency report 1;\nverdict consistent;\ncompletion;\nranking R.a of x: r1 < r2 < r3 < r4;\nend;\n";
+
+// A staff history: who earns more is later, a married row comes after a single one, and a later row has
+// the later name and the later address.
+const STAFF: &str =
+    "relation Emp from \"emp.csv\" row id entity eid (status: text, last: text, salary: int, address: text);
+rule pay on Emp (s, t): if s.salary > t.salary then t before s in salary;
+rule wed on Emp (s, t): if s.status = \"married\" and t.status = \"single\" then t before s in status;
+rule name on Emp (s, t): if t before s in status then t before s in last;
+rule move on Emp (s, t): if t before s in salary then t before s in address;
+";
+
+const EMP: &str = "id,eid,status,last,salary,address
+s1,mary,single,Smith,50,2 Small St
+s2,mary,married,Dupont,50,10 Elm Ave
+s3,mary,married,Dupont,80,6 Main St
+";
+
 // The completion of these documents keeps their rules, or breaks one.
 fn expect_kept(
     rt: &(impl Abort + AllocGlobal),
@@ -131,11 +152,6 @@ fn a_constant_stands_on_either_side(rt: HostRuntime) -> Result<(), Fail> {
     Ok(())
 }
 
-const FOUR: &str = "id,eid,a\nr1,x,1\nr2,x,2\nr3,x,3\nr4,x,4\n";
-
-const FOUR_IN_ORDER: &str =
-    "currency report 1;\nverdict consistent;\ncompletion;\nranking R.a of x: r1 < r2 < r3 < r4;\nend;\n";
-
 #[test]
 fn rules_of_four_variables_are_judged(rt: HostRuntime) -> Result<(), Fail> {
     let chain = "if s before t in a and t before u in a and u before v in a";
@@ -185,8 +201,8 @@ fn rules_of_four_variables_are_judged(rt: HostRuntime) -> Result<(), Fail> {
     Ok(())
 }
 
-// A rule that no two rows may break that are ranked in this order, and of which the earlier has the
-// one value and the later the other: it is broken exactly where the comparison holds.
+// Two rows have these values, the earlier row the first. A rule against rows in this order whose values
+// compare so is broken exactly where the comparison holds.
 fn expect_comparison(
     rt: &(impl Abort + AllocGlobal),
     kind: &str,
@@ -386,22 +402,6 @@ fn no_report_fits_a_rule_that_one_row_breaks(rt: HostRuntime) -> Result<(), Fail
     }
     Ok(())
 }
-
-// A staff history: who earns more is later, a married row comes after a single one, and a later row has
-// the later name and the later address.
-const STAFF: &str =
-    "relation Emp from \"emp.csv\" row id entity eid (status: text, last: text, salary: int, address: text);
-rule pay on Emp (s, t): if s.salary > t.salary then t before s in salary;
-rule wed on Emp (s, t): if s.status = \"married\" and t.status = \"single\" then t before s in status;
-rule name on Emp (s, t): if t before s in status then t before s in last;
-rule move on Emp (s, t): if t before s in salary then t before s in address;
-";
-
-const EMP: &str = "id,eid,status,last,salary,address
-s1,mary,single,Smith,50,2 Small St
-s2,mary,married,Dupont,50,10 Elm Ave
-s3,mary,married,Dupont,80,6 Main St
-";
 
 #[test]
 fn a_staff_history_keeps_its_rules(rt: HostRuntime) -> Result<(), Fail> {
