@@ -4,6 +4,7 @@ use currency_base::NoMemory;
 use currency_cli::run;
 use currency_edge::{MemoryShelf, MemorySink};
 use std::alloc::Global;
+use std::process::Abort;
 use std::test::Fail;
 
 pub const S: &str = "relation R from \"r.csv\" row id entity eid (a: int);\n";
@@ -17,13 +18,14 @@ pub const P: &str =
 
 pub const ACCEPTED: &str = "accepted consistent\n";
 
-/// The four documents of a case.
+/// The four documents of a case, and further tables by their names.
 #[derive(Clone, Copy)]
 pub struct Documents<'a> {
     pub s: &'a [u8],
     pub r: &'a [u8],
     pub q: &'a [u8],
     pub p: &'a [u8],
+    pub tables: &'a [(&'a str, &'a [u8])],
 }
 
 /// The documents of the first path.
@@ -33,6 +35,7 @@ pub fn first() -> Documents<'static> {
         r: R.as_bytes(),
         q: Q.as_bytes(),
         p: P.as_bytes(),
+        tables: &[],
     }
 }
 
@@ -43,6 +46,9 @@ pub fn shelf_of(alloc: Global, documents: Documents<'_>) -> Result<MemoryShelf, 
     shelf.put("r.csv", documents.r)?;
     shelf.put("q", documents.q)?;
     shelf.put("p", documents.p)?;
+    for (name, table) in documents.tables {
+        shelf.put(name, table)?;
+    }
     Ok(shelf)
 }
 
@@ -85,4 +91,47 @@ pub fn with(place: usize, text: &[u8]) -> Documents<'_> {
             ..documents
         },
     }
+}
+
+/// The documents end with this status and text.
+pub fn expect(
+    rt: &(impl Abort + AllocGlobal),
+    documents: Documents<'_>,
+    status: u8,
+    text: &str,
+) -> Result<(), Fail> {
+    let (ended, sink) = verified(rt.alloc(), documents)?;
+    assert_eq!(rt; sink.written(), text.as_bytes(), "{text}");
+    assert_eq!(rt; ended, status, "{text}");
+    Ok(())
+}
+
+/// The text with a line more.
+pub fn with_line(alloc: Global, text: &[u8], line: &str) -> Result<Vec<u8>, Fail> {
+    let mut all = Vec::from_slice(alloc, text)?;
+    all.extend_from_slice(line.as_bytes())?;
+    Ok(all)
+}
+
+/// A stretch of numbers, both ends in it.
+#[derive(Clone, Copy)]
+pub struct Numbers {
+    pub first: u32,
+    pub last: u32,
+}
+
+/// The text with one piece more for each number, which stands between `before` and `after`.
+pub fn with_each(
+    alloc: Global,
+    text: &str,
+    numbers: Numbers,
+    before: &str,
+    after: &str,
+) -> Result<String, Fail> {
+    let mut all = String::from_str(alloc, text)?;
+    for number in numbers.first..=numbers.last {
+        let piece = format!(in alloc; "{before}{number}{after}")?;
+        all.push_str(piece.as_str())?;
+    }
+    Ok(all)
 }

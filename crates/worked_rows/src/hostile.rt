@@ -2,6 +2,11 @@ use crate::documents::{Documents, P, Q, R, S, verified, with};
 use std::process::Abort;
 use std::test::Fail;
 
+// A specification with a rule of every form of predicate and operand.
+const RULED: &str = "relation R from \"r.csv\" row id entity eid (a: int);
+rule n on R (s, t): if s before t in a and s.a <= t.a and 1 != s.a then t before s in a;
+";
+
 // Whatever stands in the documents, the program ends with a status of its table.
 fn expect_an_end(rt: &(impl Abort + AllocGlobal), documents: Documents<'_>) -> Result<(), Fail> {
     let (status, _) = verified(rt.alloc(), documents)?;
@@ -11,7 +16,7 @@ fn expect_an_end(rt: &(impl Abort + AllocGlobal), documents: Documents<'_>) -> R
 
 #[test]
 fn each_front_of_each_document(rt: HostRuntime) -> Result<(), Fail> {
-    for (place, text) in [S, R, Q, P].iter().enumerate() {
+    for (place, text) in [(0, S), (1, R), (2, Q), (3, P), (0, RULED)] {
         for cut in 0..text.len() {
             let (front, _) = text.as_bytes().split_at(cut);
             expect_an_end(&rt, with(place, front))?;
@@ -22,7 +27,7 @@ fn each_front_of_each_document(rt: HostRuntime) -> Result<(), Fail> {
 
 #[test]
 fn each_byte_of_each_document(rt: HostRuntime) -> Result<(), Fail> {
-    for (place, text) in [S, R, Q, P].iter().enumerate() {
+    for (place, text) in [(0, S), (1, R), (2, Q), (3, P), (0, RULED)] {
         for at in 0..text.len() {
             for byte in [b'"', b';', b'-', b'!', 0xff, b'\n', b'\r'] {
                 let mut changed = Vec::from_slice(rt.alloc(), text.as_bytes())?;

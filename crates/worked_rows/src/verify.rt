@@ -1,29 +1,9 @@
-use crate::documents::{ACCEPTED, Documents, P, first, shelf_of, verified, with, words_of};
+use crate::documents::{
+    ACCEPTED, Documents, P, expect, first, shelf_of, with, with_line, words_of,
+};
 use currency_cli::run;
 use currency_edge::MemorySink;
-use std::alloc::Global;
-use std::process::Abort;
 use std::test::Fail;
-
-// The documents end with this status and text.
-fn expect(
-    rt: &(impl Abort + AllocGlobal),
-    documents: Documents<'_>,
-    status: u8,
-    text: &str,
-) -> Result<(), Fail> {
-    let (ended, sink) = verified(rt.alloc(), documents)?;
-    assert_eq!(rt; sink.written(), text.as_bytes(), "{text}");
-    assert_eq!(rt; ended, status, "{text}");
-    Ok(())
-}
-
-// The text with a line more.
-fn with_line(alloc: Global, text: &[u8], line: &str) -> Result<Vec<u8>, Fail> {
-    let mut all = Vec::from_slice(alloc, text)?;
-    all.extend_from_slice(line.as_bytes())?;
-    Ok(all)
-}
 
 #[test]
 fn a_shown_report_is_accepted(rt: HostRuntime) -> Result<(), Fail> {
@@ -69,8 +49,8 @@ fn two_entities_and_two_attributes(rt: HostRuntime) -> Result<(), Fail> {
         let documents = Documents {
             s: spec,
             r: table,
-            q: first().q,
             p: report.as_slice(),
+            ..first()
         };
         expect(&rt, documents, status, text)?;
     }
@@ -166,7 +146,11 @@ fn documents_are_refused(rt: HostRuntime) -> Result<(), Fail> {
         ("order R.a: r1 < r9;\n", "error E10 s 2\n"),
         ("order R.a: r1 < r1;\n", "error E11 s 2\n"),
         ("order R.a: r1 < r2,\n r3 < r3;\n", "error E11 s 3\n"),
-        ("rule n on R (s, t): s before t in a;\n", "error E16 s 2\n"),
+        ("orders R from \"o.csv\";\n", "error E16 s 2\n"),
+        (
+            "copy c into R (a) from R (a): r1 from r2;\n",
+            "error E16 s 2\n",
+        ),
     ] {
         let spec = with_line(alloc, first().s, line)?;
         expect(
