@@ -1,0 +1,150 @@
+ghost use Rattle.std.specs.Prelude.{◌≡◌, ◌<◌, ◌+◌, ◌^◌, max, List, [], None, IsSome, IsErrOf, IfErr, OnOk, OnErr, All, length};
+ghost use Rattle.currency_base.specs.declared.row.Row.{Row};
+ghost use Rattle.copy_functions.specs.Copies.{source_at, values_of, Maps, IsCopyOf, IsCopied, IsPut};
+ghost use Rattle.copy_functions.specs.Faults.{fault_due, IsDue};
+
+use crate::difference::first_difference;
+use crate::{CopyFault, PlaceList};
+use currency_base::{ItemList, Name, NoMemory, RelId, RowId, Rows};
+use std::alloc::Global;
+use std::marker::Model;
+
+/// A copy function: rows of a target relation, each mapped to the row of a source relation that it was
+/// copied from. At each place the two rows have equal values. Contracts see it as a finite map.
+#[derive(Debug, Drop)]
+pub struct CopyMap {
+    name: Name,
+    target: RelId,
+    source: RelId,
+    places: PlaceList,
+    // By target row; rows past the end are not mapped.
+    sources: Vec<Option<RowId>>,
+}
+
+impl Model for CopyMap {
+    ghost use Rattle.std.specs.Prelude.{◌<◌, ◌^◌, length};
+    ghost use Rattle.copy_functions.specs.Copies.{CopyFunction};
+
+    ghost Value = { CopyFunction };
+
+    ghost view = { λ c. record { name = c.name; target = c.target; source = c.source; places = c.places; sources = c.sources.items } };
+
+    ghost invariant = { λ c. length c.places < 2 ^ 32 };
+}
+
+/// Copy functions, in the order of declaration.
+pub type CopyList = ItemList<CopyMap>;
+
+impl CopyMap {
+    /// A copy function that maps no row yet. Takes no memory.
+    pub fn new(
+        alloc: Global,
+        name: Name,
+        target: RelId,
+        source: RelId,
+        places: PlaceList,
+    ) -> CopyMap
+        requires { length places < 2 ^ 32 }
+        ensures name { result.name ≡ name }
+        ensures target { result.target ≡ target }
+        ensures source { result.source ≡ source }
+        ensures places { result.places ≡ places }
+        ensures unmapped { (row : RowId) → source_at result row ≡ None }
+        ensures copied { (target_rows source_rows : List Row) → IsCopied result target_rows source_rows }
+    {
+        CopyMap {
+            name,
+            target,
+            source,
+            places,
+            sources: Vec::new(alloc),
+        }
+    }
+
+    /// The name of the copy function.
+    pub fn name(&self) -> &Name
+        ensures { result.now ≡ self.now.name }
+    {
+        &self.name
+    }
+
+    /// The relation whose rows are mapped.
+    pub fn target(&self) -> RelId
+        ensures { result ≡ self.now.target }
+    {
+        self.target
+    }
+
+    /// The relation to whose rows they are mapped.
+    pub fn source(&self) -> RelId
+        ensures { result ≡ self.now.source }
+    {
+        self.source
+    }
+
+    /// The places at which mapped rows have equal values.
+    pub fn places(&self) -> &PlaceList
+        ensures value { result.now ≡ self.now.places }
+        ensures few { length self.now.places < 2 ^ 32 }
+    {
+        &self.places
+    }
+
+    /// The source row that a target row is mapped to, if there is one. Takes no memory.
+    pub fn source_of(&self, target: RowId) -> Option<RowId>
+        ensures { result ≡ source_at self.now target }
+    {
+        *self.sources.as_slice().get(target.0 as usize)?
+    }
+
+    /// Maps a target row to a source row. A target row that is mapped already is refused, even to the
+    /// same source row. One that is not is refused where values differ at a place, with the first such
+    /// place and both values. A refusal changes nothing.
+    pub fn add(
+        &mut self,
+        alloc: Global,
+        target_rows: &Rows,
+        source_rows: &Rows,
+        target: RowId,
+        source: RowId,
+    ) -> Result<(), CopyFault>
+        requires target_row { target.0 < length target_rows.now }
+        requires source_row { source.0 < length source_rows.now }
+        requires target_values { All (λ p. p.target.0 < length (values_of target_rows.now target)) self.old.places }
+        requires source_values { All (λ p. p.source.0 < length (values_of source_rows.now source)) self.old.places }
+        ensures ok { OnOk result (Maps self.old self.new target source) }
+        ensures unmapped { OnOk result (source_at self.old target ≡ None) }
+        ensures equal { OnOk result (IsCopyOf self.old.places target_rows.now source_rows.now target source) }
+        ensures copied { IsCopied self.old target_rows.now source_rows.now → OnOk result (IsCopied self.new target_rows.now source_rows.now) }
+        ensures faultless { OnOk result (fault_due self.old target_rows.now source_rows.now target source ≡ None) }
+        ensures twice { IsErrOf result CopyFault.CopyTwice → IsSome (source_at self.old target) }
+        ensures due { IfErr result (IsDue (fault_due self.old target_rows.now source_rows.now target source)) }
+        ensures err { OnErr result (self.new ≡ self.old) }
+    {
+        if self.source_of(target).is_some() {
+            return Err(CopyFault::CopyTwice);
+        }
+        let target_values = target_rows.row(target).values.as_slice();
+        let source_values = source_rows.row(source).values.as_slice();
+        let places = self.places.as_slice();
+        if let Some(difference) = first_difference(places, target_values, source_values) {
+            return Err(difference.fault(alloc));
+        }
+        put(&mut self.sources, target, source)?;
+        Ok(())
+    }
+}
+
+// Sets the source row of a target row. The list grows no further than to that row.
+fn put(sources: &mut Vec<Option<RowId>>, target: RowId, source: RowId) -> Result<(), NoMemory>
+    ensures ok { OnOk result (IsPut sources.old.items sources.new.items target source) }
+    ensures room { OnOk result (length sources.new.items ≡ max (length sources.old.items) (target.0 + 1)) }
+    ensures err { OnErr result (sources.new.items ≡ sources.old.items) }
+{
+    let place = target.0 as usize;
+    if place >= sources.len() {
+        sources.resize(place + 1, None)?;
+    }
+    sources[place] = Some(source);
+    Ok(())
+}
