@@ -1,7 +1,7 @@
 -- The lists of all owners, where a slot is put in front of one of them, or taken off one of them.
-use Rattle.std.proofs.Common.{◌≡◌, ◌⊎◌, ◌<◌, ◌∙◌, ℕ, List, [], ◌∷◌, length, slice_set, refl, ap, subst, inl, inr}
+use Rattle.std.proofs.Common.{◌≡◌, ◌⊎◌, ◌<◌, ◌∙◌, ℕ, List, [], ◌∷◌, length, slice_set, refl, sym, ap, subst, inl, inr}
 use Rattle.std.proofs.lemmas.Bool.{cases_eq}
-use Rattle.std.proofs.lemmas.List.{get_or-set_same, get_or-set_other}
+use Rattle.std.proofs.lemmas.List.{get_or-set_same, get_or-set_other, length-set}
 use Rattle.watch_links.specs.Links.{list_of, lists_with, lists_without, without, IsIn, IsFree, HasNoneTwice}
 use Rattle.watch_links.proofs.SlotLists.{in_without, not_in_without, stays_in_without}
 
@@ -81,3 +81,19 @@ module _ (lists : List (List ℕ)) (owner slot : ℕ) (within : owner < length l
   -- a slot that stood in no list stands in none still
   pub free_in_lists_without : (y : ℕ) → IsFree lists y → IsFree (lists_without lists owner slot) y
   free_in_lists_without y free other i = free other (in_lists_without other y i)
+
+-- the lists where a slot has moved from one owner's list to another's
+module _ (lists off on : List (List ℕ)) (owner target slot : ℕ) (is_off : off ≡ lists_without lists owner slot) (is_on : on ≡ lists_with off target slot) where
+  -- they are as many
+  pub length_moved : length on ≡ length lists
+  length_moved =
+      let first = ap length is_off ∙ length-set lists owner (without slot (list_of lists owner)) in
+      ap length is_on ∙ length-set off target (slot ∷ list_of off target) ∙ first
+
+  -- and the slot alone has left the one list
+  pub list_moved : owner < length lists → (target ≡ owner → ⊥) → list_of on owner ≡ without slot (list_of lists owner)
+  list_moved within differs =
+      ap (λ (ls : List (List ℕ)). list_of ls owner) is_on
+      ∙ get_or-set_other off target owner (slot ∷ list_of off target) [] (λ e. differs (sym e))
+      ∙ ap (λ (ls : List (List ℕ)). list_of ls owner) is_off
+      ∙ get_or-set_same lists owner (without slot (list_of lists owner)) [] within

@@ -1,4 +1,5 @@
-ghost use Rattle.std.specs.Prelude.{◌<◌, length};
+ghost use Rattle.std.specs.Prelude.{◌≡◌, ◌≢◌, ◌<◌, length, IfOk};
+ghost use Rattle.watch_links.specs.Links.{list_of};
 
 use crate::WatchLinks;
 use currency_base::NoMemory;
@@ -11,6 +12,29 @@ fn has(links: &WatchLinks, alloc: Global, owner: u32, slots: &[u32]) -> Result<b
 {
     let seen = links.slots_of(alloc, owner)?;
     Ok(seen.as_slice() == slots)
+}
+
+// Goes over an owner's list and moves each slot to another's; the slots in the order in which it met
+// them.
+fn move_all(links: &mut WatchLinks, alloc: Global, from: u32, to: u32) -> Result<Vec<u32>, NoMemory>
+    requires from_inside { from < length links.old.lists }
+    requires to_inside { to < length links.old.lists }
+    requires differ { to ≢ from }
+    ensures seen { IfOk result (λ seen. seen.items ≡ list_of links.old.lists from) }
+    ensures owners { length links.new.lists ≡ length links.old.lists }
+{
+    let mut seen = Vec::new(alloc);
+    let mut at = links.first(from);
+    while let Some(slot) = at {
+        links.are_whole();
+        let Ok(()) = seen.push(slot) else {
+            return Err(NoMemory);
+        };
+        at = links.next(slot);
+        links.detach(slot, from);
+        links.attach(slot, to);
+    }
+    Ok(seen)
 }
 
 #[test]
@@ -31,6 +55,11 @@ fn slots_join_and_leave_lists(rt: HostRuntime) -> Result<(), Fail> {
     links.attach(0, 6);
     assert!(rt; has(&links, alloc, 2, &[2])?);
     assert!(rt; has(&links, alloc, 6, &[0])?);
+
+    let met = move_all(&mut links, alloc, 4, 7)?;
+    assert!(rt; has(&links, alloc, 4, &[])?);
+    assert!(rt; has(&links, alloc, 7, &[1, 3, 5])?);
+    assert_eq!(rt; met.len(), 3);
     Ok(())
 }
 
