@@ -1,0 +1,9 @@
+pub mod SlotLists
+pub mod ListsChanged
+pub mod ChainFacts
+pub mod WalkFacts
+pub mod OffList
+pub mod Seen
+pub mod OnList
+pub mod MoreSlots
+pub mod WalkSteps
