@@ -3,5 +3,4 @@ mod Due
 mod Fitting
 mod Numbers
 mod Places
-mod Small
 mod Walk
