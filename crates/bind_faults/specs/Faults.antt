@@ -3,11 +3,19 @@ use Rattle.std.specs.Prelude.{◌≡◌, ℕ, List, [], ◌∷◌, Option, Some,
 use Rattle.currency_base.specs.declared.error_code.ErrorCode.{ErrorCode}
 use Rattle.text_grammar.specs.declared.named.Named.{Named}
 use Rattle.bind_faults.specs.declared.fault.BindFault.{BindFault}
-use Rattle.bind_faults.specs.declared.fault.BindFault.TheVariants.{Refused, Limit, ReadFault, NoMemory}
+use Rattle.bind_faults.specs.declared.fault.BindFault.TheVariants.{Refused, CopyDiffers, Limit, ReadFault, NoMemory}
 
 -- the refusal of a name in the tree's own text, at its line
 abbrev pub refused_at : ErrorCode → Named → BindFault
 refused_at code named = Refused record { code = code; document = None; line = named.line }
+
+-- the refusal of a name, at its line in the document of that name, or in the tree's own text where none is named
+abbrev pub refused_of : Option (List ℕ) → ErrorCode → Named → BindFault
+refused_of document code named = Refused record { code = code; document = document; line = named.line }
+
+-- the refusal of a record of a table
+abbrev pub refused_in : List ℕ → ErrorCode → ℕ → BindFault
+refused_in table code line = Refused record { code = code; document = Some table; line = line }
 
 -- what comes of a name that is found, and else its refusal
 abbrev pub found_or : {A : Type 0} → Option ℕ → BindFault → (ℕ → Result A BindFault) → Result A BindFault
@@ -49,6 +57,7 @@ IsDue due (Err fault) = due ≡ Err fault
 abbrev pub IsSettled : {A : Type 0} → Result A BindFault → Type 0
 IsSettled (Ok made) = Unit {0}
 IsSettled (Err (Refused refusal)) = Unit {0}
+IsSettled (Err (CopyDiffers document line target source)) = Unit {0}
 IsSettled (Err (Limit k)) = Unit {0}
 IsSettled (Err (ReadFault name)) = ⊥
 IsSettled (Err NoMemory) = ⊥

@@ -1,7 +1,7 @@
-ghost use Rattle.std.specs.Prelude.{◌≡◌, None};
-ghost use Rattle.bind_faults.specs.Faults.{refused_at};
+ghost use Rattle.std.specs.Prelude.{◌≡◌, ◌⊎◌, None, option_map};
+ghost use Rattle.bind_faults.specs.Faults.{refused_at, refused_of};
 
-use currency_base::{ErrorCode, Name, NoMemory};
+use currency_base::{ErrorCode, Name, NoMemory, Value};
 use std::alloc::Global;
 use text_grammar::Named;
 
@@ -19,6 +19,14 @@ pub struct Refusal {
 #[derive(Debug, Drop, PartialEq)]
 pub enum BindFault {
     Refused(Refusal),
+    /// A row differs from the row that it is copied from. The values are those of the first place where
+    /// they do; document and line are as in a refusal.
+    CopyDiffers {
+        document: Option<Name>,
+        line: u32,
+        target: Value,
+        source: Value,
+    },
     /// A quantity is above its bound; the number is that of the limit.
     Limit(u8),
     /// The shelf could not give this document.
@@ -47,6 +55,26 @@ impl BindFault {
             code,
             document: None,
             line: named.line,
+        })
+    }
+
+    /// The refusal of a name, at its line in a table, or in the tree's own text where no document is named.
+    /// For want of memory it is that.
+    pub fn of(alloc: Global, code: ErrorCode, document: Option<&Name>, named: &Named) -> BindFault
+        ensures { (result ≡ BindFault.NoMemory) ⊎ (result ≡ refused_of (option_map (λ n. n.now) document.entry) code named.now) }
+    {
+        let line = named.line;
+        let document = match document {
+            None => None,
+            Some(name) => match name.duplicate(alloc) {
+                Ok(name) => Some(name),
+                Err(_) => return BindFault::NoMemory,
+            },
+        };
+        BindFault::Refused(Refusal {
+            code,
+            document,
+            line,
         })
     }
 }

@@ -1,8 +1,13 @@
 mod Choices
+mod CopyLifted
+mod CopyMeaning
+mod CopyReads
+mod CopySearch
 mod Fronts
 mod Kept
 mod Lifted
 mod Meaning
+mod OneCopy
 mod OneFlaw
 mod Places
 mod Ranked

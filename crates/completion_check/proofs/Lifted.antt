@@ -8,10 +8,10 @@ use Rattle.denial_rules.specs.declared.rule.Rule.{Rule}
 use Rattle.spec_model.specs.Spec.{Spec}
 use Rattle.spec_model.specs.Facts.{IsRelation, IsGivenPair, AreRelations, AreRules, IsRuleOf, kinds_of}
 use Rattle.spec_model.specs.Completion.{Rankings, IsCompletion}
-use Rattle.spec_model.specs.Consistent.{KeepsGiven, SatisfiesRules, IsConsistent}
+use Rattle.spec_model.specs.Consistent.{KeepsGiven, SatisfiesRules, IsCompatibleWith, IsConsistent}
 use Rattle.spec_model.specs.FirstFlaw.{IsFirstBroken, IsFirstRuleBroken, IsFirstFlaw}
 use Rattle.spec_model.specs.declared.flaw.Flaw.{Flaw}
-use Rattle.spec_model.specs.declared.flaw.Flaw.TheVariants.{NotARanking, GivenBroken, RuleBroken}
+use Rattle.spec_model.specs.declared.flaw.Flaw.TheVariants.{NotARanking, GivenBroken, RuleBroken, CopyBroken}
 use Rattle.spec_model.specs.declared.relation.Relation.{Relation}
 use Rattle.completion_check.specs.Tests.{Places}
 use Rattle.completion_check.specs.Breaks.{NoRuleBreaks, IsFirstRuleBreak}
@@ -27,7 +27,7 @@ pub record IsMarkedCompletion (rs : List Relation) (c : Rankings) (places : List
   pub completion : IsCompletion rs c
   pub marked : AreMarkedIn rs c places
 
-scene_of : (rs : List Relation) (c : Rankings) (places : List Places) (rel : ℕ) (r : Relation) → IsMarkedCompletion rs c places → slice_get rs rel ≡ Some r
+pub scene_of : (rs : List Relation) (c : Rankings) (places : List Places) (rel : ℕ) (r : Relation) → IsMarkedCompletion rs c places → slice_get rs rel ≡ Some r
     → IsScene r (slice_index_or c rel []) (slice_index_or places rel [])
 scene_of rs c places rel r is at =
     record {
@@ -113,11 +113,13 @@ pub unranked_flaw : (s : Spec) (c : Rankings) (flaw : Flaw) → IsUnrankedFlaw s
 unranked_flaw s c (NotARanking rel attr ent) is = is
 unranked_flaw s c (GivenBroken rel pair) is = absurd is
 unranked_flaw s c (RuleBroken rule rows) is = absurd is
+unranked_flaw s c (CopyBroken copy place first second) is = absurd is
 
 pub pair_flaw : (s : Spec) (c : Rankings) (places : List Places) (flaw : Flaw) → IsMarkedCompletion s.relations c places → IsPairFlaw s.relations places flaw → IsFirstFlaw s c flaw
 pair_flaw s c places (NotARanking rel attr ent) is found = absurd found
 pair_flaw s c places (GivenBroken rel pair) is found = (is.completion, first_broken s.relations c places rel.0 pair is found)
 pair_flaw s c places (RuleBroken rule rows) is found = absurd found
+pair_flaw s c places (CopyBroken copy place first second) is found = absurd found
 
 pub rule_flaw : (s : Spec) (c : Rankings) (places : List Places) (flaw : Flaw) → IsMarkedCompletion s.relations c places → AreRules s.relations s.rules → AreAllInOrder s.relations places
     → IsRuleFlaw s.relations s.rules places flaw → IsFirstFlaw s c flaw
@@ -125,8 +127,14 @@ rule_flaw s c places (NotARanking rel attr ent) is are order found = absurd foun
 rule_flaw s c places (GivenBroken rel pair) is are order found = absurd found
 rule_flaw s c places (RuleBroken rule rows) is are order found =
     (is.completion, keeps_given s.relations c places is order, first_rule_broken s c places rule.0 rows is are found)
+rule_flaw s c places (CopyBroken copy place first second) is are order found = absurd found
 
 pub consistent : (s : Spec) (c : Rankings) (places : List Places) → IsMarkedCompletion s.relations c places → AreRules s.relations s.rules → AreAllInOrder s.relations places
-    → NoRuleBreaks s.relations s.rules places → IsConsistent s c
-consistent s c places is are order none =
-    record { completion = is.completion; given = keeps_given s.relations c places is order; rules = satisfies_rules s.relations s.rules c places is are none }
+    → NoRuleBreaks s.relations s.rules places → IsCompatibleWith s.relations s.copies c → IsConsistent s c
+consistent s c places is are order none compatible =
+    record {
+      completion = is.completion;
+      given = keeps_given s.relations c places is order;
+      rules = satisfies_rules s.relations s.rules c places is are none;
+      copies = compatible;
+    }

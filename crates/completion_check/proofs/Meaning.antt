@@ -39,7 +39,7 @@ entity_is r row ent facts of =
     subst (λ n. n < length r.entities) same e.1
 
 -- of two rows of one entity the one with the smaller place stands before the other
-before_at : (r : Relation) (lists : Lists) (places : Places) (attr ent : ℕ) (a b : RowId) → IsScene r lists places → attr < length r.attrs
+pub before_at : (r : Relation) (lists : Lists) (places : Places) (attr ent : ℕ) (a b : RowId) → IsScene r lists places → attr < length r.attrs
     → entity_of r.rows a.0 ≡ Some ent → entity_of r.rows b.0 ≡ Some ent → slice_index (slice_index_or places attr []) a.0 < slice_index (slice_index_or places attr []) b.0
     → Before (slice_index_or lists attr []) a b
 before_at r lists places attr ent a b scene within of_a of_b below =
@@ -47,7 +47,7 @@ before_at r lists places attr ent a b scene within of_a of_b below =
     let listed : ent < length (slice_index_or lists attr []) = omega (arith, scene.fits.per_entity attr within) in
     before_from r.rows (slice_index_or lists attr []) (slice_index_or places attr []) ent a b (scene.ranked attr ent within is) (scene.marked attr within ent listed) of_a of_b below
 
-below_at : (r : Relation) (lists : Lists) (places : Places) (attr : ℕ) (a b : RowId) → IsScene r lists places → attr < length r.attrs
+pub below_at : (r : Relation) (lists : Lists) (places : Places) (attr : ℕ) (a b : RowId) → IsScene r lists places → attr < length r.attrs
     → Before (slice_index_or lists attr []) a b → slice_index (slice_index_or places attr []) a.0 < slice_index (slice_index_or places attr []) b.0
 below_at r lists places attr a b scene within before =
     below_from r.rows (slice_index_or lists attr []) (slice_index_or places attr []) a b (scene.marked attr within) before
@@ -88,7 +88,7 @@ tested_standing r lists places attr (Some a) (Some b) scene within before = lt-l
 tested_standing r lists places attr None y scene within before = absurd before
 tested_standing r lists places attr (Some a) None scene within before = absurd before
 
-attr_within : (r : Relation) (attr : ℕ) → attr < length (kinds_of r) → attr < length r.attrs
+pub attr_within : (r : Relation) (attr : ℕ) → attr < length (kinds_of r) → attr < length r.attrs
 attr_within r attr below = let e = length-map r.attrs (λ a. a.kind) in omega arith
 
 holds_tested : (r : Relation) (lists : Lists) (places : Places) (vars ent : ℕ) (rows : List RowId) (p : Predicate) → IsScene r lists places

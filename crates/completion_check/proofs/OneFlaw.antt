@@ -12,12 +12,13 @@ use Rattle.currency_base.specs.declared.row.Row.{Row}
 use Rattle.denial_rules.specs.declared.rule.Rule.{Rule}
 use Rattle.spec_model.specs.Spec.{Spec}
 use Rattle.spec_model.specs.Satisfies.{Lists, IsSatisfiedBy, IsBrokenBy, AreRowsBefore}
-use Rattle.spec_model.specs.Consistent.{KeepsGiven, IsConsistent}
+use Rattle.spec_model.specs.Consistent.{KeepsGiven, SatisfiesRules, IsConsistent}
 use Rattle.spec_model.specs.declared.relation.Relation.{Relation}
 use Rattle.spec_model.specs.declared.flaw.Flaw.{Flaw}
-use Rattle.spec_model.specs.declared.flaw.Flaw.TheVariants.{NotARanking, GivenBroken, RuleBroken}
+use Rattle.spec_model.specs.declared.flaw.Flaw.TheVariants.{NotARanking, GivenBroken, RuleBroken, CopyBroken}
 use Rattle.spec_model.specs.Completion.{Rankings, IsCompletion}
 use Rattle.spec_model.specs.FirstFlaw.{IsPlaceBefore, IsFirstUnranked, IsFirstBroken, IsFirstRuleBroken, IsFirstFlaw}
+use Rattle.completion_check.proofs.OneCopy.{no_copy_broken, one_copy_broken}
 use Rattle.completion_check.proofs.Places.{get_in_take, contains_at}
 
 -- of two places one stands before the other, or they are one
@@ -202,21 +203,32 @@ one_rule_broken s c k k' xs ys f g =
 no_broken : (rs : List Relation) (c : Rankings) (rel : ℕ) (p : Pair) → KeepsGiven rs c → IsFirstBroken rs c rel p → ⊥
 no_broken rs c rel p kept f = f.broken (kept rel f.relation f.is_relation p (contains_at f.relation.given f.place p f.is_pair))
 
+-- rules that are satisfied are not broken
+no_rule_broken : (s : Spec) (c : Rankings) (k : ℕ) (rows : List RowId) → SatisfiesRules s.relations s.rules c → IsFirstRuleBroken s c k rows → ⊥
+no_rule_broken s c k rows is f =
+    not_both f.relation.rows (slice_index_or c f.rule.relation.0 []) f.rule rows f.broken (is k f.rule f.is_rule f.relation f.is_relation rows f.broken.choice)
+
 pub one_flaw : (s : Spec) (c : Rankings) (flaw other : Flaw) → IsFirstFlaw s c flaw → IsFirstFlaw s c other → flaw ≡ other
 one_flaw s c (NotARanking rel attr ent) (NotARanking rel' attr' ent') f g = one_unranked s.relations c rel rel' attr attr' ent ent' f g
 one_flaw s c (NotARanking rel attr ent) (GivenBroken rel' q) f g = absurd (no_unranked s.relations c rel.0 attr.0 ent.0 g.0 f)
 one_flaw s c (NotARanking rel attr ent) (RuleBroken k rows) f g = absurd (no_unranked s.relations c rel.0 attr.0 ent.0 g.0 f)
+one_flaw s c (NotARanking rel attr ent) (CopyBroken k at t u) f g = absurd (no_unranked s.relations c rel.0 attr.0 ent.0 g.0 f)
 one_flaw s c (GivenBroken rel p) (NotARanking rel' attr' ent') f g = absurd (no_unranked s.relations c rel'.0 attr'.0 ent'.0 f.0 g)
 one_flaw s c (GivenBroken rel p) (GivenBroken rel' q) f g = one_broken s.relations c rel rel' p q f.1 g.1
 one_flaw s c (GivenBroken rel p) (RuleBroken k rows) f g = absurd (no_broken s.relations c rel.0 p g.1 f.1)
+one_flaw s c (GivenBroken rel p) (CopyBroken k at t u) f g = absurd (no_broken s.relations c rel.0 p g.1 f.1)
 one_flaw s c (RuleBroken k rows) (NotARanking rel' attr' ent') f g = absurd (no_unranked s.relations c rel'.0 attr'.0 ent'.0 f.0 g)
 one_flaw s c (RuleBroken k rows) (GivenBroken rel' q) f g = absurd (no_broken s.relations c rel'.0 q f.1 g.1)
 one_flaw s c (RuleBroken k xs) (RuleBroken k' ys) f g = one_rule_broken s c k k' xs ys f.2 g.2
+one_flaw s c (RuleBroken k rows) (CopyBroken k' at t u) f g = absurd (no_rule_broken s c k.0 rows g.2 f.2)
+one_flaw s c (CopyBroken k at t u) (NotARanking rel' attr' ent') f g = absurd (no_unranked s.relations c rel'.0 attr'.0 ent'.0 f.0 g)
+one_flaw s c (CopyBroken k at t u) (GivenBroken rel' q) f g = absurd (no_broken s.relations c rel'.0 q f.1 g.1)
+one_flaw s c (CopyBroken k at t u) (RuleBroken k' rows) f g = absurd (no_rule_broken s c k'.0 rows f.2 g.2)
+one_flaw s c (CopyBroken k at t u) (CopyBroken k' at' t' u') f g = one_copy_broken s c k k' at at' t u t' u' f.3 g.3
 
 -- no completion with a flaw is consistent
 pub rules_out : (s : Spec) (c : Rankings) (flaw : Flaw) → IsFirstFlaw s c flaw → IsConsistent s c → ⊥
 rules_out s c (NotARanking rel attr ent) flaw is = no_unranked s.relations c rel.0 attr.0 ent.0 is.completion flaw
 rules_out s c (GivenBroken rel pair) flaw is = no_broken s.relations c rel.0 pair is.given flaw.1
-rules_out s c (RuleBroken k rows) flaw is =
-    not_both flaw.2.relation.rows (slice_index_or c flaw.2.rule.relation.0 []) flaw.2.rule rows flaw.2.broken
-    (is.rules k.0 flaw.2.rule flaw.2.is_rule flaw.2.relation flaw.2.is_relation rows flaw.2.broken.choice)
+rules_out s c (RuleBroken k rows) flaw is = no_rule_broken s c k.0 rows is.rules flaw.2
+rules_out s c (CopyBroken k at t u) flaw is = no_copy_broken s c k.0 at t u is.copies flaw.3

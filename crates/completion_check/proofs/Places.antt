@@ -52,7 +52,7 @@ pub at_contains : {A : Type 0} (xs : List A) (x : A) → Contains xs x → (i : 
 at_contains xs x c = (c.0, slice_get-get_or xs c.0 x c.1 ∙ ap Some c.2)
 
 -- a row is its number
-same_row : (r s : RowId) → r.0 ≡ s.0 → r ≡ s
+pub same_row : (r s : RowId) → r.0 ≡ s.0 → r ≡ s
 same_row r s e = ap (λ (n : ℕ). let x : RowId = record { 0 = n } in x) e
 
 -- one more row of the list

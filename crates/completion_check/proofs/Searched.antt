@@ -45,7 +45,7 @@ none_next t members front left each (row ∷ more) are =
     ∙ each at.0 row (slice_get_within members at.0 row at.1) at.1 more (first_of_more members left row more are)
 
 -- a row before another of the members stands at a smaller place
-stands_before : (members : List RowId) (i k : ℕ) (row r : RowId) → Ascend members → slice_get members i ≡ Some row → slice_get members k ≡ Some r → r.0 < row.0 → k < i
+pub stands_before : (members : List RowId) (i k : ℕ) (row r : RowId) → Ascend members → slice_get members i ≡ Some row → slice_get members k ≡ Some r → r.0 < row.0 → k < i
 stands_before members i k row r ascend at at_k less =
     ⊎_elim
     (λ (h : k < i). h)

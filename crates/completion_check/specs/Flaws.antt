@@ -1,15 +1,17 @@
 -- What each part of a check finds first, by the places of rows.
 use Rattle.std.specs.Prelude.{◌≡◌, ◌<◌, ℕ, List, [], Some, slice_get, slice_index_or}
 use Rattle.currency_base.specs.declared.pair.Pair.{Pair}
+use Rattle.copy_functions.specs.Copies.{CopyFunction}
 use Rattle.denial_rules.specs.declared.rule.Rule.{Rule}
 use Rattle.spec_model.specs.Completion.{Rankings}
 use Rattle.spec_model.specs.FirstFlaw.{IsFirstUnranked}
 use Rattle.spec_model.specs.declared.flaw.Flaw.{Flaw}
-use Rattle.spec_model.specs.declared.flaw.Flaw.TheVariants.{NotARanking, GivenBroken, RuleBroken}
+use Rattle.spec_model.specs.declared.flaw.Flaw.TheVariants.{NotARanking, GivenBroken, RuleBroken, CopyBroken}
 use Rattle.spec_model.specs.declared.relation.Relation.{Relation}
 use Rattle.completion_check.specs.Relations.{AreAllMarked, AreInOrder, IsFirstOutOfOrder}
 use Rattle.completion_check.specs.Tests.{Places}
 use Rattle.completion_check.specs.Breaks.{IsFirstRuleBreak}
+use Rattle.completion_check.specs.CopyBreaks.{IsFirstCopyBreak}
 
 -- the rows of each relation have their places
 abbrev pub AreMarkedIn : List Relation → Rankings → List Places → Type 0
@@ -41,3 +43,8 @@ IsPairFlaw relations places flaw = ⊥
 abbrev pub IsRuleFlaw : List Relation → List Rule → List Places → Flaw → Type 0
 IsRuleFlaw relations rules places (RuleBroken rule rows) = IsFirstRuleBreak relations rules places rule.0 rows
 IsRuleFlaw relations rules places flaw = ⊥
+
+-- the flaw is the first two rows that break a copy function
+abbrev pub IsCopyFlaw : List Relation → List CopyFunction → List Places → Flaw → Type 0
+IsCopyFlaw relations copies places (CopyBroken copy place first second) = IsFirstCopyBreak relations copies places copy.0 place first second
+IsCopyFlaw relations copies places flaw = ⊥

@@ -11,6 +11,7 @@ ghost use Rattle.completion_check.specs.Flaws.{AreMarkedIn, AreAllInOrder, IsUnr
 
 use crate::CheckScratch;
 use crate::broken::broken_rows;
+use crate::copies::check_copies;
 use crate::relations::RelationPlaces;
 use currency_base::{RelId, RuleId};
 use entity_rows::EntityRows;
@@ -18,9 +19,10 @@ use spec_model::{Completion, Flaw, Relation, Rule, Specification};
 use std::alloc::Global;
 
 /// Is the completion consistent? If not, the answer is what it fails first: rankings before given pairs,
-/// and these before rules, each in their order. Takes no memory. It takes time in proportion to the
-/// completion's lists and the given pairs, and for a rule to the choices of rows of one entity up to the
-/// first predicate that fails.
+/// these before rules, and these before copy functions, each in their order. Takes no memory. It takes
+/// time in proportion to the completion's lists and the given pairs, for a rule to the choices of rows of
+/// one entity up to the first predicate that fails, and for each place of a copy function to the target's
+/// rows and the pairs of a mapped row and a row of its entity.
 pub fn check_completion(
     spec: &Specification,
     completion: &Completion,
@@ -38,13 +40,11 @@ pub fn check_completion(
     if let Err(flaw) = check_given(relations, places) {
         return Err(flaw);
     }
-    check_rules(
-        scratch.alloc,
-        relations,
-        spec.rules(),
-        places,
-        scratch.members.as_slice(),
-    )
+    let members = scratch.members.as_slice();
+    if let Err(flaw) = check_rules(scratch.alloc, relations, spec.rules(), places, members) {
+        return Err(flaw);
+    }
+    check_copies(relations, spec.copies(), places, members)
 }
 
 // Is each list a ranking? Writes the places of the rows.

@@ -3,6 +3,9 @@
 
 mod broken;
 mod check;
+mod copies;
+mod copy_search;
+mod copy_trial;
 mod marks;
 mod relations;
 mod row_places;

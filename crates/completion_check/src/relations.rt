@@ -2,9 +2,10 @@ ghost use Rattle.std.specs.Prelude.{◌≡◌, ℕ, ◌<◌, ◌≤◌, [], leng
 ghost use Rattle.spec_model.specs.Facts.{IsRelation};
 ghost use Rattle.completion_check.specs.Relations.{FitsRelation, IsRanked, AreAllMarked, IsFirstUnrankedOf, AreInOrder, IsFirstOutOfOrder};
 ghost use Rattle.completion_check.specs.Room.{HasPlaces};
+ghost use Rattle.completion_check.specs.CopyTests.{is_lower};
 
 use crate::row_places::Places;
-use currency_base::{AttrId, EntId, Pair};
+use currency_base::{AttrId, EntId, Pair, RowId};
 use spec_model::{AttributeRankings, Relation};
 use std::marker::Model;
 
@@ -42,6 +43,17 @@ impl RelationPlaces {
         ensures { result.now ≡ slice_index_or self.now attr.0 [] }
     {
         &self.attrs[attr.0 as usize]
+    }
+
+    /// Has the first of two rows the smaller place in an attribute?
+    pub(crate) fn is_lower(&self, attr: AttrId, first: RowId, second: RowId) -> bool
+        requires attr { attr.0 < length self.now }
+        requires first { first.0 < length (slice_index_or self.now attr.0 []) }
+        requires second { second.0 < length (slice_index_or self.now attr.0 []) }
+        ensures { result ≡ is_lower self.now attr.0 first second }
+    {
+        let places = self.attr(attr);
+        places.of(first) < places.of(second)
     }
 
     /// Writes the places of a relation's rows in its lists, up to the first list that is no ranking, which

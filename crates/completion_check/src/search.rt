@@ -28,8 +28,8 @@ pub(crate) fn first_break(trial: &Trial, members: &[RowList]) -> Option<[RowId; 
     None
 }
 
-// The rows of an entity.
-fn rows_of(members: &[RowList], ent: EntId) -> &[RowId]
+/// The rows of an entity.
+pub(crate) fn rows_of(members: &[RowList], ent: EntId) -> &[RowId]
     requires { ent.0 < length members.now }
     ensures { result.now ≡ slice_index_or members.now ent.0 [] }
 {

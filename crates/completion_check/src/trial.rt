@@ -92,10 +92,9 @@ impl Trial<'_> {
         requires rows { AreRows self.now.table rows.now }
         ensures { result ≡ atom_test self.now.places rows.now atom.now }
     {
-        let places = self.places.attr(atom.attr);
         let earlier = rows[atom.earlier as usize];
         let later = rows[atom.later as usize];
-        places.of(earlier) < places.of(later)
+        self.places.is_lower(atom.attr, earlier, later)
     }
 }
 

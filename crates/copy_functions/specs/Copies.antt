@@ -1,5 +1,5 @@
 -- Copy functions: partial maps from rows of one relation to rows of another that have equal values at each place.
-use Rattle.std.specs.Prelude.{◌≡◌, ◌≢◌, ◌<◌, ℕ, List, [], Option, Some, None, All, length, slice_get}
+use Rattle.std.specs.Prelude.{◌≡◌, ◌≢◌, ◌<◌, ℕ, zero, suc, List, [], ◌∷◌, Option, Some, None, All, length, slice_get}
 use Rattle.std.specs.List.{slice_index_or}
 use Rattle.currency_base.specs.declared.ids.RelId.{RelId}
 use Rattle.currency_base.specs.declared.ids.RowId.{RowId}
@@ -24,6 +24,17 @@ source_in sources row = slice_index_or sources row.0 None
 -- the source row that a target row is mapped to, if there is one
 abbrev pub source_at : CopyFunction → RowId → Option RowId
 source_at copy target = source_in copy.sources target
+
+-- the list with a source row for the target row; rows between its end and that row get none
+abbrev pub put_source : List (Option RowId) → ℕ → RowId → List (Option RowId)
+put_source [] zero source = Some source ∷ []
+put_source [] (suc target) source = None ∷ put_source [] target source
+put_source (x ∷ sources) zero source = Some source ∷ sources
+put_source (x ∷ sources) (suc target) source = x ∷ put_source sources target source
+
+-- the copy function that maps one target row more
+abbrev pub with_source : CopyFunction → RowId → RowId → CopyFunction
+with_source copy target source = record copy { sources = put_source copy.sources target.0 source }
 
 -- the new list has a source row for the target row, and is the old one for each other row
 pub record IsPut (old new : List (Option RowId)) (target source : RowId) : Type 0 where

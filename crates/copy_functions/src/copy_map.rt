@@ -1,6 +1,6 @@
 ghost use Rattle.std.specs.Prelude.{◌≡◌, ◌<◌, ◌+◌, ◌^◌, max, List, [], None, IsSome, IsErrOf, IfErr, OnOk, OnErr, All, length};
 ghost use Rattle.currency_base.specs.declared.row.Row.{Row};
-ghost use Rattle.copy_functions.specs.Copies.{source_at, values_of, Maps, IsCopyOf, IsCopied, IsPut};
+ghost use Rattle.copy_functions.specs.Copies.{source_at, values_of, with_source, Maps, IsCopyOf, IsCopied, IsPut};
 ghost use Rattle.copy_functions.specs.Faults.{fault_due, IsDue};
 
 use crate::difference::first_difference;
@@ -45,10 +45,7 @@ impl CopyMap {
         places: PlaceList,
     ) -> CopyMap
         requires { length places < 2 ^ 32 }
-        ensures name { result.name ≡ name }
-        ensures target { result.target ≡ target }
-        ensures source { result.source ≡ source }
-        ensures places { result.places ≡ places }
+        ensures value { result ≡ record { name = name; target = target; source = source; places = places; sources = [] } }
         ensures unmapped { (row : RowId) → source_at result row ≡ None }
         ensures copied { (target_rows source_rows : List Row) → IsCopied result target_rows source_rows }
     {
@@ -113,6 +110,7 @@ impl CopyMap {
         requires target_values { All (λ p. p.target.0 < length (values_of target_rows.now target)) self.old.places }
         requires source_values { All (λ p. p.source.0 < length (values_of source_rows.now source)) self.old.places }
         ensures ok { OnOk result (Maps self.old self.new target source) }
+        ensures value { OnOk result (self.new ≡ with_source self.old target source) }
         ensures unmapped { OnOk result (source_at self.old target ≡ None) }
         ensures equal { OnOk result (IsCopyOf self.old.places target_rows.now source_rows.now target source) }
         ensures copied { IsCopied self.old target_rows.now source_rows.now → OnOk result (IsCopied self.new target_rows.now source_rows.now) }

@@ -26,6 +26,10 @@ pub enum ErrorCode {
     UnknownRow,
     /// The rows of a pair are one row, or of two entities.
     NotOneEntity,
+    /// A row is copied already.
+    CopyTwice,
+    /// A row differs from the one that it is copied from.
+    CopyDiffers,
     /// A form that is not built yet.
     Unbuilt,
 }
@@ -47,6 +51,8 @@ impl ErrorCode {
             ErrorCode::DuplicateRow => "E09",
             ErrorCode::UnknownRow => "E10",
             ErrorCode::NotOneEntity => "E11",
+            ErrorCode::CopyTwice => "E12",
+            ErrorCode::CopyDiffers => "E13",
             ErrorCode::Unbuilt => "E16",
         }
     }

@@ -17,3 +17,7 @@ pub struct EntId(pub u32);
 /// A rule of a specification, by its place in the order of declaration, counted from 0.
 #[derive(Clone, Copy, Debug, Default, PartialEq, Eq, PartialOrd, Ord, Hash)]
 pub struct RuleId(pub u32);
+
+/// A copy function of a specification, by its place in the order of declaration, counted from 0.
+#[derive(Clone, Copy, Debug, Default, PartialEq, Eq, PartialOrd, Ord, Hash)]
+pub struct CopyId(pub u32);

@@ -15,7 +15,7 @@ mod row;
 mod value;
 
 pub use error_code::ErrorCode;
-pub use ids::{AttrId, EntId, RelId, RowId, RuleId};
+pub use ids::{AttrId, CopyId, EntId, RelId, RowId, RuleId};
 pub use list::ItemList;
 pub use memory::NoMemory;
 pub use name::{Name, is_text};

@@ -30,6 +30,7 @@ of_outside old new rb rn wb wn trouble.NoMemory outcome status never rose (inr (
 of_outside old new rb rn wb wn trouble.Words outcome status never rose h = absurd (never tt)
 of_outside old new rb rn wb wn (trouble.Unshown c d l) outcome status never rose h = absurd (never tt)
 of_outside old new rb rn wb wn (trouble.Refused c d l) outcome status never rose h = absurd (never tt)
+of_outside old new rb rn wb wn (trouble.CopyDiffers d l t s) outcome status never rose h = absurd (never tt)
 of_outside old new rb rn wb wn (trouble.Limit k) outcome status never rose h = absurd (never tt)
 
 -- an outcome is settled, or it is of the outside
@@ -38,6 +39,7 @@ settled_or (Ok done) = inl tt
 settled_or (Err trouble.Words) = inl tt
 settled_or (Err (trouble.Unshown c d l)) = inl tt
 settled_or (Err (trouble.Refused c d l)) = inl tt
+settled_or (Err (trouble.CopyDiffers d l t s)) = inl tt
 settled_or (Err (trouble.Limit k)) = inl tt
 settled_or (Err (trouble.ReadFault name)) = inr (trouble.ReadFault name, refl, λ h. h)
 settled_or (Err trouble.NoMemory) = inr (trouble.NoMemory, refl, λ h. h)

@@ -30,6 +30,7 @@ is_settled : (e : Trouble) → IsRefusal (trouble_status e) → IsSettled {A = U
 is_settled trouble.Words refusal = tt
 is_settled (trouble.Unshown c d l) refusal = tt
 is_settled (trouble.Refused c d l) refusal = tt
+is_settled (trouble.CopyDiffers d l t s) refusal = tt
 is_settled (trouble.Limit k) refusal = tt
 is_settled (trouble.ReadFault name) refusal = other 7 7 refl (omega arith) (omega arith) (omega arith) (omega arith) refusal
 is_settled trouble.NoMemory refusal = other 9 9 refl (omega arith) (omega arith) (omega arith) (omega arith) refusal

@@ -5,7 +5,8 @@ use Rattle.bind_faults.specs.declared.fault.BindFault.{BindFault}
 use Rattle.bind_faults.specs.declared.fault.BindFault.TheVariants as bind
 use Rattle.spec_model.specs.Spec.{Spec}
 use Rattle.spec_syntax.specs.declared.trees.SpecTree.{SpecTree}
-use Rattle.spec_bind.specs.Bound.{TableDue, nothing}
+use Rattle.bound_spec.specs.Growth.{nothing}
+use Rattle.spec_bind.specs.Bound.{TableDue}
 use Rattle.currency_cli.specs.Due.{IsSpecTree, IsSpecSaid, IsSaidTableDue, bind_trouble}
 use Rattle.currency_cli.specs.Named.{IsUnread}
 use Rattle.currency_cli.specs.declared.trouble.Trouble.TheVariants as trouble
@@ -21,6 +22,7 @@ tree_refused (Some t) name bytes e refused = (Err e, refused, refl)
 unread_fault : (name : List ℕ) (fault : BindFault) (e : Trouble) (n : List ℕ) → (e ≡ trouble.NoMemory) ⊎ (e ≡ bind_trouble name fault) → IsUnread e n → IsReadFaultOf {A = Spec} (Err fault) n
 unread_fault name fault e n (inl none) h = absurd (subst (λ (x : Trouble). IsUnread x n) none h)
 unread_fault name (bind.Refused refusal) e n (inr is) h = absurd (subst (λ (x : Trouble). IsUnread x n) is h)
+unread_fault name (bind.CopyDiffers document line target source) e n (inr is) h = absurd (subst (λ (x : Trouble). IsUnread x n) is h)
 unread_fault name (bind.Limit k) e n (inr is) h = absurd (subst (λ (x : Trouble). IsUnread x n) is h)
 unread_fault name (bind.ReadFault table) e n (inr is) h = subst (λ (x : Trouble). IsUnread x n) is h
 unread_fault name bind.NoMemory e n (inr is) h = absurd (subst (λ (x : Trouble). IsUnread x n) is h)

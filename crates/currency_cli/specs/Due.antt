@@ -13,7 +13,8 @@ use Rattle.spec_model.specs.declared.question.Question.{Question}
 use Rattle.spec_model.specs.declared.question.Question.TheVariants as asked
 use Rattle.spec_model.specs.Spec.{Spec}
 use Rattle.spec_model.specs.declared.relation.Relation.{Relation}
-use Rattle.spec_bind.specs.Bound.{IsSpecBound as IsBound, TableDue, nothing}
+use Rattle.bound_spec.specs.Growth.{nothing}
+use Rattle.spec_bind.specs.Bound.{IsSpecBound as IsBound, TableDue}
 use Rattle.bind_faults.specs.declared.fault.BindFault.{BindFault}
 use Rattle.bind_faults.specs.declared.fault.BindFault.TheVariants as bind
 use Rattle.currency_report.specs.Lines.{line_of}
@@ -47,6 +48,7 @@ text_trouble name text.NoMemory = trouble.NoMemory
 -- the trouble that a fault of binding is; where it names no table it is in the text
 abbrev pub bind_trouble : List ℕ → BindFault → Trouble
 bind_trouble name (bind.Refused refusal) = trouble.Refused refusal.code (unwrap_or refusal.document name) refusal.line
+bind_trouble name (bind.CopyDiffers document line target source) = trouble.CopyDiffers (unwrap_or document name) line target source
 bind_trouble name (bind.Limit k) = trouble.Limit k
 bind_trouble name (bind.ReadFault table) = trouble.ReadFault table
 bind_trouble name bind.NoMemory = trouble.NoMemory

@@ -3,7 +3,7 @@ use Rattle.std.specs.Prelude.{◌≡◌, ℕ, List, Result, Ok, Err}
 use Rattle.currency_cli.specs.Words.{Documents}
 use Rattle.currency_cli.specs.declared.words.Documents.{Documents as Names}
 use Rattle.currency_cli.specs.declared.trouble.Trouble.{Trouble}
-use Rattle.currency_cli.specs.declared.trouble.Trouble.TheVariants.{Words, Unshown, Refused, Limit, ReadFault, NoMemory}
+use Rattle.currency_cli.specs.declared.trouble.Trouble.TheVariants.{Words, Unshown, Refused, CopyDiffers, Limit, ReadFault, NoMemory}
 
 -- the names of documents, as bytes
 abbrev pub documents_of : Names → Documents
@@ -14,6 +14,7 @@ abbrev pub IsDetermined : Trouble → Type 0
 IsDetermined Words = Unit {0}
 IsDetermined (Unshown check document line) = Unit {0}
 IsDetermined (Refused code document line) = Unit {0}
+IsDetermined (CopyDiffers document line target source) = Unit {0}
 IsDetermined (Limit k) = Unit {0}
 IsDetermined (ReadFault document) = ⊥
 IsDetermined NoMemory = ⊥

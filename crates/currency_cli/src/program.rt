@@ -38,6 +38,7 @@ fn status_of(trouble: &Trouble) -> u8
         Trouble::Words => 2,
         Trouble::Unshown { .. } => 4,
         Trouble::Refused { .. } => 5,
+        Trouble::CopyDiffers { .. } => 5,
         Trouble::Limit(_) => 6,
         Trouble::ReadFault(_) => 7,
         Trouble::NoMemory => 9,
@@ -51,7 +52,7 @@ fn refuse<K: Sink>(alloc: Global, out: &mut K, trouble: &Trouble) -> u8
     let Ok(text) = text_of(alloc, trouble) else {
         return 9;
     };
-    match put_all(alloc, out, text.as_str().as_bytes()) {
+    match put_all(alloc, out, text.as_slice()) {
         Ok(()) => status_of(trouble),
         Err(SinkFault::Failed) => status_of(trouble),
         Err(SinkFault::NoMemory) => 9,
@@ -67,7 +68,7 @@ fn refuse<K: Sink>(alloc: Global, out: &mut K, trouble: &Trouble) -> u8
 /// | 2 | the words are not a program's name, `verify` and three words |
 /// | 4 | the report does not show its verdict |
 /// | 5 | a document is refused |
-/// | 6 | a document is longer than its bound |
+/// | 6 | a limit is exceeded |
 /// | 7 | the shelf could not give a document |
 /// | 8 | the sink could not take the text of status 0 |
 /// | 9 | want of memory |

@@ -1,4 +1,4 @@
-use currency_base::{ErrorCode, Name};
+use currency_base::{ErrorCode, Name, Value};
 
 /// Which check a report fails, as a refusal prints it.
 #[derive(Clone, Copy, Debug, PartialEq, Eq)]
@@ -25,6 +25,14 @@ pub enum Trouble {
         code: ErrorCode,
         document: Name,
         line: u32,
+    },
+    /// A row differs from the row that it is copied from, at the first place where it does. The line is
+    /// that of the mapping, and the values are the row's and then its source's.
+    CopyDiffers {
+        document: Name,
+        line: u32,
+        target: Value,
+        source: Value,
     },
     /// A quantity is above its bound; the number is that of the limit.
     Limit(u8),

@@ -3,7 +3,7 @@ ghost use Rattle.currency_cli.specs.Due.{text_trouble, bind_trouble, report_trou
 
 use crate::{Check, Trouble};
 use bind_faults::{BindFault, Refusal};
-use currency_base::{ErrorCode, Name};
+use currency_base::{ErrorCode, Name, Value};
 use currency_report::ReportFault;
 use report_verify::Unshown;
 use std::alloc::Global;
@@ -58,6 +58,34 @@ fn of_refusal(alloc: Global, name: &str, refusal: Refusal) -> Trouble
     }
 }
 
+// The trouble that a row differs from its source, at a line of a table or of the text that the words name.
+fn of_difference(
+    alloc: Global,
+    name: &str,
+    document: Option<Name>,
+    line: u32,
+    target: Value,
+    source: Value,
+) -> Trouble
+    ensures due { (result ≡ Trouble.NoMemory)
+        ⊎ (result ≡ Trouble.CopyDiffers (unwrap_or document name.now) line target source) }
+    ensures not_words { result ≢ Trouble.Words }
+{
+    let document = match document {
+        Some(document) => document,
+        None => match Name::from_bytes(alloc, name.as_bytes()) {
+            Ok(document) => document,
+            Err(_) => return Trouble::NoMemory,
+        },
+    };
+    Trouble::CopyDiffers {
+        document,
+        line,
+        target,
+        source,
+    }
+}
+
 /// The trouble that a fault of binding a specification is; where it names no table it is in the text.
 pub fn of_binding(alloc: Global, name: &str, fault: BindFault) -> Trouble
     ensures due { (result ≡ Trouble.NoMemory) ⊎ (result ≡ bind_trouble name.now fault) }
@@ -65,6 +93,12 @@ pub fn of_binding(alloc: Global, name: &str, fault: BindFault) -> Trouble
 {
     match fault {
         BindFault::Refused(refusal) => of_refusal(alloc, name, refusal),
+        BindFault::CopyDiffers {
+            document,
+            line,
+            target,
+            source,
+        } => of_difference(alloc, name, document, line, target, source),
         BindFault::Limit(limit) => Trouble::Limit(limit),
         BindFault::ReadFault(document) => Trouble::ReadFault(document),
         BindFault::NoMemory => Trouble::NoMemory,

@@ -1,5 +1,6 @@
 mod AllOk
 mod Fields
+mod OfKinds
 mod OneList
 mod Places
 mod Steps

@@ -1,7 +1,8 @@
 // The public call: from the bytes of a table to its tuples.
 
-ghost use Rattle.std.specs.Prelude.{◌≡◌, ◌⊎◌, List, ℕ, Err, map};
+ghost use Rattle.std.specs.Prelude.{◌≡◌, ◌⊎◌, List, ℕ, Err, map, All, IfOk};
 ghost use Rattle.csv.specs.Records.{fields_of};
+ghost use Rattle.currency_base.specs.Values.{kind_of};
 ghost use Rattle.currency_csv.specs.Table.{AreRecordsOf, table_of};
 
 use crate::columns::sources;
@@ -17,9 +18,11 @@ use std::alloc::Global;
 ///
 /// The first cause that stands decides: a ragged record, the header included; then a column that the header
 /// lacks or has more than once, or no header at all; then, record by record, a field that is no integer.
+/// Each tuple has a value of each column's kind.
 pub fn read_table(alloc: Global, bytes: &[u8], columns: &[Column]) -> Result<Table, TableFault>
-    ensures { (result ≡ Err TableFault.NoMemory)
+    ensures exact { (result ≡ Err TableFault.NoMemory)
         ⊎ ((records : List (List (List ℕ))) × AreRecordsOf bytes.now records × (result ≡ table_of columns.now records)) }
+    ensures kinds { IfOk result (λ t. All (λ tuple. map kind_of tuple ≡ map (λ c. c.kind) columns.now) t.tuples) }
 {
     match read_records(alloc, bytes) {
         Ok(records) => table_below(alloc, records.as_slice(), columns),

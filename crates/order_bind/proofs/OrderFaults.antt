@@ -6,6 +6,7 @@ use Rattle.currency_base.specs.declared.row.Row.{Row}
 use Rattle.currency_base.specs.declared.error_code.ErrorCode.{ErrorCode}
 use Rattle.currency_base.specs.declared.error_code.ErrorCode.TheVariants.{UnknownName, UnknownRow}
 use Rattle.bind_faults.specs.Faults.{all_of, and_then, found_or, refused_at, IsDue, IsReadFault}
+use Rattle.bind_faults.proofs.Outcomes.{same_read_fault}
 use Rattle.spec_names.specs.Names.{place_of}
 use Rattle.spec_model.specs.declared.relation.Relation.{Relation}
 use Rattle.spec_syntax.specs.declared.trees.OrderingTree.{OrderingTree}
@@ -13,16 +14,9 @@ use Rattle.text_grammar.specs.declared.named.Named.{Named}
 use Rattle.text_grammar.specs.declared.named.NamedPair.{NamedPair}
 use Rattle.order_bind.specs.Orders.{row_named, pair_of, pair_named, is_of_one_entity, not_one_entity, unless_wrong, checked_pairs, ordered_pairs}
 use Rattle.bind_faults.specs.declared.fault.BindFault.{BindFault}
-use Rattle.bind_faults.specs.declared.fault.BindFault.TheVariants.{Refused, Limit, ReadFault, NoMemory}
+use Rattle.bind_faults.specs.declared.fault.BindFault.TheVariants.{Refused, CopyDiffers, Limit, ReadFault, NoMemory}
 
--- a read fault is one whatever else would have been the answer
-same_fault : (A B : Type 0) (fault : BindFault) → IsReadFault {A = A} (Err fault) → IsReadFault {A = B} (Err fault)
-same_fault A B (Refused refusal) h = h
-same_fault A B (Limit k) h = h
-same_fault A B (ReadFault name) h = h
-same_fault A B NoMemory h = h
-
-found_reads : {A : Type 0} (place : Option ℕ) (code : ErrorCode) (named : Named) (next : ℕ → Result A BindFault)
+pub found_reads : {A : Type 0} (place : Option ℕ) (code : ErrorCode) (named : Named) (next : ℕ → Result A BindFault)
     → ((k : ℕ) → IsReadFault (next k) → ⊥) → IsReadFault (found_or place (refused_at code named) next) → ⊥
 found_reads None code named next later h = h
 found_reads (Some k) code named next later h = later k h
@@ -30,14 +24,14 @@ found_reads (Some k) code named next later h = later k h
 row_reads : (rows : List (List ℕ)) (named : Named) → IsReadFault (row_named rows named) → ⊥
 row_reads rows named h = found_reads {A = ℕ} (place_of rows named.name) UnknownRow named Ok (λ k f. f) h
 
-pair_reads : (attr : ℕ) (earlier later : Result ℕ BindFault) → (IsReadFault earlier → ⊥) → (IsReadFault later → ⊥) → IsReadFault (pair_of attr earlier later) → ⊥
-pair_reads attr (Err fault) later a b h = a (same_fault Pair ℕ fault h)
-pair_reads attr (Ok earlier) (Err fault) a b h = b (same_fault Pair ℕ fault h)
+pub pair_reads : (attr : ℕ) (earlier later : Result ℕ BindFault) → (IsReadFault earlier → ⊥) → (IsReadFault later → ⊥) → IsReadFault (pair_of attr earlier later) → ⊥
+pair_reads attr (Err fault) later a b h = a (same_read_fault Pair ℕ fault h)
+pair_reads attr (Ok earlier) (Err fault) a b h = b (same_read_fault Pair ℕ fault h)
 pair_reads attr (Ok earlier) (Ok later) a b h = h
 
 all_reads : (r : Result Pair BindFault) (rest : Result (List Pair) BindFault) → (IsReadFault r → ⊥) → (IsReadFault rest → ⊥)
     → IsReadFault (and_then r (λ p. and_then rest (λ ps. Ok (p ∷ ps)))) → ⊥
-all_reads (Err fault) rest a b h = a (same_fault (List Pair) Pair fault h)
+all_reads (Err fault) rest a b h = a (same_read_fault (List Pair) Pair fault h)
 all_reads (Ok pair) (Ok pairs) a b h = h
 all_reads (Ok pair) (Err fault) a b h = b h
 
@@ -70,6 +64,7 @@ ordered_pairs_reads r o h =
 pub pairs_due_reads : (r : Relation) (o : OrderingTree) (fault : BindFault) → IsDue (ordered_pairs r o) (Err fault)
     → IsReadFault {A = Unit {0}} (Err fault) → ⊥
 pairs_due_reads r o (Refused refusal) is h = h
+pairs_due_reads r o (CopyDiffers document line target source) is h = h
 pairs_due_reads r o (Limit k) is h = h
 pairs_due_reads r o (ReadFault name) is h = ordered_pairs_reads r o (rw is h)
 pairs_due_reads r o NoMemory is h = h

@@ -29,17 +29,17 @@ with_front-one : {A : Type 0} (xs : List A) (x : A) (r : Result (List A) BindFau
 with_front-one xs x (Ok ys) = ap Ok (sym (append_assoc xs (x ∷ []) ys))
 with_front-one xs x (Err e) = refl
 
-all_of-at_ok : {X A : Type 0} (f : X → Result A BindFault) (n : X) (x : A) (rest : List X) → f n ≡ Ok x → all_of f (n ∷ rest) ≡ with_one x (all_of f rest)
+pub all_of-at_ok : {X A : Type 0} (f : X → Result A BindFault) (n : X) (x : A) (rest : List X) → f n ≡ Ok x → all_of f (n ∷ rest) ≡ with_one x (all_of f rest)
 all_of-at_ok f n x rest is = ap (λ s. and_then s (λ y. with_one y (all_of f rest))) is
 
-all_of-at_err : {X A : Type 0} (f : X → Result A BindFault) (n : X) (e : BindFault) (rest : List X) → f n ≡ Err e → all_of f (n ∷ rest) ≡ Err e
+pub all_of-at_err : {X A : Type 0} (f : X → Result A BindFault) (n : X) (e : BindFault) (rest : List X) → f n ≡ Err e → all_of f (n ∷ rest) ≡ Err e
 all_of-at_err f n e rest is = ap (λ s. and_then s (λ y. with_one y (all_of f rest))) is
 
 -- what a loop that reads the answers of a list one after another keeps
 pub record Resolves {X A : Type 0} (f : X → Result A BindFault) (xs : List X) (i : ℕ) (list : List A) : Type 0 where
   pub rest : with_front list (all_of f (drop i xs)) ≡ all_of f xs
 
-with_front-none : {A : Type 0} (r : Result (List A) BindFault) → with_front [] r ≡ r
+pub with_front-none : {A : Type 0} (r : Result (List A) BindFault) → with_front [] r ≡ r
 with_front-none (Ok ys) = refl
 with_front-none (Err e) = refl
 
@@ -115,8 +115,8 @@ adds_length old new rel pairs adds lt =
 
 -- the names stay
 pub adds_names : (old new : Spec) (rel : ℕ) (pairs : List Pair) → AddsAllGiven old.relations new.relations rel pairs → new.rules ≡ old.rules
-    → rel < length old.relations → all_names_of new ≡ all_names_of old
-adds_names old new rel pairs adds rules lt =
+    → new.copies ≡ old.copies → rel < length old.relations → all_names_of new ≡ all_names_of old
+adds_names old new rel pairs adds rules copies lt =
     let at = item_at old.relations rel lt in
     let r = at.0 in
     let here : get_or old.relations rel r ≡ r = get_or_from_slice_get old.relations rel r r at.1 in
@@ -126,7 +126,8 @@ adds_names old new rel pairs adds rules lt =
     let of_parts : map names_of new.relations ≡ map names_of old.relations =
     ap (map names_of) (adds r at.1) ∙ map-set_same names_of old.relations rel (with_all_given r pairs) r (ap names_of (sym here)) in
     let of_rules : map (λ (rule : Rule). rule.name) new.rules ≡ map (λ (rule : Rule). rule.name) old.rules = ap (map (λ (rule : Rule). rule.name)) rules in
-    cc (of_relations, of_parts, of_rules)
+    let of_copies : map (λ copy. copy.name) new.copies ≡ map (λ copy. copy.name) old.copies = rw copies refl in
+    cc (of_relations, of_parts, of_rules, of_copies)
 
 -- a pair that fits the relation fits it with more given pairs
 given_still : (r : Relation) (given : List Pair) (p : Pair) → IsGivenPair r p → IsGivenPair (record r { given = given }) p

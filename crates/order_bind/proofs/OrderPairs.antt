@@ -10,6 +10,7 @@ use Rattle.currency_base.specs.declared.error_code.ErrorCode.TheVariants.{Unknow
 use Rattle.currency_base.specs.declared.pair.Pair.{Pair}
 use Rattle.currency_base.specs.declared.row.Row.{Row}
 use Rattle.bind_faults.specs.Faults.{IsDue, all_of, and_then, found_or, refused_at}
+use Rattle.bind_faults.proofs.Outcomes.{due_same, due_through}
 use Rattle.partial_orders.specs.Pairs.{AreOfOneEntity}
 use Rattle.spec_model.specs.Spec.{Spec}
 use Rattle.spec_model.specs.declared.relation.Relation.{Relation}
@@ -23,7 +24,7 @@ use Rattle.text_grammar.specs.declared.named.Named.{Named}
 use Rattle.text_grammar.specs.declared.named.NamedPair.{NamedPair}
 use Rattle.order_bind.specs.Orders.{pair_of, pair_named, is_one, is_of_one_entity, checked_pairs, unless_wrong, ordered_pairs, ordered, ordered_at, giving_pairs, with_all_given, Steps}
 use Rattle.bind_faults.specs.declared.fault.BindFault.{BindFault}
-use Rattle.bind_faults.specs.declared.fault.BindFault.TheVariants.{Refused, Limit, ReadFault, NoMemory}
+use Rattle.bind_faults.specs.declared.fault.BindFault.TheVariants.{Refused, CopyDiffers, Limit, ReadFault, NoMemory}
 use Rattle.order_bind.proofs.OrderLemmas.{with_one}
 
 -- a name that is found stands at that place
@@ -42,13 +43,13 @@ pub place_within : (names : List (List ℕ)) (name : List ℕ) (place : ℕ) →
 place_within names name place is = (position-Some _ names place [] is).0
 
 -- a list with one more answer in front
-with_one-ok : {A : Type 0} (x : A) (r : Result (List A) BindFault) (xs : List A) → with_one x r ≡ Ok xs
+pub with_one-ok : {A : Type 0} (x : A) (r : Result (List A) BindFault) (xs : List A) → with_one x r ≡ Ok xs
     → (ys : List A) × (r ≡ Ok ys) × (xs ≡ x ∷ ys)
 with_one-ok x (Ok ys) xs is = (ys, refl, cc)
 with_one-ok x (Err e) xs is = cc
 
 -- the first answer and the others of a list that has only such
-first_ok : {X A : Type 0} (f : X → Result A BindFault) (n : X) (ns : List X) (xs : List A) → all_of f (n ∷ ns) ≡ Ok xs
+pub first_ok : {X A : Type 0} (f : X → Result A BindFault) (n : X) (ns : List X) (xs : List A) → all_of f (n ∷ ns) ≡ Ok xs
     → (x : A) × (ys : List A) × (f n ≡ Ok x) × (all_of f ns ≡ Ok ys) × (xs ≡ x ∷ ys)
 first_ok {X} {A} f n ns xs is = by (f n) refl is
   where
@@ -134,25 +135,11 @@ all_given r named attr pairs lt is none k d within =
     let right = one_entity r.rows (get_or pairs k d) (not-false _ (position_none _ pairs none k d within)) in
     record { attr = omega (arith, it.attr_is); earlier = omega (arith, it.earlier); later = omega (arith, it.later); one_entity = right }
 
--- an answer that is the one that is due
-pub due_same : {A : Type 0} (due r : Result A BindFault) → due ≡ r → IsDue due r
-due_same due (Ok x) is = is
-due_same due (Err (Refused refusal)) is = is
-due_same due (Err (Limit k)) is = is
-due_same due (Err (ReadFault name)) is = is
-due_same due (Err NoMemory) is = tt
-
--- a fault that is due in one place is due where it is handed on
-pub due_through : {A B : Type 0} (first : Result A BindFault) (due : Result B BindFault) (e : BindFault) → IsDue first (Err e)
-    → (first ≡ Err e → due ≡ Err e) → IsDue due (Err e)
-due_through first due (Refused refusal) is on = on is
-due_through first due (Limit k) is on = on is
-due_through first due (ReadFault name) is on = on is
-due_through first due NoMemory is on = tt
-
+-- what is left of a step whose fault is handed on
 pub steps_through : {A : Type 0} (new : List Relation) (first : Result A BindFault) (due : Result (List Relation) BindFault) (e : BindFault)
     → IsDue first (Err e) → (first ≡ Err e → due ≡ Err e) → Steps new due (Err e)
 steps_through new first due (Refused refusal) is on = on is
+steps_through new first due (CopyDiffers document line target source) is on = on is
 steps_through new first due (Limit k) is on = on is
 steps_through new first due (ReadFault name) is on = on is
 steps_through new first due NoMemory is on = tt

@@ -31,11 +31,12 @@ fn pairs_of(
 }
 
 /// Adds given pairs to a relation. Want of memory may leave some of them added.
-fn add_all(spec: &mut Specification, rel: RelId, pairs: &[Pair]) -> Result<(), NoMemory>
+pub fn add_all(spec: &mut Specification, rel: RelId, pairs: &[Pair]) -> Result<(), NoMemory>
     requires within { rel.0 < length spec.old.relations }
     requires given { IfSome (slice_get spec.old.relations rel.0) (λ r. All (IsGivenPair r) pairs.now) }
     ensures ok { OnOk result (AddsAllGiven spec.old.relations spec.new.relations rel.0 pairs.now) }
     ensures rules { spec.new.rules ≡ spec.old.rules }
+    ensures copies { spec.new.copies ≡ spec.old.copies }
     ensures names { all_names_of spec.new ≡ all_names_of spec.old }
 {
     for pair in pairs {
@@ -56,6 +57,7 @@ pub fn bind_order(
     requires { names.now ≡ all_names_of spec.old }
     ensures step { Steps spec.new.relations (ordered spec.old.relations ordering.now) result }
     ensures rules { spec.new.rules ≡ spec.old.rules }
+    ensures copies { spec.new.copies ≡ spec.old.copies }
     ensures names { all_names_of spec.new ≡ all_names_of spec.old }
     ensures reads { IsReadFault result → ⊥ }
 {

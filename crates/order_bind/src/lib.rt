@@ -4,4 +4,5 @@
 mod bind;
 mod resolve;
 
-pub use bind::bind_order;
+pub use bind::{add_all, bind_order};
+pub use resolve::first_wrong;

@@ -62,7 +62,7 @@ fn is_of_one_entity(rows: &[Row], pair: &Pair) -> bool
 }
 
 /// The place of the first pair that is not of two different rows of one entity.
-fn first_wrong(rows: &[Row], pairs: &[Pair]) -> Option<usize>
+pub fn first_wrong(rows: &[Row], pairs: &[Pair]) -> Option<usize>
     ensures { result ≡ position (λ p. not (is_of_one_entity rows.now p)) pairs.now }
 {
     pairs.iter().position(|pair| !is_of_one_entity(rows, pair))

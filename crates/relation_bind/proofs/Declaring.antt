@@ -3,26 +3,12 @@ use Rattle.std.proofs.Common.{◌≡◌, ℕ, List, Option, Some, None, Result, 
 use Rattle.table_rows.specs.declared.rows.TableRows.{TableRows}
 use Rattle.spec_model.specs.declared.relation.Relation.{Relation}
 use Rattle.bind_faults.specs.Faults.{and_then, IsSettled, IsReadFaultOf}
+use Rattle.bind_faults.proofs.Outcomes.{read_fault_of, same_read_fault_of, settled_fault}
 use Rattle.bind_faults.specs.declared.fault.BindFault.{BindFault}
-use Rattle.bind_faults.specs.declared.fault.BindFault.TheVariants.{Refused, Limit, ReadFault, NoMemory}
 use Rattle.relation_bind.specs.Declarations.{Declared}
 use Rattle.relation_bind.specs.Relations.{IsTable, IsDeclared, IsTableOf, relation_of}
 use Rattle.relation_bind.specs.Steps.{ChecksHead}
 use Rattle.relation_bind.proofs.Heads.{head_reads}
-use Rattle.relation_bind.proofs.Tables.{read_fault_of}
-
--- a fault is settled, or a read fault, whatever else would have been the answer
-settled_fault : (A B : Type 0) (fault : BindFault) → IsSettled {A = A} (Err fault) → IsSettled {A = B} (Err fault)
-settled_fault A B (Refused refusal) settled = settled
-settled_fault A B (Limit k) settled = settled
-settled_fault A B (ReadFault name) settled = settled
-settled_fault A B NoMemory settled = settled
-
-same_fault : (A B : Type 0) (fault : BindFault) (name : List ℕ) → IsReadFaultOf {A = A} (Err fault) name → IsReadFaultOf {A = B} (Err fault) name
-same_fault A B (Refused refusal) name h = h
-same_fault A B (Limit k) name h = h
-same_fault A B (ReadFault table) name h = h
-same_fault A B NoMemory name h = h
 
 -- a declaration that takes a name that is taken
 refused_head : (told : List (List ℕ × List ℕ)) (taken : List (List ℕ)) (d : Declared) (fault : BindFault)
@@ -61,7 +47,7 @@ pub table_not_given : (taken : List (List ℕ)) (d : Declared) (names : List (Li
     → ChecksHead taken d (Ok names) → ((table : List ℕ) → IsReadFaultOf {A = TableRows} (Err fault) table → d.document.name ≡ table)
     → result ≡ Err fault → (table : List ℕ) → IsReadFaultOf result table → IsTableOf taken d table
 table_not_given taken d names fault result head named is table h =
-    (head.0, named table (same_fault Relation TableRows fault table (subst (λ (r : Result Relation BindFault). IsReadFaultOf r table) is h)))
+    (head.0, named table (same_read_fault_of Relation TableRows fault table (subst (λ (r : Result Relation BindFault). IsReadFaultOf r table) is h)))
 
 -- where a name is refused, no table is read
 pub head_not_read : (taken : List (List ℕ)) (d : Declared) (fault : BindFault) (result : Result Relation BindFault)

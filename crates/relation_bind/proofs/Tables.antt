@@ -1,20 +1,26 @@
--- What is read of a declaration's table.
-use Rattle.std.proofs.Common.{◌≡◌, ◌∙◌, ◌⊎◌, ◌≤◌, ℕ, List, length, is_some, Option, Some, None, Result, Ok, Err, inl, inr, ap, subst, IfSome}
+-- The rows of a declaration's tuples.
+use Rattle.std.proofs.Common.{◌≡◌, ◌∙◌, ◌⊎◌, ◌+◌, ◌++◌, ℕ, Bool, true, false, List, [], ◌∷◌, map, All, is_some, Option, Some, None, Result, Ok, Err, inl, inr, ap, refl, sym, subst, IfSome}
+use Rattle.std.specs.List.{enumerate_from}
+use Rattle.std.proofs.lemmas.List.Elements.{All-nil, All-cons, All-head, All-tail, All-same, All-weaker}
+use Rattle.currency_base.specs.Values.{kind_of}
 use Rattle.currency_base.specs.declared.error_code.ErrorCode.TheVariants.{DuplicateRow}
-use Rattle.currency_csv.specs.Table.{AreRecordsOf, table_of}
-use Rattle.currency_csv.specs.declared.table.Table.{Table}
-use Rattle.currency_csv.specs.declared.table.TableFault.{TableFault}
-use Rattle.currency_csv.specs.declared.table.TableFault.TheVariants as csv
-use Rattle.table_rows.specs.Rows.{rows_from}
+use Rattle.currency_base.specs.declared.value.Value.{Value}
+use Rattle.currency_csv.specs.declared.table.Column.{Column}
+use Rattle.spec_syntax.specs.declared.trees.AttrTree.{AttrTree}
+use Rattle.text_grammar.specs.declared.named.Named.{Named}
+use Rattle.table_bind.specs.Columns.{text_column}
+use Rattle.table_bind.specs.Tuples.{AreTuples}
+use Rattle.table_rows.specs.Rows.{attribute_values, entities_of, first_repeat, row_names_of, row_of, rows_from, rows_of, told_rows}
 use Rattle.table_rows.specs.declared.rows.TableRows.{TableRows}
 use Rattle.table_rows.specs.declared.rows.RowFault.{RowFault}
 use Rattle.table_rows.specs.declared.rows.RowFault.TheVariants as rows
 use Rattle.relation_bind.specs.Declarations.{Declared}
-use Rattle.relation_bind.specs.Relations.{columns_of, rows_or_refusal, rows_read, refused_in, table_refusal, IsTable, table_bound}
-use Rattle.relation_bind.specs.Steps.{ReadsTable, Reads}
-use Rattle.bind_faults.specs.Faults.{IsSettled, IsReadFault, IsReadFaultOf}
+use Rattle.relation_bind.specs.Relations.{attr_column, columns_of, kinds_declared, kinds_of_columns, row_columns, rows_or_refusal, rows_read, IsTable}
+use Rattle.relation_bind.specs.Steps.{HaveKinds, RowsHaveKinds}
+use Rattle.bind_faults.specs.Faults.{refused_in, IsSettled, IsReadFault, IsReadFaultOf}
+use Rattle.bind_faults.proofs.Outcomes.{read_fault_of, settled_fault}
 use Rattle.bind_faults.specs.declared.fault.BindFault.{BindFault}
-use Rattle.bind_faults.specs.declared.fault.BindFault.TheVariants.{Refused, Limit, ReadFault, NoMemory}
+use Rattle.bind_faults.specs.declared.fault.BindFault.TheVariants.{NoMemory}
 
 -- rows that are due
 pub due_rows : (d : Declared) (due : Result TableRows RowFault) (r : TableRows)
@@ -26,55 +32,93 @@ due_rows d due r (inr e) = rw (← e)
 -- a repeated row name that is due
 pub due_refusal : (d : Declared) (due : Result TableRows RowFault) (number : ℕ) (fault : BindFault)
     → (◌≡◌ {A = Result TableRows RowFault} (Err (rows.Repeated number)) (Err rows.NoMemory)) ⊎ (◌≡◌ {A = Result TableRows RowFault} (Err (rows.Repeated number)) due)
-    → (fault ≡ NoMemory) ⊎ (fault ≡ refused_in d DuplicateRow number)
+    → (fault ≡ NoMemory) ⊎ (fault ≡ refused_in d.document.name DuplicateRow number)
     → (◌≡◌ {A = Result TableRows BindFault} (Err fault) (Err NoMemory)) ⊎ (◌≡◌ {A = Result TableRows BindFault} (Err fault) (rows_or_refusal d due))
 due_refusal d due number fault (inl e) is = cc
 due_refusal d due number fault (inr e) (inl memory) = inl (ap Err memory)
 due_refusal d due number fault (inr e) (inr is) = inr (rw (← e, is))
 
--- the rows of a table that was read
-pub of_table : (d : Declared) (bytes : List ℕ) (t : Table) (result : Result TableRows BindFault)
-    → (◌≡◌ {A = Result Table TableFault} (Ok t) (Err csv.NoMemory)) ⊎ ((records : List (List (List ℕ))) × AreRecordsOf bytes records × (◌≡◌ {A = Result Table TableFault} (Ok t) (table_of (columns_of d) records)))
-    → (result ≡ Err NoMemory) ⊎ (result ≡ rows_or_refusal d (rows_from (is_some d.row) t.tuples))
-    → ReadsTable d bytes result
-unfolding ReadsTable rows_read
-of_table d bytes t result (inl e) is = cc
-of_table d bytes t result (inr h) (inl memory) = inl memory
-of_table d bytes t result (inr (records, are, e)) (inr is) = inr (records, are, rw (← e) is)
+-- ---- the values of rows
 
--- the refusal of a table that was not
-pub of_fault : (d : Declared) (bytes : List ℕ) (fault : TableFault) (refusal : BindFault)
-    → (◌≡◌ {A = Result Table TableFault} (Err fault) (Err csv.NoMemory)) ⊎ ((records : List (List (List ℕ))) × AreRecordsOf bytes records × (◌≡◌ {A = Result Table TableFault} (Err fault) (table_of (columns_of d) records)))
-    → (refusal ≡ NoMemory) ⊎ (refusal ≡ table_refusal d fault)
-    → ReadsTable d bytes (Err refusal)
-unfolding ReadsTable rows_read
-of_fault d bytes fault refusal h (inl memory) = inl (ap Err memory)
-of_fault d bytes fault refusal (inl e) (inr is) =
-    let no_memory : fault ≡ csv.NoMemory = cc in
-    inl (ap Err (is ∙ ap (table_refusal d) no_memory))
-of_fault d bytes fault refusal (inr (records, are, e)) (inr is) = inr (records, are, rw (← e) (ap Err is))
+-- what holds of the attributes' values in each tuple holds of each row's values
+values_of_rows : (P : List Value → Type 0) (named : Bool) (entities : List (List ℕ)) (n : ℕ) (tuples : List (List Value))
+    → All (λ tuple. P (attribute_values named tuple)) tuples → All (λ row. P row.values) (map (row_of named entities) (enumerate_from n tuples))
+values_of_rows P named entities n [] all = All-nil (λ row. P row.values)
+values_of_rows P named entities n (tuple ∷ tuples) all =
+    All-cons (λ row. P row.values) (row_of named entities (n, tuple)) (map (row_of named entities) (enumerate_from (n + 1) tuples))
+    (All-head (λ t. P (attribute_values named t)) tuple tuples all)
+    (values_of_rows P named entities (n + 1) tuples (All-tail (λ t. P (attribute_values named t)) tuple tuples all))
 
--- want of memory
-pub no_memory : (d : Declared) (bytes : List ℕ) (result : Result TableRows BindFault) → result ≡ Err NoMemory → ReadsTable d bytes result
-unfolding ReadsTable
-no_memory d bytes result is = inl is
+-- the attributes' values stand after the names
+after_two : (a b : Column) (rest : List Column) (tuple : List Value) → map kind_of tuple ≡ map (λ c. c.kind) (a ∷ b ∷ rest)
+    → map kind_of (attribute_values true tuple) ≡ map (λ c. c.kind) rest
+after_two a b rest [] is = cc
+after_two a b rest (x ∷ []) is = cc
+after_two a b rest (x ∷ (y ∷ tuple)) is = cc
 
--- what the bytes of the document give is what the table gives
-pub read_whole : (told : List (List ℕ × List ℕ)) (d : Declared) (bytes : List ℕ) (result : Result TableRows BindFault)
-    → Reads told d.document.name (Ok bytes) → ReadsTable d bytes result → IsSettled result → IsTable told d result
-unfolding IsTable ReadsTable
-read_whole told d bytes result (is, within) (inl memory) settled = absurd (subst IsSettled memory settled)
-read_whole told d bytes result (is, within) (inr (records, are, due)) settled =
-    inr (subst (λ (bs : List ℕ). length bs ≤ table_bound) is within, records, subst (λ (bs : List ℕ). AreRecordsOf bs records) is are, due)
+after_one : (a : Column) (rest : List Column) (tuple : List Value) → map kind_of tuple ≡ map (λ c. c.kind) (a ∷ rest)
+    → map kind_of (attribute_values false tuple) ≡ map (λ c. c.kind) rest
+after_one a rest [] is = cc
+after_one a rest (x ∷ tuple) is = cc
 
--- a document that is too long
-pub read_long : (told : List (List ℕ × List ℕ)) (d : Declared) (fault : BindFault)
-    → Reads told d.document.name (Err fault) → IsSettled {A = TableRows} (Err fault) → IsTable told d (Err fault)
-unfolding IsTable
-read_long told d (Refused refusal) reads settled = absurd reads
-read_long told d (Limit k) (is, longer) settled = inl (longer, ap (λ n. Err (Limit n)) is)
-read_long told d (ReadFault name) reads settled = absurd settled
-read_long told d NoMemory reads settled = absurd settled
+kinds_of_attrs : (attrs : List AttrTree) → map (λ c. c.kind) (map attr_column attrs) ≡ map (λ a. a.kind) attrs
+kinds_of_attrs [] = refl
+kinds_of_attrs (a ∷ attrs) = ap (λ ks. a.kind ∷ ks) (kinds_of_attrs attrs)
+
+attribute_kinds : (row : Option Named) (entity : List ℕ) (attrs : List AttrTree) (tuple : List Value)
+    → map kind_of tuple ≡ map (λ c. c.kind) (row_columns row ++ text_column entity ∷ map attr_column attrs)
+    → map kind_of (attribute_values (is_some row) tuple) ≡ map (λ a. a.kind) attrs
+attribute_kinds None entity attrs tuple is = after_one (text_column entity) (map attr_column attrs) tuple is ∙ kinds_of_attrs attrs
+attribute_kinds (Some named) entity attrs tuple is =
+    after_two (text_column named.name) (text_column entity) (map attr_column attrs) tuple is ∙ kinds_of_attrs attrs
+
+told_rows_are : (named : Bool) (tuples : List (List Value)) (repeated : Option ℕ) (t : TableRows) → told_rows named tuples repeated ≡ Ok t → t.rows ≡ rows_of named tuples
+told_rows_are named tuples None t is = cc
+told_rows_are named tuples (Some place) t is = cc
+
+-- the rows of a declaration's tuples have a value of each declared attribute's kind
+values_read : (d : Declared) (tuples : List (List Value)) (t : TableRows) → HaveKinds (kinds_of_columns d) tuples → rows_from (is_some d.row) tuples ≡ Ok t
+    → RowsHaveKinds (kinds_declared d) t.rows
+unfolding rows_from
+values_read d tuples t kinds is =
+    All-same (λ row. map kind_of row.values ≡ kinds_declared d) t.rows (rows_of (is_some d.row) tuples)
+    (told_rows_are (is_some d.row) tuples (first_repeat 0 [] (row_names_of (is_some d.row) tuples)) t is)
+    (values_of_rows (λ values. map kind_of values ≡ kinds_declared d) (is_some d.row) (entities_of (is_some d.row) tuples) 0 tuples
+    (All-weaker (λ tuple. map kind_of tuple ≡ kinds_of_columns d) (λ tuple. map kind_of (attribute_values (is_some d.row) tuple) ≡ kinds_declared d)
+    (attribute_kinds d.row d.entity.name d.attrs) tuples kinds))
+
+pub due_values : (d : Declared) (tuples : List (List Value)) (t : TableRows) → HaveKinds (kinds_of_columns d) tuples
+    → (◌≡◌ {A = Result TableRows RowFault} (Ok t) (Err rows.NoMemory)) ⊎ (Ok t ≡ rows_from (is_some d.row) tuples)
+    → RowsHaveKinds (kinds_declared d) t.rows
+due_values d tuples t kinds (inl memory) = cc
+due_values d tuples t kinds (inr is) = values_read d tuples t kinds (sym is)
+
+-- ---- where the shelf tells its documents
+
+-- what the tuples give is what the table gives
+rows_told : (told : List (List ℕ × List ℕ)) (d : Declared) (name : List ℕ) (columns : List Column) (tuples : List (List Value)) (result : Result TableRows BindFault)
+    → name ≡ d.document.name → columns ≡ columns_of d → AreTuples told name columns (Ok tuples)
+    → (result ≡ Err NoMemory) ⊎ (result ≡ rows_read d tuples) → IsSettled result → IsTable told d result
+rows_told told d name columns tuples result named are read (inl memory) settled = absurd (subst IsSettled memory settled)
+rows_told told d name columns tuples result named are read (inr is) settled = (Ok tuples, rw (named, are) at read, is)
+
+pub table_read : (texts : Option (List (List ℕ × List ℕ))) (d : Declared) (name : List ℕ) (columns : List Column) (tuples : List (List Value)) (result : Result TableRows BindFault)
+    → name ≡ d.document.name → columns ≡ columns_of d → IfSome texts (λ told. AreTuples told name columns (Ok tuples))
+    → (result ≡ Err NoMemory) ⊎ (result ≡ rows_read d tuples) → IsSettled result → IfSome texts (λ told. IsTable told d result)
+table_read None d name columns tuples result named are read exact settled = tt
+table_read (Some told) d name columns tuples result named are read exact settled = rows_told told d name columns tuples result named are read exact settled
+
+-- a table that is not read
+fault_told : (told : List (List ℕ × List ℕ)) (d : Declared) (name : List ℕ) (columns : List Column) (fault : BindFault)
+    → name ≡ d.document.name → columns ≡ columns_of d → AreTuples told name columns (Err fault) → IsTable told d (Err fault)
+fault_told told d name columns fault named are read = (Err fault, rw (named, are) at read, refl)
+
+pub table_not_read : (texts : Option (List (List ℕ × List ℕ))) (d : Declared) (name : List ℕ) (columns : List Column) (fault : BindFault) (result : Result TableRows BindFault)
+    → name ≡ d.document.name → columns ≡ columns_of d → (IsSettled {A = List (List Value)} (Err fault) → IfSome texts (λ told. AreTuples told name columns (Err fault)))
+    → result ≡ Err fault → IsSettled result → IfSome texts (λ told. IsTable told d result)
+table_not_read None d name columns fault result named are read e settled = tt
+table_not_read (Some told) d name columns fault result named are read e settled =
+    rw e (fault_told told d name columns fault named are (read (settled_fault TableRows (List (List Value)) fault (subst (IsSettled {A = TableRows}) e settled))))
 
 -- reading rows makes no read fault
 or_refusal_reads : (d : Declared) (due : Result TableRows RowFault) → IsReadFault (rows_or_refusal d due) → ⊥
@@ -82,42 +126,12 @@ or_refusal_reads d (Ok r) fault = fault
 or_refusal_reads d (Err (rows.Repeated number)) fault = fault
 or_refusal_reads d (Err rows.NoMemory) fault = fault
 
-rows_read_reads : (d : Declared) (t : Result Table TableFault) → IsReadFault (rows_read d t) → ⊥
-unfolding rows_read
-rows_read_reads d (Ok t) fault = or_refusal_reads d (rows_from (is_some d.row) t.tuples) fault
-rows_read_reads d (Err (csv.Ragged number)) fault = fault
-rows_read_reads d (Err (csv.MissingColumn place)) fault = fault
-rows_read_reads d (Err (csv.BadInt number place)) fault = fault
-rows_read_reads d (Err csv.NoMemory) fault = fault
-
-pub no_read_fault : (d : Declared) (bytes : List ℕ) (result : Result TableRows BindFault) → ReadsTable d bytes result → IsReadFault result → ⊥
-unfolding ReadsTable
-no_read_fault d bytes result (inl memory) fault = subst IsReadFault memory fault
-no_read_fault d bytes result (inr (records, are, due)) fault = rows_read_reads d (table_of (columns_of d) records) (subst IsReadFault due fault)
-
--- the same two, where the shelf tells its documents
-pub table_read : (texts : Option (List (List ℕ × List ℕ))) (d : Declared) (name : List ℕ) (bytes : List ℕ) (result : Result TableRows BindFault)
-    → name ≡ d.document.name → IfSome texts (λ told. Reads told name (Ok bytes)) → ReadsTable d bytes result
-    → IsSettled result → IfSome texts (λ told. IsTable told d result)
-table_read None d name bytes result is reads rows settled = tt
-table_read (Some told) d name bytes result is reads rows settled =
-    read_whole told d bytes result (subst (λ (n : List ℕ). Reads told n (Ok bytes)) is reads) rows settled
-
-pub table_not_read : (texts : Option (List (List ℕ × List ℕ))) (d : Declared) (name : List ℕ) (fault : BindFault) (result : Result TableRows BindFault)
-    → name ≡ d.document.name → IfSome texts (λ told. Reads told name (Err fault)) → result ≡ Err fault
-    → IsSettled result → IfSome texts (λ told. IsTable told d result)
-table_not_read None d name fault result is reads e settled = tt
-table_not_read (Some told) d name fault result is reads e settled =
-    rw e (read_long told d fault (subst (λ (n : List ℕ). Reads told n (Err fault)) is reads) (subst (IsSettled {A = TableRows}) e settled))
-
--- a table of some name that could not be read is one
-pub read_fault_of : {A : Type 0} (result : Result A BindFault) (name : List ℕ) → IsReadFaultOf result name → IsReadFault result
-read_fault_of (Ok made) name h = h
-read_fault_of (Err (Refused refusal)) name h = h
-read_fault_of (Err (Limit k)) name h = h
-read_fault_of (Err (ReadFault table)) name h = tt
-read_fault_of (Err NoMemory) name h = h
+pub no_read_fault : (d : Declared) (tuples : List (List Value)) (result : Result TableRows BindFault) → (result ≡ Err NoMemory) ⊎ (result ≡ rows_read d tuples)
+    → IsReadFault result → ⊥
+no_read_fault d tuples result (inl memory) fault = subst IsReadFault memory fault
+no_read_fault d tuples result (inr is) fault = or_refusal_reads d (rows_from (is_some d.row) tuples) (subst IsReadFault is fault)
 
 -- reading rows tells of no table that could not be read
-pub no_table_fault : (d : Declared) (bytes : List ℕ) (result : Result TableRows BindFault) → ReadsTable d bytes result → (name : List ℕ) → IsReadFaultOf result name → ⊥
-no_table_fault d bytes result reads name h = no_read_fault d bytes result reads (read_fault_of result name h)
+pub no_table_fault : (d : Declared) (tuples : List (List Value)) (result : Result TableRows BindFault) → (result ≡ Err NoMemory) ⊎ (result ≡ rows_read d tuples)
+    → (name : List ℕ) → IsReadFaultOf result name → ⊥
+no_table_fault d tuples result exact name h = no_read_fault d tuples result exact (read_fault_of result name h)

@@ -1,16 +1,13 @@
 -- The relation that a `relation` statement declares, from its table.
-use Rattle.std.specs.Prelude.{◌≡◌, ◌⊎◌, ◌<◌, ◌≤◌, ℕ, Bool, true, false, List, [], ◌∷◌, ◌++◌, length, map, Option, Some, None, is_some, Result, Ok, Err, MatchOption, if◌then◌else◌}
+use Rattle.std.specs.Prelude.{◌≡◌, ℕ, Bool, true, false, List, [], ◌∷◌, ◌++◌, map, Option, Some, None, is_some, Result, Ok, Err, MatchOption, if◌then◌else◌}
 use Rattle.std.specs.List.{list_any}
 use Rattle.std.specs.Str.{bytes_eq}
-use Rattle.currency_base.specs.declared.error_code.ErrorCode.{ErrorCode}
 use Rattle.currency_base.specs.declared.error_code.ErrorCode.TheVariants as code
-use Rattle.currency_base.specs.declared.value.Kind.TheVariants.{Text}
-use Rattle.currency_edge.specs.Shelf.{document}
-use Rattle.currency_csv.specs.Table.{AreRecordsOf, table_of}
+use Rattle.currency_base.specs.declared.value.Kind.{Kind}
+use Rattle.currency_base.specs.declared.value.Value.{Value}
 use Rattle.currency_csv.specs.declared.table.Column.{Column}
-use Rattle.currency_csv.specs.declared.table.Table.{Table}
-use Rattle.currency_csv.specs.declared.table.TableFault.{TableFault}
-use Rattle.currency_csv.specs.declared.table.TableFault.TheVariants as table
+use Rattle.table_bind.specs.Columns.{column_of, text_column}
+use Rattle.table_bind.specs.Tuples.{AreTuples}
 use Rattle.table_rows.specs.Rows.{rows_from}
 use Rattle.table_rows.specs.declared.rows.TableRows.{TableRows}
 use Rattle.table_rows.specs.declared.rows.RowFault.{RowFault}
@@ -21,26 +18,30 @@ use Rattle.spec_model.specs.declared.relation.Relation.{Relation}
 use Rattle.spec_syntax.specs.declared.trees.AttrTree.{AttrTree}
 use Rattle.text_grammar.specs.declared.named.Named.{Named}
 use Rattle.relation_bind.specs.Declarations.{Declared}
-use Rattle.bind_faults.specs.Faults.{refused_at, and_then}
+use Rattle.bind_faults.specs.Faults.{refused_at, refused_in, and_then}
 use Rattle.bind_faults.specs.declared.fault.BindFault.{BindFault}
-use Rattle.bind_faults.specs.declared.fault.BindFault.TheVariants.{Refused, Limit, NoMemory}
-
--- a column of texts
-abbrev pub text_column : Named → Column
-text_column named = record { name = named.name; kind = Text }
+use Rattle.bind_faults.specs.declared.fault.BindFault.TheVariants.{NoMemory}
 
 -- the column of the rows' names, where the relation names its rows
 abbrev pub row_columns : Option Named → List Column
 row_columns None = []
-row_columns (Some named) = text_column named ∷ []
+row_columns (Some named) = text_column named.name ∷ []
 
 -- the column of an attribute
 abbrev pub attr_column : AttrTree → Column
-attr_column a = record { name = a.name.name; kind = a.kind }
+attr_column a = column_of a.kind a.name.name
 
 -- the columns of a relation's table: the rows' names, the entities, and the attributes
 abbrev pub columns_of : Declared → List Column
-columns_of d = row_columns d.row ++ text_column d.entity ∷ map attr_column d.attrs
+columns_of d = row_columns d.row ++ text_column d.entity.name ∷ map attr_column d.attrs
+
+-- the kinds of the values of a declaration's tuples
+abbrev pub kinds_of_columns : Declared → List Kind
+kinds_of_columns d = map (λ c. c.kind) (columns_of d)
+
+-- the kinds of the declared attributes
+abbrev pub kinds_declared : Declared → List Kind
+kinds_declared d = map (λ a. a.kind) d.attrs
 
 -- the attribute that is declared
 abbrev pub attr_of : AttrTree → Attr
@@ -62,20 +63,9 @@ taken_name d false None = None
 unfoldable pub head_fault : List (List ℕ) → Declared → Option BindFault
 head_fault taken d = taken_name d (is_some (place_of taken d.name.name)) (repeated_attr [] d.attrs)
 
--- the refusal of a record of a table
-abbrev pub refused_in : Declared → ErrorCode → ℕ → BindFault
-refused_in d code line = Refused record { code = code; document = Some d.document.name; line = line }
-
--- the refusal that a table's fault is
-abbrev pub table_refusal : Declared → TableFault → BindFault
-table_refusal d (table.Ragged number) = refused_in d code.Ragged number
-table_refusal d (table.MissingColumn place) = refused_in d code.MissingColumn 1
-table_refusal d (table.BadInt number place) = refused_in d code.BadInt number
-table_refusal d table.NoMemory = NoMemory
-
 -- the refusal of a row name that is taken
 abbrev pub row_refusal : Declared → RowFault → BindFault
-row_refusal d (rows.Repeated number) = refused_in d code.DuplicateRow number
+row_refusal d (rows.Repeated number) = refused_in d.document.name code.DuplicateRow number
 row_refusal d rows.NoMemory = NoMemory
 
 -- the rows of a table, or the refusal of one of them
@@ -83,10 +73,9 @@ abbrev pub rows_or_refusal : Declared → Result TableRows RowFault → Result T
 rows_or_refusal d (Ok r) = Ok r
 rows_or_refusal d (Err fault) = Err (row_refusal d fault)
 
--- the same, from what was read of the table
-unfoldable pub rows_read : Declared → Result Table TableFault → Result TableRows BindFault
-rows_read d (Ok t) = rows_or_refusal d (rows_from (is_some d.row) t.tuples)
-rows_read d (Err fault) = Err (table_refusal d fault)
+-- the rows of a declaration's tuples
+abbrev pub rows_read : Declared → List (List Value) → Result TableRows BindFault
+rows_read d tuples = rows_or_refusal d (rows_from (is_some d.row) tuples)
 
 -- the relation of a declaration and the rows of its table
 abbrev pub relation_of : Declared → TableRows → Relation
@@ -98,17 +87,10 @@ relation_of d r = record {
   given = [];
 }
 
--- the bytes that a table may have: 64 MiB
-abbrev pub table_bound : ℕ
-table_bound = 67108864
-
--- what the table of a declaration gives: it is too long, or its records are read
-unfoldable pub IsTable : List (List ℕ × List ℕ) → Declared → Result TableRows BindFault → Type 0
+-- what the table of a declaration gives: the rows of the tuples that are read, or the first fault
+abbrev pub IsTable : List (List ℕ × List ℕ) → Declared → Result TableRows BindFault → Type 0
 IsTable told d table =
-    ((table_bound < length (document told d.document.name)) × (table ≡ Err (Limit 2)))
-    ⊎ ((length (document told d.document.name) ≤ table_bound)
-    × (records : List (List (List ℕ))) × AreRecordsOf (document told d.document.name) records
-    × (table ≡ rows_read d (table_of (columns_of d) records)))
+    (tuples : Result (List (List Value)) BindFault) × AreTuples told d.document.name (columns_of d) tuples × (table ≡ and_then tuples (rows_read d))
 
 -- what a declaration in which no name is taken makes: its table is read, and gives the relation
 abbrev pub IsRead : List (List ℕ × List ℕ) → Declared → Result Relation BindFault → Type 0

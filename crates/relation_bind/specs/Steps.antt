@@ -1,16 +1,17 @@
 -- What the parts of binding a declaration leave: the words of private contracts.
-use Rattle.std.specs.Prelude.{◌≡◌, ◌⊎◌, ◌<◌, ◌≤◌, ℕ, List, [], length, map, Some, None, Result, Ok, Err, MatchResult, Contains}
+use Rattle.std.specs.Prelude.{◌≡◌, ◌⊎◌, ℕ, List, [], map, All, Some, None, Result, MatchResult, Contains}
+use Rattle.currency_base.specs.Values.{kind_of}
 use Rattle.currency_base.specs.declared.error_code.ErrorCode.TheVariants.{DuplicateName}
-use Rattle.currency_edge.specs.Shelf.{document}
-use Rattle.currency_csv.specs.Table.{AreRecordsOf, table_of}
-use Rattle.table_rows.specs.declared.rows.TableRows.{TableRows}
+use Rattle.currency_base.specs.declared.row.Row.{Row}
+use Rattle.currency_base.specs.declared.value.Kind.{Kind}
+use Rattle.currency_base.specs.declared.value.Value.{Value}
 use Rattle.spec_syntax.specs.declared.trees.AttrTree.{AttrTree}
 use Rattle.text_grammar.specs.declared.named.Named.{Named}
 use Rattle.relation_bind.specs.Declarations.{Declared}
 use Rattle.bind_faults.specs.Faults.{refused_at}
-use Rattle.relation_bind.specs.Relations.{columns_of, head_fault, repeated_attr, rows_read, table_bound}
+use Rattle.relation_bind.specs.Relations.{head_fault, repeated_attr}
 use Rattle.bind_faults.specs.declared.fault.BindFault.{BindFault}
-use Rattle.bind_faults.specs.declared.fault.BindFault.TheVariants.{Refused, Limit, NoMemory}
+use Rattle.bind_faults.specs.declared.fault.BindFault.TheVariants.{NoMemory}
 
 -- the names of declared attributes
 abbrev pub names_of_attrs : List AttrTree → List (List ℕ)
@@ -29,14 +30,10 @@ ChecksHead taken d result = MatchResult result
     (λ names. (head_fault taken d ≡ None) × (names ≡ names_of_attrs d.attrs) × (Contains taken d.name.name → ⊥))
     (λ fault. (fault ≡ NoMemory) ⊎ (head_fault taken d ≡ Some fault))
 
--- the bytes of the document, where it is not too long
-abbrev pub Reads : List (List ℕ × List ℕ) → List ℕ → Result (List ℕ) BindFault → Type 0
-Reads told name (Ok bytes) = (bytes ≡ document told name) × (length bytes ≤ table_bound)
-Reads told name (Err (Limit k)) = (k ≡ 2) × (table_bound < length (document told name))
-Reads told name (Err (Refused refusal)) = ⊥
-Reads told name (Err fault) = Unit {0}
+-- each tuple has a value of each of these kinds
+abbrev pub HaveKinds : List Kind → List (List Value) → Type 0
+HaveKinds kinds tuples = All (λ tuple. map kind_of tuple ≡ kinds) tuples
 
--- the rows in the bytes of a declaration's table, or its refusal, or memory ran out
-unfoldable pub ReadsTable : Declared → List ℕ → Result TableRows BindFault → Type 0
-ReadsTable d bytes result = (result ≡ Err NoMemory)
-    ⊎ ((records : List (List (List ℕ))) × AreRecordsOf bytes records × (result ≡ rows_read d (table_of (columns_of d) records)))
+-- each row has
+abbrev pub RowsHaveKinds : List Kind → List Row → Type 0
+RowsHaveKinds kinds rows = All (λ row. map kind_of row.values ≡ kinds) rows

@@ -4,12 +4,12 @@ ghost use Rattle.bind_faults.specs.declared.fault.BindFault.{BindFault};
 ghost use Rattle.relation_bind.specs.Declarations.{Declared};
 ghost use Rattle.relation_bind.specs.Relations.{IsDeclared};
 
-use currency_csv::one_list_of_records;
+use table_bind::one_table;
 
 /// A law: documents and a declaration have one outcome at most, whatever names are taken.
 pub fn one_declaration()
     ensures { (told : List (List ℕ × List ℕ)) (taken : List (List ℕ)) (d : Declared) (a b : Result Relation BindFault)
         → IsDeclared told taken d a → IsDeclared told taken d b → a ≡ b }
 {
-    one_list_of_records();
+    one_table();
 }

@@ -2,8 +2,8 @@ ghost use Rattle.std.specs.Prelude.{◌≡◌, ◌≤◌, ℕ, List, [], None, m
 ghost use Rattle.currency_edge.specs.Fault.{Rose};
 ghost use Rattle.table_rows.specs.Rows.{AreRows};
 ghost use Rattle.bind_faults.specs.Faults.{IsSettled, IsReadFault, IsReadFaultOf};
-ghost use Rattle.relation_bind.specs.Relations.{attr_of, relation_of, IsDeclared, IsTableOf};
-ghost use Rattle.relation_bind.specs.Steps.{names_of_attrs};
+ghost use Rattle.relation_bind.specs.Relations.{attr_of, kinds_declared, relation_of, IsDeclared, IsTableOf};
+ghost use Rattle.relation_bind.specs.Steps.{names_of_attrs, RowsHaveKinds};
 
 use crate::declaration::Declaration;
 use crate::head::check_head;
@@ -55,6 +55,7 @@ fn named_relation(
     table: TableRows,
 ) -> Result<NamedRelation, NoMemory>
     requires rows { AreRows table }
+    requires values { RowsHaveKinds (kinds_declared declaration.now) table.rows }
     requires attrs { attrs ≡ names_of_attrs declaration.now.attrs }
     ensures { IfOk result (λ r. r ≡ relation_of declaration.now table) }
 {

@@ -5,8 +5,8 @@ use Rattle.text_grammar.specs.declared.named.Named.{Named}
 use Rattle.rule_syntax.specs.declared.trees.RuleTree.{RuleTree}
 use Rattle.rule_syntax.specs.declared.trees.PredicateTree.{PredicateTree}
 use Rattle.bind_faults.specs.Faults.{and_then, unless, all_of, IsDue}
+use Rattle.bind_faults.proofs.Outcomes.{due_same, due_through}
 use Rattle.bind_faults.specs.declared.fault.BindFault.{BindFault}
-use Rattle.bind_faults.specs.declared.fault.BindFault.TheVariants.{Refused, Limit, ReadFault, NoMemory}
 use Rattle.denial_rules.specs.declared.rule.Conclusion.{Conclusion}
 use Rattle.denial_rules.specs.declared.rule.Predicate.{Predicate}
 use Rattle.spec_model.specs.declared.relation.Relation.{Relation}
@@ -28,24 +28,6 @@ names_few before (v ∷ vars) = omega (arith, with_name_few before v.name, names
 
 pub few_names : (names : List (List ℕ)) (vars listed : List Named) → names ≡ names_of_vars [] vars → vars ≡ listed → length names ≤ length listed
 few_names names vars listed is same = omega (arith, ap length is, ap (length {A = Named}) same, names_few [] vars)
-
--- ---- faults
-
--- an answer that is the one that is due
-pub due_same : {A : Type 0} (due r : Result A BindFault) → due ≡ r → IsDue due r
-due_same due (Ok x) is = is
-due_same due (Err (Refused refusal)) is = is
-due_same due (Err (Limit k)) is = is
-due_same due (Err (ReadFault name)) is = is
-due_same due (Err NoMemory) is = tt
-
--- a fault that is due in one place is due where it is handed on
-pub due_through : {A B : Type 0} (first : Result A BindFault) (due : Result B BindFault) (e : BindFault) → IsDue first (Err e)
-    → (first ≡ Err e → due ≡ Err e) → IsDue due (Err e)
-due_through first due (Refused refusal) is on = on is
-due_through first due (Limit k) is on = on is
-due_through first due (ReadFault name) is on = on is
-due_through first due NoMemory is on = tt
 
 -- ---- the parts of a rule
 

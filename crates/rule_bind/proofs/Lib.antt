@@ -3,4 +3,5 @@ mod Due
 mod Fitting
 mod Numbers
 mod Places
+mod Reading
 mod Walk

@@ -1,5 +1,5 @@
 ghost use Rattle.std.specs.Prelude.{◌≡◌, ◌<◌, ◌≤◌, [], ◌∷◌, length, map, Contains, IfOk};
-ghost use Rattle.bind_faults.specs.Faults.{IsDue, or_else};
+ghost use Rattle.bind_faults.specs.Faults.{IsDue, IsReadFault, or_else};
 ghost use Rattle.denial_rules.specs.Rules.{IsRuleOn};
 ghost use Rattle.spec_model.specs.Facts.{IsRuleOf, kinds_of};
 ghost use Rattle.spec_names.specs.Names.{all_names_of};
@@ -20,6 +20,25 @@ use text_grammar::Named;
 /// The rule that a tree says of a specification, or its first fault: names that are unknown, then names
 /// that stand twice, then comparisons of two kinds, each in the order of the text.
 pub fn bind_rule(
+    alloc: Global,
+    names: &SpecNames,
+    spec: &Specification,
+    tree: &RuleTree,
+) -> Result<Rule, BindFault>
+    requires { names.now ≡ all_names_of spec.now }
+    ensures due { IsDue (ruled spec.now tree.now) result }
+    ensures fits { IfOk result (λ rule. rule.vars ≤ 4 → length rule.predicates ≤ 16 → IsRuleOf spec.now.relations rule) }
+    ensures fresh { IfOk result (λ rule. Contains (map (λ r. r.name) spec.now.rules) rule.name → ⊥) }
+    ensures reads { IsReadFault result → ⊥ }
+{
+    match bind_named(alloc, names, spec, tree) {
+        Ok(rule) => Ok(rule),
+        Err(fault) => Err(fault),
+    }
+}
+
+/// The same.
+fn bind_named(
     alloc: Global,
     names: &SpecNames,
     spec: &Specification,

@@ -1,8 +1,5 @@
-pub mod Longer
-pub mod Within
-pub mod OneOutcome
-pub mod Dues
-pub mod Steps
-pub mod Statements
-pub mod Orderings
-pub mod Rulings
+mod Dues
+mod Given
+mod OneOutcome
+mod Statements
+mod Steps

@@ -7,7 +7,8 @@ use Rattle.spec_model.specs.Spec.{Spec}
 use Rattle.spec_syntax.specs.declared.trees.SpecTree.{SpecTree}
 use Rattle.spec_syntax.specs.declared.trees.StatementTree.{StatementTree}
 use Rattle.relation_bind.proofs.Places.{drop_at}
-use Rattle.spec_bind.specs.Bound.{IsStep, IsBound, IsSpecBound, ReadsTableOf, TableDue, limited_at_last, nothing}
+use Rattle.bound_spec.specs.Growth.{limited_at_last, nothing}
+use Rattle.spec_bind.specs.Bound.{IsStep, IsBound, IsSpecBound, ReadsTableOf, TableDue}
 use Rattle.spec_bind.proofs.Dues.{due_settled}
 
 -- the documents that a shelf tells

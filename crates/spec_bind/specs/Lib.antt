@@ -1,4 +1,4 @@
 pub mod Bound
-pub mod Known
+pub use Rattle.bound_spec.specs.Growth
 pub use Rattle.currency_edge.specs.Shelf
 pub use Rattle.currency_edge.specs.Fault

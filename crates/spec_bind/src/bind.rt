@@ -1,22 +1,20 @@
-ghost use Rattle.std.specs.Prelude.{◌≡◌, ◌≤◌, ℕ, List, None, IfOk, IfSome};
+ghost use Rattle.std.specs.Prelude.{◌≡◌, ◌≤◌, ℕ, List, IfOk, IfSome};
 ghost use Rattle.currency_edge.specs.Fault.{Rose};
-ghost use Rattle.bind_faults.specs.Faults.{IsDue, IsSettled, IsReadFault, IsReadFaultOf};
-ghost use Rattle.spec_limits.specs.Limits.{too_many_variables};
-ghost use Rattle.spec_bind.specs.Bound.{IsSpecBound, IsWithinLimits, TableDue, limited_at_last, nothing};
+ghost use Rattle.bind_faults.specs.Faults.{IsSettled, IsReadFault, IsReadFaultOf};
+ghost use Rattle.bound_spec.specs.Growth.{IsWithinLimits, nothing};
+ghost use Rattle.spec_bind.specs.Bound.{IsSpecBound, TableDue};
 
-use crate::bound::Bound;
 use crate::statement::bind_statement;
 use bind_faults::BindFault;
-use currency_base::NoMemory;
+use bound_spec::{Bound, within_limits};
 use currency_edge::Shelf;
-use spec_limits::limit_of_variables;
 use spec_model::Specification;
 use spec_syntax::SpecTree;
 use std::alloc::Global;
 
 /// The specification that the statements say, with the tables that they name. Statements are bound in
-/// the order of the text, each whole before the next, and then within limits 4 to 8; limit 10 comes
-/// after all of them. The first check that fails is the answer.
+/// the order of the text, each whole before the next, and then within limits 4 to 9; limits 10 and 11
+/// come after all of them. The first check that fails is the answer.
 pub fn bind_spec<S: Shelf>(
     alloc: Global,
     tree: &SpecTree,
@@ -38,18 +36,5 @@ pub fn bind_spec<S: Shelf>(
             Err(fault) => return Err(fault),
         };
     }
-    within_variables(alloc, bound)
-}
-
-/// The specification that is bound, unless the variables of its orders are too many.
-fn within_variables(alloc: Global, bound: Bound) -> Result<Specification, BindFault>
-    ensures due { IsDue (limited_at_last bound) result }
-    ensures reads { IsReadFault result → ⊥ }
-    ensures within { IfOk result IsWithinLimits }
-{
-    match limit_of_variables(alloc, &bound.spec) {
-        Ok(None) => Ok(bound.spec),
-        Ok(Some(limit)) => Err(BindFault::Limit(limit)),
-        Err(NoMemory) => Err(BindFault::NoMemory),
-    }
+    within_limits(alloc, bound)
 }

@@ -4,6 +4,8 @@ ghost use Rattle.spec_syntax.specs.declared.trees.SpecTree.{SpecTree};
 ghost use Rattle.bind_faults.specs.declared.fault.BindFault.{BindFault};
 ghost use Rattle.spec_bind.specs.Bound.{IsSpecBound};
 
+use copy_bind::one_copy;
+use orders_bind::one_orders;
 use relation_bind::one_declaration;
 
 /// A law: documents and a tree have one outcome at most.
@@ -12,4 +14,6 @@ pub fn one_outcome()
         → IsSpecBound told tree a → IsSpecBound told tree b → a ≡ b }
 {
     one_declaration();
+    one_orders();
+    one_copy();
 }

@@ -2,9 +2,10 @@
 #![tactic(auto)]
 
 mod bind;
-mod bound;
+mod copy;
 mod laws;
 mod order;
+mod orders;
 mod relation;
 mod rule;
 mod statement;

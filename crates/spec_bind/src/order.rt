@@ -1,8 +1,9 @@
 ghost use Rattle.bind_faults.specs.Faults.{and_then, IsDue, IsReadFault};
-ghost use Rattle.spec_bind.specs.Bound.{after_order, limited};
+ghost use Rattle.bound_spec.specs.Growth.{limited};
+ghost use Rattle.spec_bind.specs.Bound.{after_order};
 
-use crate::bound::Bound;
 use bind_faults::BindFault;
+use bound_spec::Bound;
 use order_bind::bind_order;
 use spec_syntax::OrderingTree;
 use std::alloc::Global;

@@ -1,16 +1,11 @@
-ghost use Rattle.std.specs.Prelude.{◌≡◌, ◌≤◌, None, length, map, Contains, IfOk};
 ghost use Rattle.bind_faults.specs.Faults.{and_then, IsDue, IsReadFault};
-ghost use Rattle.spec_model.specs.Facts.{IsRuleOf};
-ghost use Rattle.spec_limits.specs.Limits.{exceeded};
-ghost use Rattle.spec_bind.specs.Bound.{after_rule, limited, with_rule};
+ghost use Rattle.bound_spec.specs.Growth.{limited};
+ghost use Rattle.spec_bind.specs.Bound.{after_rule};
 
-use crate::bound::Bound;
 use bind_faults::BindFault;
-use currency_base::NoMemory;
+use bound_spec::{Bound, add_rule};
 use rule_bind::bind_rule;
 use rule_syntax::RuleTree;
-use spec_limits::limit_with_rule;
-use spec_model::Rule;
 use std::alloc::Global;
 
 /// Binds a rule: it comes after the others, unless a limit is then exceeded.
@@ -22,38 +17,4 @@ pub fn bind_ruling(alloc: Global, bound: Bound, tree: &RuleTree) -> Result<Bound
         Ok(rule) => add_rule(alloc, bound, rule),
         Err(fault) => Err(fault),
     }
-}
-
-/// Adds a rule, unless a limit is then exceeded.
-fn add_rule(alloc: Global, bound: Bound, rule: Rule) -> Result<Bound, BindFault>
-    requires fits { rule.vars ≤ 4 → length rule.predicates ≤ 16 → IsRuleOf bound.relations rule }
-    requires fresh { Contains (map (λ r. r.name) bound.rules) rule.name → ⊥ }
-    ensures due { IsDue (limited (with_rule bound rule)) result }
-    ensures reads { IsReadFault result → ⊥ }
-{
-    match limit_with_rule(&bound.spec, &rule) {
-        Some(limit) => Err(BindFault::Limit(limit)),
-        None => match with_rule(alloc, bound, rule) {
-            Ok(bound) => Ok(bound),
-            Err(NoMemory) => Err(BindFault::NoMemory),
-        },
-    }
-}
-
-/// Adds a rule with which no limit is exceeded.
-fn with_rule(alloc: Global, bound: Bound, rule: Rule) -> Result<Bound, NoMemory>
-    requires fits { rule.vars ≤ 4 → length rule.predicates ≤ 16 → IsRuleOf bound.relations rule }
-    requires fresh { Contains (map (λ r. r.name) bound.rules) rule.name → ⊥ }
-    requires within { exceeded (with_rule bound rule) ≡ None }
-    ensures { IfOk result (λ new. new ≡ with_rule bound rule) }
-{
-    let Bound {
-        mut spec,
-        mut names,
-        rows,
-    } = bound;
-    let name = rule.name.duplicate(alloc)?;
-    spec.add_rule(rule)?;
-    names.add_rule(name)?;
-    Ok(Bound { spec, names, rows })
 }

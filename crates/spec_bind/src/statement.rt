@@ -3,17 +3,19 @@ ghost use Rattle.currency_edge.specs.Fault.{Rose};
 ghost use Rattle.bind_faults.specs.Faults.{IsSettled, IsReadFault, IsReadFaultOf};
 ghost use Rattle.spec_bind.specs.Bound.{IsStep, ReadsTableOf};
 
-use crate::bound::Bound;
+use crate::copy::bind_copying;
 use crate::order::bind_ordering;
+use crate::orders::bind_table;
 use crate::relation::bind_declaration;
 use crate::rule::bind_ruling;
 use bind_faults::BindFault;
+use bound_spec::Bound;
 use currency_edge::Shelf;
 use relation_bind::Declaration;
 use spec_syntax::StatementTree;
 use std::alloc::Global;
 
-/// Binds a statement, a `relation` with its table.
+/// Binds a statement, with its table where it names one.
 pub fn bind_statement<S: Shelf>(
     alloc: Global,
     bound: Bound,
@@ -45,6 +47,10 @@ pub fn bind_statement<S: Shelf>(
             bind_declaration(alloc, bound, &declaration, shelf)
         }
         StatementTree::Order(ordering) => bind_ordering(alloc, bound, ordering),
+        StatementTree::Orders { relation, document } => {
+            bind_table(alloc, bound, relation, document, shelf)
+        }
         StatementTree::Rule(rule) => bind_ruling(alloc, bound, rule),
+        StatementTree::Copy(copy) => bind_copying(alloc, bound, copy, shelf),
     }
 }

@@ -36,12 +36,12 @@ pub exceeded_given : (s : Spec) (rel : ℕ) (r : Relation) (given : List Pair) �
     → exceeded (record s { relations = giving s.relations rel r given }) ≡ exceeded s
 unfolding exceeded
 exceeded_given s rel r given at =
-    same_least _ _ _ _ _ _ _ _ _ _
+    same_least _ _ _ _ _ _ _ _ _ _ _ _
     (ap (ltb 64) (length-set s.relations rel (record r { given = given })))
     (any_set (λ (q : Relation). ltb 32 (length q.attrs)) s.relations rel r (record r { given = given }) at refl)
     (ap (ltb 100000) (rows_together_given s.relations rel r given at))
     (any_set (λ (q : Relation). is_crowded q.rows) s.relations rel r (record r { given = given }) at refl)
-    refl
+    refl refl
 
 pub order_variables_given : (relations : List Relation) (rel : ℕ) (r : Relation) (given : List Pair) → slice_get relations rel ≡ Some r
     → order_variables (giving relations rel r given) ≡ order_variables relations

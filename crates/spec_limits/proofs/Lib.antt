@@ -2,3 +2,7 @@ pub mod Chain
 mod Tally
 mod Bounds
 pub mod GivenPairs
+mod Leaving
+mod Capped
+mod PerEntity
+mod OfSpec

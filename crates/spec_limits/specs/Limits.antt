@@ -22,8 +22,8 @@ rows_together relations = sum_by (λ r. length r.rows) relations
 abbrev pub is_long : Rule → Bool
 is_long rule = nat_lt 4 rule.vars || nat_lt 16 (length rule.predicates)
 
--- the least of limits 4 to 8 that is exceeded: 64 relations, 32 attributes of a relation, 100000 rows together, 64 rows of
--- one entity of a relation, and 256 rules of 4 variables and 16 predicates
+-- the least of limits 4 to 9 that is exceeded: 64 relations, 32 attributes of a relation, 100000 rows together, 64 rows of
+-- one entity of a relation, 256 rules of 4 variables and 16 predicates, and 64 copy functions
 unfoldable pub exceeded : Spec → Option ℕ
 exceeded s =
     if nat_lt 64 (length s.relations) then Some 4
@@ -31,7 +31,8 @@ exceeded s =
     else (if nat_lt 100000 (rows_together s.relations) then Some 6
     else (if list_any (λ r. is_crowded r.rows) s.relations then Some 7
     else (if nat_lt 256 (length s.rules) || list_any is_long s.rules then Some 8
-    else None))))
+    else (if nat_lt 64 (length s.copies) then Some 9
+    else None)))))
 
 -- the pairs of rows of one entity
 abbrev pub entity_pairs : List Row → ℕ

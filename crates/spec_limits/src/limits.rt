@@ -4,7 +4,7 @@ ghost use Rattle.spec_limits.specs.Limits.{exceeded, is_long, rows_together};
 
 use crate::counts::is_crowded;
 use currency_base::NoMemory;
-use spec_model::{Relation, Rule, Specification};
+use spec_model::{CopyMap, Relation, Rule, Specification};
 use std::alloc::Global;
 
 /// How many relations there may be.
@@ -24,6 +24,9 @@ const MOST_VARS: u32 = 4;
 
 /// How many predicates a rule may have.
 const MOST_PREDICATES: usize = 16;
+
+/// How many copy functions there may be.
+const MOST_COPIES: usize = 64;
 
 /// The limit that a specification within all limits exceeds with one more relation; `rows` is how many
 /// rows it has so far.
@@ -72,4 +75,15 @@ fn is_long(rule: &Rule) -> bool
     ensures { result ≡ is_long rule.now }
 {
     rule.vars > MOST_VARS || rule.predicates.len() > MOST_PREDICATES
+}
+
+/// The limit that a specification within all limits exceeds with one more copy function. Takes no memory.
+pub fn limit_with_copy(spec: &Specification, copy: &CopyMap) -> Option<u8>
+    requires { exceeded spec.now ≡ None }
+    ensures { result ≡ exceeded (record spec.now { copies = spec.now.copies ++ copy.now ∷ [] }) }
+{
+    if spec.copies().len() >= MOST_COPIES {
+        return Some(9);
+    }
+    None
 }

@@ -10,7 +10,7 @@ use Rattle.spec_model.specs.declared.relation.Relation.{Relation}
 use Rattle.spec_model.specs.Facts.{kinds_of, IsRuleOf, AreRules}
 
 -- an item of a list stands at its place when more follow
-get_left : {A : Type 0} (xs ys : List A) (i : ℕ) (x : A) → slice_get xs i ≡ Some x → slice_get (xs ++ ys) i ≡ Some x
+pub get_left : {A : Type 0} (xs ys : List A) (i : ℕ) (x : A) → slice_get xs i ≡ Some x → slice_get (xs ++ ys) i ≡ Some x
 get_left [] ys i x e = absurd (none-some x e)
 get_left (z ∷ xs) ys zero x e = e
 get_left (z ∷ xs) ys (suc i) x e = get_left xs ys i x e
@@ -25,12 +25,12 @@ rules_beside rs more rules h =
     record { few = h.few; each = All-weaker (IsRuleOf rs) (IsRuleOf (rs ++ more)) (rule_beside rs more) rules h.each; names = h.names }
 
 -- what stands at a place after a write
-get_set_same : {A : Type 0} (xs : List A) (i : ℕ) (x y : A) → slice_get xs i ≡ Some x → slice_get (slice_set xs i y) i ≡ Some y
+pub get_set_same : {A : Type 0} (xs : List A) (i : ℕ) (x y : A) → slice_get xs i ≡ Some x → slice_get (slice_set xs i y) i ≡ Some y
 get_set_same [] i x y e = absurd (none-some x e)
 get_set_same (z ∷ xs) zero x y e = refl
 get_set_same (z ∷ xs) (suc i) x y e = get_set_same xs i x y e
 
-get_set_other : {A : Type 0} (xs : List A) (i j : ℕ) (y : A) → (j ≡ i → ⊥) → slice_get (slice_set xs i y) j ≡ slice_get xs j
+pub get_set_other : {A : Type 0} (xs : List A) (i j : ℕ) (y : A) → (j ≡ i → ⊥) → slice_get (slice_set xs i y) j ≡ slice_get xs j
 get_set_other [] i j y apart = refl
 get_set_other (z ∷ xs) zero zero y apart = absurd (apart refl)
 get_set_other (z ∷ xs) zero (suc j) y apart = refl

@@ -1,3 +1,4 @@
+mod AddedCopies
 mod AddedPairs
 mod AddedRules
 mod BlankLists

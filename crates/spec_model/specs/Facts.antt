@@ -2,6 +2,9 @@
 use Rattle.std.specs.Prelude.{◌≡◌, ◌+◌, ◌^◌, ◌<◌, ℕ, List, length, map, All, Some, slice_get, slice_set}
 use Rattle.std.specs.BTreeSet.{insert_key}
 use Rattle.currency_base.specs.Lists.{OnlyOnce}
+use Rattle.currency_base.specs.Values.{kind_of}
+use Rattle.copy_functions.specs.Copies.{CopyFunction, IsCopied}
+use Rattle.copy_functions.specs.declared.place.Place.{Place}
 use Rattle.partial_orders.specs.Pairs.{AreOfOneEntity, pair_cmp}
 use Rattle.currency_base.specs.declared.pair.Pair.{Pair}
 use Rattle.currency_base.specs.declared.value.Kind.{Kind}
@@ -17,13 +20,18 @@ pub record IsGivenPair (r : Relation) (p : Pair) : Type 0 where
   pub later : p.later.0 < length r.rows
   pub one_entity : AreOfOneEntity r.rows p
 
--- a relation whose ids are numbers of 32 bits, whose rows stand for its entities, whose attributes, rows and entities
--- have a name each of their own, and whose given pairs are such pairs
+-- the kinds of a relation's attributes
+abbrev pub kinds_of : Relation → List Kind
+kinds_of r = map (λ a. a.kind) r.attrs
+
+-- a relation whose ids are numbers of 32 bits, whose rows stand for its entities and have a value of each attribute's
+-- kind, whose attributes, rows and entities have a name each of their own, and whose given pairs are such pairs
 pub record IsRelation (r : Relation) : Type 0 where
   pub few_attrs : length r.attrs + 1 < 2 ^ 32
   pub few_rows : length r.rows + 1 < 2 ^ 32
   pub few_entities : length r.entities + 1 < 2 ^ 32
   pub entities : All (λ row. row.entity.0 < length r.entities) r.rows
+  pub values : All (λ row. map kind_of row.values ≡ kinds_of r) r.rows
   pub attr_names : OnlyOnce (map (λ a. a.name) r.attrs)
   pub row_names : OnlyOnce (map (λ row. row.name) r.rows)
   pub entity_names : OnlyOnce r.entities
@@ -34,10 +42,6 @@ pub record AreRelations (relations : List Relation) : Type 0 where
   pub few : length relations + 1 < 2 ^ 32
   pub each : All IsRelation relations
   pub names : OnlyOnce (map (λ r. r.name) relations)
-
--- the kinds of a relation's attributes
-abbrev pub kinds_of : Relation → List Kind
-kinds_of r = map (λ a. a.kind) r.attrs
 
 -- a rule on one of the relations
 pub record IsRuleOf (relations : List Relation) (rule : Rule) : Type 0 where
@@ -51,10 +55,32 @@ pub record AreRules (relations : List Relation) (rules : List Rule) : Type 0 whe
   pub each : All (IsRuleOf relations) rules
   pub names : OnlyOnce (map (λ rule. rule.name) rules)
 
+-- a place of a copy function: an attribute of the target relation and one of the source relation, of one kind
+pub record IsPlaceBetween (target source : Relation) (place : Place) : Type 0 where
+  pub kind : Kind
+  pub in_target : slice_get (kinds_of target) place.target.0 ≡ Some kind
+  pub in_source : slice_get (kinds_of source) place.source.0 ≡ Some kind
+
+-- a copy function between two of the relations: such places, and mapped rows that have the values of their source rows
+pub record IsCopyAmong (relations : List Relation) (copy : CopyFunction) : Type 0 where
+  pub target : Relation
+  pub source : Relation
+  pub is_target : slice_get relations copy.target.0 ≡ Some target
+  pub is_source : slice_get relations copy.source.0 ≡ Some source
+  pub places : All (IsPlaceBetween target source) copy.places
+  pub copied : IsCopied copy target.rows source.rows
+
+-- a list of such copy functions, which are numbered by 32 bits and have a name each of their own
+pub record AreCopies (relations : List Relation) (copies : List CopyFunction) : Type 0 where
+  pub few : length copies + 1 < 2 ^ 32
+  pub each : All (IsCopyAmong relations) copies
+  pub names : OnlyOnce (map (λ copy. copy.name) copies)
+
 -- what every specification keeps
 pub record IsSpecification (s : Spec) : Type 0 where
   pub relations : AreRelations s.relations
   pub rules : AreRules s.relations s.rules
+  pub copies : AreCopies s.relations s.copies
 
 -- the relation with one more given pair
 abbrev pub with_given : Relation → Pair → Relation

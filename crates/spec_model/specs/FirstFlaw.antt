@@ -2,14 +2,17 @@
 use Rattle.std.specs.Prelude.{◌≡◌, ◌⊎◌, ◌<◌, ℕ, List, [], length, Some, slice_get, slice_index_or, Contains, take}
 use Rattle.currency_base.specs.declared.ids.RowId.{RowId}
 use Rattle.currency_base.specs.declared.pair.Pair.{Pair}
+use Rattle.copy_functions.specs.Copies.{CopyFunction}
+use Rattle.copy_functions.specs.declared.place.Place.{Place}
 use Rattle.denial_rules.specs.declared.rule.Rule.{Rule}
 use Rattle.spec_model.specs.Spec.{Spec}
 use Rattle.spec_model.specs.Completion.{Rankings, lists_of, ranking_of, IsRanking, IsCompletion, Before}
 use Rattle.spec_model.specs.Satisfies.{IsChoice, IsBrokenBy, IsSatisfiedBy, AreRowsBefore}
-use Rattle.spec_model.specs.Consistent.{KeepsGiven, SatisfiesRules}
+use Rattle.spec_model.specs.Compatible.{KeepsSourceOrder, BreaksSourceOrder, IsRowPairBefore}
+use Rattle.spec_model.specs.Consistent.{KeepsGiven, SatisfiesRules, IsCompatibleWith, copying}
 use Rattle.spec_model.specs.declared.relation.Relation.{Relation}
 use Rattle.spec_model.specs.declared.flaw.Flaw.{Flaw}
-use Rattle.spec_model.specs.declared.flaw.Flaw.TheVariants.{NotARanking, GivenBroken, RuleBroken}
+use Rattle.spec_model.specs.declared.flaw.Flaw.TheVariants.{NotARanking, GivenBroken, RuleBroken, CopyBroken}
 
 -- of two places, the first stands before the second: by relation, then attribute, then entity
 abbrev pub IsPlaceBefore : ℕ → ℕ → ℕ → ℕ → ℕ → ℕ → Type 0
@@ -49,8 +52,28 @@ pub record IsFirstRuleBroken (s : Spec) (c : Rankings) (k : ℕ) (rows : List Ro
   pub earlier_rows : (others : List RowId) → AreRowsBefore others rows → IsChoice relation.rows rule.vars others
       → IsSatisfiedBy relation.rows (slice_index_or c rule.relation.0 []) rule others
 
--- what a completion fails first: rankings before given pairs, and these before rules, each in their order
+-- the first two rows that break a copy function: no earlier one is broken, nor this one at an earlier place, and none
+-- stand before them at theirs
+pub record IsFirstCopyBroken (s : Spec) (c : Rankings) (k at : ℕ) (first second : RowId) : Type 0 where
+  pub copy : CopyFunction
+  pub is_copy : slice_get s.copies k ≡ Some copy
+  pub target : Relation
+  pub source : Relation
+  pub is_target : slice_get s.relations copy.target.0 ≡ Some target
+  pub is_source : slice_get s.relations copy.source.0 ≡ Some source
+  pub place : Place
+  pub is_place : slice_get copy.places at ≡ Some place
+  pub broken : BreaksSourceOrder (copying copy target source c) place first second
+  pub earlier_copies : IsCompatibleWith s.relations (take k s.copies) c
+  pub earlier_places : (at' : ℕ) (place' : Place) → at' < at → slice_get copy.places at' ≡ Some place' → (t u : RowId)
+      → KeepsSourceOrder (copying copy target source c) place' t u
+  pub earlier_rows : (t u : RowId) → IsRowPairBefore t u first second → KeepsSourceOrder (copying copy target source c) place t u
+
+-- what a completion fails first: rankings before given pairs, these before rules, and these before copies, each in their
+-- order
 abbrev pub IsFirstFlaw : Spec → Rankings → Flaw → Type 0
 IsFirstFlaw s c (NotARanking rel attr ent) = IsFirstUnranked s.relations c rel.0 attr.0 ent.0
 IsFirstFlaw s c (GivenBroken rel pair) = IsCompletion s.relations c × IsFirstBroken s.relations c rel.0 pair
 IsFirstFlaw s c (RuleBroken rule rows) = IsCompletion s.relations c × KeepsGiven s.relations c × IsFirstRuleBroken s c rule.0 rows
+IsFirstFlaw s c (CopyBroken copy place first second) =
+    IsCompletion s.relations c × KeepsGiven s.relations c × SatisfiesRules s.relations s.rules c × IsFirstCopyBroken s c copy.0 place first second

@@ -3,7 +3,9 @@ pub mod Blank
 pub mod Facts
 pub mod Completion
 pub mod Satisfies
+pub mod Compatible
 pub mod Consistent
 pub mod FirstFlaw
 pub use Rattle.partial_orders.specs.Pairs
 pub use Rattle.currency_base.specs.Lists
+pub use Rattle.copy_functions.specs.Copies

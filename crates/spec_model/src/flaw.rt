@@ -1,4 +1,4 @@
-use currency_base::{AttrId, EntId, Pair, RelId, RuleId};
+use currency_base::{AttrId, CopyId, EntId, Pair, RelId, RowId, RuleId};
 use denial_rules::Binding;
 
 /// What a completion that is not consistent fails.
@@ -19,5 +19,14 @@ pub enum Flaw {
     RuleBroken {
         rule: RuleId,
         rows: Binding,
+    },
+    /// A copy function is broken at one of its places, counted from 0, by two rows of one entity of its
+    /// target relation: the first one's source stands before the second one's, and the first does not
+    /// stand before the second.
+    CopyBroken {
+        copy: CopyId,
+        place: u32,
+        first: RowId,
+        second: RowId,
     },
 }

@@ -11,6 +11,7 @@ mod relation;
 mod specification;
 
 pub use completion::{AttributeRankings, Completion, RelationRankings, set_keeps_shape};
+pub use copy_functions::{CopyFault, CopyList, CopyMap, Place, PlaceList};
 pub use denial_rules::{Binding, Rule, RuleList};
 pub use flaw::Flaw;
 pub use partial_orders::Pairs;

@@ -10,12 +10,13 @@ use Rattle.spec_names.specs.declared.names.RelationNames.{RelationNames}
 abbrev pub names_of : Relation → RelationNames
 names_of r = record { attrs = map (λ a. a.name) r.attrs; rows = map (λ row. row.name) r.rows; entities = r.entities }
 
--- the names of a specification's relations, of their parts and of its rules
+-- the names of a specification's relations, of their parts, of its rules and of its copy functions
 abbrev pub all_names_of : Spec → NameLists
 all_names_of s = record {
   relations = map (λ r. r.name) s.relations;
   each = map names_of s.relations;
   rules = map (λ rule. rule.name) s.rules;
+  copies = map (λ copy. copy.name) s.copies;
 }
 
 -- the place of a name in a list of names

@@ -3,7 +3,7 @@ ghost use Rattle.currency_base.specs.Lists.{OnlyOnce};
 
 use currency_base::{Name, NoMemory, Row};
 use name_index::NameIndex;
-use spec_model::{Attr, Relation, Rule};
+use spec_model::{Attr, CopyMap, Relation, Rule};
 use std::alloc::Global;
 
 /// What has a name.
@@ -54,6 +54,14 @@ impl Named for Rule {
 
     fn name(&self) -> &Name {
         &self.name
+    }
+}
+
+impl Named for CopyMap {
+    ghost named = { λ copy. copy.name };
+
+    fn name(&self) -> &Name {
+        CopyMap::name(self)
     }
 }
 

@@ -17,13 +17,14 @@ pub struct RelationNames {
     pub entities: NameIndex,
 }
 
-/// The names of a specification's relations, of the parts of each, and of its rules; the place of a
-/// name is the id of what it names.
+/// The names of a specification's relations, of the parts of each, of its rules and of its copy
+/// functions; the place of a name is the id of what it names.
 #[derive(Drop)]
 pub struct SpecNames {
     relations: NameIndex,
     each: Vec<RelationNames>,
     rules: NameIndex,
+    copies: NameIndex,
 }
 
 impl Model for SpecNames {
@@ -31,7 +32,7 @@ impl Model for SpecNames {
 
     ghost Value = { NameLists };
 
-    ghost view = { λ n. record { relations = n.relations; each = n.each.items; rules = n.rules } };
+    ghost view = { λ n. record { relations = n.relations; each = n.each.items; rules = n.rules; copies = n.copies } };
 }
 
 impl RelationNames {
@@ -56,12 +57,13 @@ impl RelationNames {
 impl SpecNames {
     /// No names.
     pub fn new(alloc: Global) -> SpecNames
-        ensures { result ≡ record { relations = []; each = []; rules = [] } }
+        ensures { result ≡ record { relations = []; each = []; rules = []; copies = [] } }
     {
         SpecNames {
             relations: NameIndex::new(alloc),
             each: Vec::new(alloc),
             rules: NameIndex::new(alloc),
+            copies: NameIndex::new(alloc),
         }
     }
 
@@ -75,10 +77,12 @@ impl SpecNames {
             each.push(RelationNames::of(alloc, relation)?)?;
         }
         let rules = index_of(alloc, spec.rules())?;
+        let copies = index_of(alloc, spec.copies())?;
         Ok(SpecNames {
             relations,
             each,
             rules,
+            copies,
         })
     }
 
@@ -88,6 +92,7 @@ impl SpecNames {
         ensures relations { OnOk result (self.new.relations ≡ self.old.relations ++ name ∷ []) }
         ensures each { OnOk result (self.new.each ≡ self.old.each ++ parts ∷ []) }
         ensures rules { self.new.rules ≡ self.old.rules }
+        ensures copies { self.new.copies ≡ self.old.copies }
     {
         let _ = self.relations.add(name)?;
         self.each.push(parts)?;
@@ -104,6 +109,16 @@ impl SpecNames {
         Ok(())
     }
 
+    /// Adds a copy function after the others. A refusal changes nothing.
+    pub fn add_copy(&mut self, name: Name) -> Result<(), NoMemory>
+        requires { Contains self.old.copies name → ⊥ }
+        ensures ok { OnOk result (self.new ≡ record self.old { copies = self.old.copies ++ name ∷ [] }) }
+        ensures err { OnErr result (self.new ≡ self.old) }
+    {
+        let _ = self.copies.add(name)?;
+        Ok(())
+    }
+
     /// The names of the relations.
     pub fn relations(&self) -> &NameIndex
         ensures { result.now ≡ self.now.relations }
@@ -116,6 +131,13 @@ impl SpecNames {
         ensures { result.now ≡ self.now.rules }
     {
         &self.rules
+    }
+
+    /// The names of the copy functions.
+    pub fn copies(&self) -> &NameIndex
+        ensures { result.now ≡ self.now.copies }
+    {
+        &self.copies
     }
 
     /// The names of the parts of the relation at a place.

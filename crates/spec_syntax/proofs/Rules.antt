@@ -1,28 +1,32 @@
 -- The rules of the grammars are read as they are spelled.
-use Rattle.std.proofs.Common.{◌≡◌, ℕ, Bool, true, false, not, ◌||◌, cond, List, inl, inr, refl, ap, subst, Option, Some, None, codes}
+use Rattle.std.proofs.Common.{◌≡◌, Bool, true, false, not, ◌||◌, cond, List, inl, inr, refl, ap, subst, Option, Some, None, codes}
 use Rattle.text_tokens.specs.Lexeme.{Lexeme}
 use Rattle.text_tokens.specs.declared.token.TokenKind.TheVariants.{Word, Symbol}
 use Rattle.text_grammar.specs.Words.{is_word, is_symbol, named, quoted}
 use Rattle.text_grammar.specs.Grammar.{Language, ◌⋅◌, Says, IsWord, IsSymbol, SpellsName, SpellsString, Maybe, Listed}
-use Rattle.text_grammar.specs.Reading.{one, both, after}
-use Rattle.text_grammar.specs.Laws.{IsReader, IsPlain, Tells, AtFirst, AfterItems}
+use Rattle.text_grammar.specs.Reading.{one, both, after, choose}
+use Rattle.text_grammar.specs.Laws.{IsReader, IsPlain, Tells, AtFirst}
 use Rattle.text_grammar.specs.declared.named.Named.{Named}
 use Rattle.text_grammar.proofs.Readers.{always, Begins, Ended, FirstIs, Image, begins_image, first_then, reads_one, reads_two, reads_then, reads_made, reads_mapped, reads_same}
 use Rattle.text_grammar.proofs.Choices.{Either, maybe_ends, reads_maybe, reads_choose, reads_only}
 use Rattle.text_grammar.proofs.ListReaders.{unless, reads_many_plain}
 use Rattle.text_grammar.proofs.FixedTokens.{a_fixed, a_fixed_is, apart, reads_name, reads_string, reads_symbol, after_word, after_symbol, before_symbol, listed_symbol, begins_fixed}
-use Rattle.text_grammar.proofs.Tellings.{plain_one, plain_passing, plain_both, plain_after, plain_before, plain_mapped, plain_maybe, plain_listed, tells_only, tells_choose, tells_before, tells_mapped, tells_many}
+use Rattle.text_grammar.proofs.Tellings.{plain_one, plain_passing, plain_both, plain_after, plain_before, plain_mapped, plain_maybe, plain_choose, plain_many, plain_listed, tells_only}
+use Rattle.text_grammar.proofs.TextLaws.{tells_never}
 use Rattle.rule_syntax.specs.Grammar.{SpellsRule}
 use Rattle.rule_syntax.proofs.Rules.{begins_rule, plain_rule, reads_rule}
+use Rattle.copy_syntax.specs.Grammar.{SpellsCopy}
+use Rattle.copy_syntax.proofs.Copies.{begins_copy, copy_ends, ends_copy, plain_copy, reads_copy}
 use Rattle.currency_base.specs.declared.value.Kind.TheVariants.{Text, Int}
 use Rattle.spec_syntax.specs.declared.trees.AttrTree.{AttrTree}
 use Rattle.spec_syntax.specs.declared.trees.OrderingTree.{OrderingTree}
 use Rattle.spec_syntax.specs.declared.trees.StatementTree.{StatementTree}
-use Rattle.spec_syntax.specs.declared.trees.StatementTree.TheVariants.{Relation, Order, Rule}
+use Rattle.spec_syntax.specs.declared.trees.StatementTree.TheVariants.{Relation, Order, Orders, Rule, Copy}
 use Rattle.spec_syntax.specs.declared.trees.QuestionTree.{QuestionTree}
 use Rattle.spec_syntax.specs.declared.trees.QuestionTree.TheVariants.{Consistent}
 use Rattle.spec_syntax.specs.Grammar
-use Rattle.spec_syntax.specs.Reading.{attr_at, pair_at, ordering_at, row_at, attrs_at, relation_at, order_at, constraint_at, statement_at, ended_statement_at, spec_at, question_at}
+use Rattle.spec_syntax.specs.Texts.{NeverOpens}
+use Rattle.spec_syntax.specs.Reading.{attr_at, pair_at, ordering_at, ended_ordering_at, row_at, attrs_at, relation_at, order_at, orders_at, constraint_at, copying_at, statement_at, ended_statement_at, spec_at, question_at}
 
 -- ---- attributes
 
@@ -51,6 +55,10 @@ reads_ordering =
     reads_made (reads_two reads_name (after_symbol (codes ".") (reads_two reads_name (after_symbol (codes ":") (listed_symbol (codes ",") reads_pair)))))
     (λ x. record { relation = x.0; attr = x.1.0; pairs = x.1.1 }) (unless (is_symbol (codes ",")))
     (λ a t. refl) (λ x tokens h. h) (λ o tokens h. record { tree = (o.relation, (o.attr, o.pairs)); is = refl; spelled = h })
+
+pub reads_ended_ordering : IsReader Grammar.SpellsEndedOrdering always ended_ordering_at
+unfolding ended_ordering_at
+reads_ended_ordering = before_symbol (codes ";") reads_ordering (λ o t e. ap not (apart Symbol (codes ";") Symbol (codes ",") refl t e))
 
 -- ---- statements
 
@@ -85,11 +93,13 @@ SpellsRelation x =
     IsWord (codes "relation") ⋅ SpellsName x.0 ⋅ IsWord (codes "from") ⋅ SpellsString x.1.0 ⋅ Row x.1.1.0
     ⋅ IsWord (codes "entity") ⋅ SpellsName x.1.1.1.0 ⋅ Attrs x.1.1.1.1
 
--- what ends a statement: any token, but a comma goes on with an order
+-- what ends a statement: any token, but a comma goes on with an order or with the rows of a copy
 abbrev ends_statement : StatementTree → Lexeme → Bool
 ends_statement (Relation name document row entity attrs) t = true
 ends_statement (Order o) t = not (is_symbol (codes ",") t)
+ends_statement (Orders relation document) t = true
 ends_statement (Rule r) t = true
+ends_statement (Copy c) t = ends_copy c t
 
 reads_relation : IsReader (Image relation_of SpellsRelation) ends_statement relation_at
 unfolding relation_at
@@ -116,9 +126,27 @@ reads_order : IsReader (Image Order SpellsOrder) ends_statement order_at
 unfolding order_at
 reads_order = reads_mapped (after_word (codes "order") reads_ordering) Order ends_statement (λ o t. refl)
 
+-- the parts of `orders`: relation and document
+abbrev OrdersParts : Type 0
+OrdersParts = Named × Named
+
+abbrev orders_of : OrdersParts → StatementTree
+orders_of x = Orders x.0 x.1
+
+abbrev SpellsOrders : OrdersParts → Language
+SpellsOrders x = IsWord (codes "orders") ⋅ SpellsName x.0 ⋅ IsWord (codes "from") ⋅ SpellsString x.1
+
+reads_orders : IsReader (Image orders_of SpellsOrders) ends_statement orders_at
+unfolding orders_at
+reads_orders = reads_mapped (after_word (codes "orders") (reads_two reads_name (after_word (codes "from") reads_string))) orders_of ends_statement (λ x t. refl)
+
 reads_constraint : IsReader (Image Rule SpellsRule) ends_statement constraint_at
 unfolding constraint_at
 reads_constraint = reads_mapped reads_rule Rule ends_statement (λ r t. refl)
+
+reads_copying : IsReader (Image Copy SpellsCopy) ends_statement copying_at
+unfolding copying_at
+reads_copying = reads_mapped reads_copy Copy ends_statement (λ c t. refl)
 
 begins_relation : (test : Lexeme → Bool) (b : Bool) → ((t : Lexeme) → is_word (codes "relation") t ≡ true → test t ≡ b) → Begins test b (Image relation_of SpellsRelation)
 begins_relation test b goes = begins_image relation_of SpellsRelation test b
@@ -129,44 +157,93 @@ begins_relation test b goes = begins_image relation_of SpellsRelation test b
 begins_order : (test : Lexeme → Bool) (b : Bool) → ((t : Lexeme) → is_word (codes "order") t ≡ true → test t ≡ b) → Begins test b (Image Order SpellsOrder)
 begins_order test b goes = begins_image Order SpellsOrder test b (begins_fixed Grammar.SpellsOrdering Word (codes "order") test b goes)
 
+begins_orders : (test : Lexeme → Bool) (b : Bool) → ((t : Lexeme) → is_word (codes "orders") t ≡ true → test t ≡ b) → Begins test b (Image orders_of SpellsOrders)
+begins_orders test b goes = begins_image orders_of SpellsOrders test b
+    (begins_fixed (λ (x : OrdersParts). SpellsName x.0 ⋅ IsWord (codes "from") ⋅ SpellsString x.1) Word (codes "orders") test b goes)
+
 begins_constraint : (test : Lexeme → Bool) (b : Bool) → ((t : Lexeme) → is_word (codes "rule") t ≡ true → test t ≡ b) → Begins test b (Image Rule SpellsRule)
 begins_constraint test b goes = begins_image Rule SpellsRule test b (begins_rule test b goes)
 
--- statements other than relations
-abbrev OrderOrRule : StatementTree → Language
-OrderOrRule = Either (Image Order SpellsOrder) (Image Rule SpellsRule)
+begins_copying : (test : Lexeme → Bool) (b : Bool) → ((t : Lexeme) → is_word (codes "copy") t ≡ true → test t ≡ b) → Begins test b (Image Copy SpellsCopy)
+begins_copying test b goes = begins_image Copy SpellsCopy test b (begins_copy test b goes)
 
-begins_order_or_rule : (test : Lexeme → Bool) (b : Bool)
-    → ((t : Lexeme) → is_word (codes "order") t ≡ true → test t ≡ b) → ((t : Lexeme) → is_word (codes "rule") t ≡ true → test t ≡ b) → Begins test b OrderOrRule
-begins_order_or_rule test b goes goes' s tokens (inl h) = begins_order test b goes s tokens h
-begins_order_or_rule test b goes goes' s tokens (inr h) = begins_constraint test b goes' s tokens h
+-- statements from some kind on, in the order in which they are tried
+abbrev FromRule : StatementTree → Language
+FromRule = Either (Image Rule SpellsRule) (Image Copy SpellsCopy)
 
-statement_spelled : (s : StatementTree) (tokens : List Lexeme) → Either (Image relation_of SpellsRelation) OrderOrRule s tokens → Grammar.SpellsStatement s tokens
+abbrev FromOrders : StatementTree → Language
+FromOrders = Either (Image orders_of SpellsOrders) FromRule
+
+abbrev FromOrder : StatementTree → Language
+FromOrder = Either (Image Order SpellsOrder) FromOrders
+
+abbrev FromRelation : StatementTree → Language
+FromRelation = Either (Image relation_of SpellsRelation) FromOrder
+
+-- what a test answers at their first words
+begins_from_rule : (test : Lexeme → Bool) (b : Bool)
+    → ((t : Lexeme) → is_word (codes "rule") t ≡ true → test t ≡ b) → ((t : Lexeme) → is_word (codes "copy") t ≡ true → test t ≡ b) → Begins test b FromRule
+begins_from_rule test b rule copy s tokens (inl h) = begins_constraint test b rule s tokens h
+begins_from_rule test b rule copy s tokens (inr h) = begins_copying test b copy s tokens h
+
+begins_from_orders : (test : Lexeme → Bool) (b : Bool) → ((t : Lexeme) → is_word (codes "orders") t ≡ true → test t ≡ b) → Begins test b FromRule → Begins test b FromOrders
+begins_from_orders test b orders others s tokens (inl h) = begins_orders test b orders s tokens h
+begins_from_orders test b orders others s tokens (inr h) = others s tokens h
+
+begins_from_order : (test : Lexeme → Bool) (b : Bool) → ((t : Lexeme) → is_word (codes "order") t ≡ true → test t ≡ b) → Begins test b FromOrders → Begins test b FromOrder
+begins_from_order test b order others s tokens (inl h) = begins_order test b order s tokens h
+begins_from_order test b order others s tokens (inr h) = others s tokens h
+
+statement_spelled : (s : StatementTree) (tokens : List Lexeme) → FromRelation s tokens → Grammar.SpellsStatement s tokens
 statement_spelled s tokens (inl h) = subst (λ (s : StatementTree). Grammar.SpellsStatement s tokens) h.is h.spelled
 statement_spelled s tokens (inr (inl h)) = subst (λ (s : StatementTree). Grammar.SpellsStatement s tokens) h.is h.spelled
-statement_spelled s tokens (inr (inr h)) = subst (λ (s : StatementTree). Grammar.SpellsStatement s tokens) h.is h.spelled
+statement_spelled s tokens (inr (inr (inl h))) = subst (λ (s : StatementTree). Grammar.SpellsStatement s tokens) h.is h.spelled
+statement_spelled s tokens (inr (inr (inr (inl h)))) = subst (λ (s : StatementTree). Grammar.SpellsStatement s tokens) h.is h.spelled
+statement_spelled s tokens (inr (inr (inr (inr h)))) = subst (λ (s : StatementTree). Grammar.SpellsStatement s tokens) h.is h.spelled
 
-spelled_statement : (s : StatementTree) (tokens : List Lexeme) → Grammar.SpellsStatement s tokens → Either (Image relation_of SpellsRelation) OrderOrRule s tokens
+spelled_statement : (s : StatementTree) (tokens : List Lexeme) → Grammar.SpellsStatement s tokens → FromRelation s tokens
 spelled_statement (Relation name document row entity attrs) tokens h = inl (record { tree = (name, (document, (row, (entity, attrs)))); is = refl; spelled = h })
 spelled_statement (Order o) tokens h = inr (inl (record { tree = o; is = refl; spelled = h }))
-spelled_statement (Rule r) tokens h = inr (inr (record { tree = r; is = refl; spelled = h }))
+spelled_statement (Orders relation document) tokens h = inr (inr (inl (record { tree = (relation, document); is = refl; spelled = h })))
+spelled_statement (Rule r) tokens h = inr (inr (inr (inl (record { tree = r; is = refl; spelled = h }))))
+spelled_statement (Copy c) tokens h = inr (inr (inr (inr (record { tree = c; is = refl; spelled = h }))))
+
+reads_from_rule : IsReader FromRule ends_statement (choose (is_word (codes "rule")) constraint_at copying_at)
+reads_from_rule = reads_choose reads_constraint reads_copying (is_word (codes "rule"))
+    (begins_constraint (is_word (codes "rule")) true (λ t e. e))
+    (begins_copying (is_word (codes "rule")) false (apart Word (codes "copy") Word (codes "rule") refl))
+
+reads_from_orders : IsReader FromOrders ends_statement (choose (is_word (codes "orders")) orders_at (choose (is_word (codes "rule")) constraint_at copying_at))
+reads_from_orders = reads_choose reads_orders reads_from_rule (is_word (codes "orders"))
+    (begins_orders (is_word (codes "orders")) true (λ t e. e))
+    (begins_from_rule (is_word (codes "orders")) false
+    (apart Word (codes "rule") Word (codes "orders") refl) (apart Word (codes "copy") Word (codes "orders") refl))
+
+reads_from_order : IsReader FromOrder ends_statement
+    (choose (is_word (codes "order")) order_at (choose (is_word (codes "orders")) orders_at (choose (is_word (codes "rule")) constraint_at copying_at)))
+reads_from_order = reads_choose reads_order reads_from_orders (is_word (codes "order"))
+    (begins_order (is_word (codes "order")) true (λ t e. e))
+    (begins_from_orders (is_word (codes "order")) false (apart Word (codes "orders") Word (codes "order") refl)
+    (begins_from_rule (is_word (codes "order")) false
+    (apart Word (codes "rule") Word (codes "order") refl) (apart Word (codes "copy") Word (codes "order") refl)))
 
 pub reads_statement : IsReader Grammar.SpellsStatement ends_statement statement_at
 unfolding statement_at
 reads_statement = reads_same
-    (reads_choose reads_relation
-    (reads_choose reads_order
-    (reads_only reads_constraint (is_word (codes "rule")) Grammar.is_unbuilt_statement (begins_constraint (is_word (codes "rule")) true (λ t e. e)))
-    (is_word (codes "order")) (begins_order (is_word (codes "order")) true (λ t e. e))
-    (begins_constraint (is_word (codes "order")) false (apart Word (codes "rule") Word (codes "order") refl)))
-    (is_word (codes "relation")) (begins_relation (is_word (codes "relation")) true (λ t e. e))
-    (begins_order_or_rule (is_word (codes "relation")) false (apart Word (codes "order") Word (codes "relation") refl) (apart Word (codes "rule") Word (codes "relation") refl)))
+    (reads_choose reads_relation reads_from_order (is_word (codes "relation"))
+    (begins_relation (is_word (codes "relation")) true (λ t e. e))
+    (begins_from_order (is_word (codes "relation")) false (apart Word (codes "order") Word (codes "relation") refl)
+    (begins_from_orders (is_word (codes "relation")) false (apart Word (codes "orders") Word (codes "relation") refl)
+    (begins_from_rule (is_word (codes "relation")) false
+    (apart Word (codes "rule") Word (codes "relation") refl) (apart Word (codes "copy") Word (codes "relation") refl)))))
     statement_spelled spelled_statement
 
 ends_at_semicolon : Ended ends_statement (is_symbol (codes ";"))
 ends_at_semicolon (Relation name document row entity attrs) t e = refl
 ends_at_semicolon (Order o) t e = ap not (apart Symbol (codes ";") Symbol (codes ",") refl t e)
+ends_at_semicolon (Orders relation document) t e = refl
 ends_at_semicolon (Rule r) t e = refl
+ends_at_semicolon (Copy c) t e = copy_ends c t e
 
 pub reads_ended_statement : IsReader Grammar.SpellsEndedStatement always ended_statement_at
 unfolding ended_statement_at
@@ -180,7 +257,7 @@ begins_ended_statement s tokens h = first_then (λ t. true) true (statement_begi
     statement_begins : (s : StatementTree) (front : List Lexeme) → Grammar.SpellsStatement s front → FirstIs (λ t. true) true front
     statement_begins s front h = elim (spelled_statement s front h) [
       | inl h ↦ begins_relation (λ t. true) true (λ t e. refl) s front h
-      | inr h ↦ begins_order_or_rule (λ t. true) true (λ t e. refl) (λ t e. refl) s front h
+      | inr h ↦ begins_from_order (λ t. true) true (λ t e. refl) (begins_from_orders (λ t. true) true (λ t e. refl) (begins_from_rule (λ t. true) true (λ t e. refl) (λ t e. refl))) s front h
     ]
 
 pub reads_spec : IsReader Grammar.SpellsSpec (unless (λ t. true)) spec_at
@@ -215,15 +292,6 @@ one_of_three true b c d e f g h = f refl
 one_of_three false true c d e f g h = g refl
 one_of_three false false c d e f g h = h e
 
-one_of_two : (a b c : Bool) → a || b ≡ true → (a ≡ true → c ≡ false) → (b ≡ true → c ≡ false) → c ≡ false
-one_of_two true b c e f g = f refl
-one_of_two false b c e f g = g e
-
-unbuilt_statement_apart : (text : List ℕ) (t : Lexeme)
-    → (is_word (codes "orders") t ≡ true → is_word text t ≡ false) → (is_word (codes "copy") t ≡ true → is_word text t ≡ false)
-    → Grammar.is_unbuilt_statement t ≡ true → is_word text t ≡ false
-unbuilt_statement_apart text t f g e = one_of_two (is_word (codes "orders") t) (is_word (codes "copy") t) (is_word text t) e f g
-
 plain_attr : IsPlain attr_at
 unfolding attr_at
 plain_attr = plain_mapped (λ x. record { name = x.0; kind = x.1 }) (plain_both (plain_one named) (plain_after (is_symbol (codes ":")) (plain_one Grammar.kind_named)))
@@ -255,27 +323,42 @@ plain_order : IsPlain order_at
 unfolding order_at
 plain_order = plain_mapped Order (plain_after (is_word (codes "order")) plain_ordering)
 
+plain_orders : IsPlain orders_at
+unfolding orders_at
+plain_orders = plain_mapped orders_of (plain_after (is_word (codes "orders")) (plain_both (plain_one named) (plain_after (is_word (codes "from")) (plain_one quoted))))
+
 plain_constraint : IsPlain constraint_at
 unfolding constraint_at
 plain_constraint = plain_mapped Rule plain_rule
 
-tells_statement : Tells (AtFirst Grammar.is_unbuilt_statement) statement_at
+plain_copying : IsPlain copying_at
+unfolding copying_at
+plain_copying = plain_mapped Copy plain_copy
+
+plain_statement : IsPlain statement_at
 unfolding statement_at
-tells_statement = tells_choose (is_word (codes "relation")) Grammar.is_unbuilt_statement plain_relation
-    (tells_choose (is_word (codes "order")) Grammar.is_unbuilt_statement plain_order
-    (tells_only (is_word (codes "rule")) Grammar.is_unbuilt_statement plain_constraint
-    (λ t. unbuilt_statement_apart (codes "rule") t (apart Word (codes "orders") Word (codes "rule") refl t) (apart Word (codes "copy") Word (codes "rule") refl t)))
-    (λ t. unbuilt_statement_apart (codes "order") t (apart Word (codes "orders") Word (codes "order") refl t) (apart Word (codes "copy") Word (codes "order") refl t)))
-    (λ t. unbuilt_statement_apart (codes "relation") t (apart Word (codes "orders") Word (codes "relation") refl t) (apart Word (codes "copy") Word (codes "relation") refl t))
+plain_statement = plain_choose (is_word (codes "relation")) plain_relation
+    (plain_choose (is_word (codes "order")) plain_order
+    (plain_choose (is_word (codes "orders")) plain_orders
+    (plain_choose (is_word (codes "rule")) plain_constraint plain_copying)))
 
-tells_ended_statement : Tells (AtFirst Grammar.is_unbuilt_statement) ended_statement_at
+plain_ended_statement : IsPlain ended_statement_at
 unfolding ended_statement_at
-tells_ended_statement = tells_before (AtFirst Grammar.is_unbuilt_statement) (is_symbol (codes ";")) tells_statement
+plain_ended_statement = plain_before (is_symbol (codes ";")) plain_statement
 
-pub tells_spec : Tells (AfterItems Grammar.SpellsEndedStatement Grammar.is_unbuilt_statement) spec_at
+plain_spec : IsPlain spec_at
 unfolding spec_at
-tells_spec = tells_mapped (AfterItems Grammar.SpellsEndedStatement Grammar.is_unbuilt_statement) (λ s. record { statements = s })
-    (tells_many reads_ended_statement (λ t. true) Grammar.is_unbuilt_statement begins_ended_statement tells_ended_statement (λ t e. refl))
+plain_spec = plain_mapped (λ s. record { statements = s }) (plain_many (λ t. true) plain_ended_statement)
+
+pub tells_spec : Tells NeverOpens spec_at
+tells_spec = tells_never plain_spec
+
+plain_ended_ordering : IsPlain ended_ordering_at
+unfolding ended_ordering_at
+plain_ended_ordering = plain_before (is_symbol (codes ";")) plain_ordering
+
+pub tells_ordering : Tells NeverOpens ended_ordering_at
+tells_ordering = tells_never plain_ended_ordering
 
 pub tells_question : Tells (AtFirst Grammar.is_unbuilt_question) question_at
 unfolding question_at

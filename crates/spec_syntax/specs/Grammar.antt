@@ -1,16 +1,17 @@
--- The grammars of specifications and questions.
+-- The grammars of specifications, orderings and questions.
 use Rattle.std.specs.Prelude.{Bool, ◌||◌, if◌then◌else◌, Option, Some, None, codes}
 use Rattle.text_tokens.specs.Lexeme.{Lexeme}
 use Rattle.text_grammar.specs.Words.{is_word}
 use Rattle.text_grammar.specs.Grammar.{Language, ◌⋅◌, Says, IsWord, IsSymbol, SpellsName, SpellsString, Maybe, Many, Listed}
 use Rattle.text_grammar.specs.declared.named.NamedPair.{NamedPair}
 use Rattle.rule_syntax.specs.Grammar.{SpellsRule}
+use Rattle.copy_syntax.specs.Grammar.{SpellsCopy}
 use Rattle.currency_base.specs.declared.value.Kind.{Kind}
 use Rattle.currency_base.specs.declared.value.Kind.TheVariants.{Text, Int}
 use Rattle.spec_syntax.specs.declared.trees.AttrTree.{AttrTree}
 use Rattle.spec_syntax.specs.declared.trees.OrderingTree.{OrderingTree}
 use Rattle.spec_syntax.specs.declared.trees.StatementTree.{StatementTree}
-use Rattle.spec_syntax.specs.declared.trees.StatementTree.TheVariants.{Relation, Order, Rule}
+use Rattle.spec_syntax.specs.declared.trees.StatementTree.TheVariants.{Relation, Order, Orders, Rule, Copy}
 use Rattle.spec_syntax.specs.declared.trees.SpecTree.{SpecTree}
 use Rattle.spec_syntax.specs.declared.trees.QuestionTree.{QuestionTree}
 use Rattle.spec_syntax.specs.declared.trees.QuestionTree.TheVariants.{Consistent}
@@ -34,9 +35,15 @@ abbrev pub SpellsOrdering : OrderingTree → Language
 SpellsOrdering o =
     SpellsName o.relation ⋅ IsSymbol (codes ".") ⋅ SpellsName o.attr ⋅ IsSymbol (codes ":") ⋅ Listed (IsSymbol (codes ",")) SpellsPair o.pairs
 
+-- ordering ";"
+abbrev pub SpellsEndedOrdering : OrderingTree → Language
+SpellsEndedOrdering o = SpellsOrdering o ⋅ IsSymbol (codes ";")
+
 -- statement = "relation" name "from" string [ "row" name ] "entity" name "(" attr { "," attr } ")"
 --           | "order" ordering
+--           | "orders" name "from" string
 --           | rule
+--           | copy
 abbrev pub SpellsStatement : StatementTree → Language
 SpellsStatement (Relation name document row entity attrs) =
     IsWord (codes "relation") ⋅ SpellsName name ⋅ IsWord (codes "from") ⋅ SpellsString document
@@ -44,7 +51,9 @@ SpellsStatement (Relation name document row entity attrs) =
     ⋅ IsWord (codes "entity") ⋅ SpellsName entity
     ⋅ IsSymbol (codes "(") ⋅ Listed (IsSymbol (codes ",")) SpellsAttr attrs ⋅ IsSymbol (codes ")")
 SpellsStatement (Order ordering) = IsWord (codes "order") ⋅ SpellsOrdering ordering
+SpellsStatement (Orders relation document) = IsWord (codes "orders") ⋅ SpellsName relation ⋅ IsWord (codes "from") ⋅ SpellsString document
 SpellsStatement (Rule rule) = SpellsRule rule
+SpellsStatement (Copy copy) = SpellsCopy copy
 
 -- statement ";"
 abbrev pub SpellsEndedStatement : StatementTree → Language
@@ -53,10 +62,6 @@ SpellsEndedStatement s = SpellsStatement s ⋅ IsSymbol (codes ";")
 -- spec = { statement ";" }
 abbrev pub SpellsSpec : SpecTree → Language
 SpellsSpec spec = Many SpellsEndedStatement spec.statements
-
--- the words of the statements that aren't built: orders and copies
-abbrev pub is_unbuilt_statement : Lexeme → Bool
-is_unbuilt_statement t = is_word (codes "orders") t || is_word (codes "copy") t
 
 -- ---- questions
 

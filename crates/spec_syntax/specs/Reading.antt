@@ -5,14 +5,15 @@ use Rattle.text_grammar.specs.Reading.{Parser, one, passing, both, after, before
 use Rattle.text_grammar.specs.declared.named.Named.{Named}
 use Rattle.text_grammar.specs.declared.named.NamedPair.{NamedPair}
 use Rattle.rule_syntax.specs.Reading.{rule_at}
+use Rattle.copy_syntax.specs.Reading.{copy_at}
 use Rattle.spec_syntax.specs.declared.trees.AttrTree.{AttrTree}
 use Rattle.spec_syntax.specs.declared.trees.OrderingTree.{OrderingTree}
 use Rattle.spec_syntax.specs.declared.trees.StatementTree.{StatementTree}
-use Rattle.spec_syntax.specs.declared.trees.StatementTree.TheVariants.{Relation, Order, Rule}
+use Rattle.spec_syntax.specs.declared.trees.StatementTree.TheVariants.{Relation, Order, Orders, Rule, Copy}
 use Rattle.spec_syntax.specs.declared.trees.SpecTree.{SpecTree}
 use Rattle.spec_syntax.specs.declared.trees.QuestionTree.{QuestionTree}
 use Rattle.spec_syntax.specs.declared.trees.QuestionTree.TheVariants.{Consistent}
-use Rattle.spec_syntax.specs.Grammar.{kind_named, is_unbuilt_statement, is_unbuilt_question}
+use Rattle.spec_syntax.specs.Grammar.{kind_named, is_unbuilt_question}
 
 unfoldable pub attr_at : Parser AttrTree
 attr_at = mapped (λ x. record { name = x.0; kind = x.1 }) (both (one named) (after (is_symbol (codes ":")) (one kind_named)))
@@ -24,6 +25,9 @@ unfoldable pub ordering_at : Parser OrderingTree
 ordering_at =
     mapped (λ x. record { relation = x.0; attr = x.1.0; pairs = x.1.1 })
     (both (one named) (after (is_symbol (codes ".")) (both (one named) (after (is_symbol (codes ":")) (listed (is_symbol (codes ",")) pair_at)))))
+
+unfoldable pub ended_ordering_at : Parser OrderingTree
+ended_ordering_at = before ordering_at (is_symbol (codes ";"))
 
 unfoldable pub row_at : Parser (Option Named)
 row_at = maybe (is_word (codes "row")) (after (is_word (codes "row")) (one named))
@@ -43,15 +47,23 @@ relation_at =
 unfoldable pub order_at : Parser StatementTree
 order_at = mapped (λ o. Order o) (after (is_word (codes "order")) ordering_at)
 
+unfoldable pub orders_at : Parser StatementTree
+orders_at = mapped (λ x. Orders x.0 x.1) (after (is_word (codes "orders")) (both (one named) (after (is_word (codes "from")) (one quoted))))
+
 -- a rule as a statement
 unfoldable pub constraint_at : Parser StatementTree
 constraint_at = mapped (λ r. Rule r) rule_at
+
+-- a copy as a statement
+unfoldable pub copying_at : Parser StatementTree
+copying_at = mapped (λ c. Copy c) copy_at
 
 unfoldable pub statement_at : Parser StatementTree
 statement_at =
     choose (is_word (codes "relation")) relation_at
     (choose (is_word (codes "order")) order_at
-    (only (is_word (codes "rule")) is_unbuilt_statement constraint_at))
+    (choose (is_word (codes "orders")) orders_at
+    (choose (is_word (codes "rule")) constraint_at copying_at)))
 
 unfoldable pub ended_statement_at : Parser StatementTree
 ended_statement_at = before statement_at (is_symbol (codes ";"))

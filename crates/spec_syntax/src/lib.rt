@@ -1,4 +1,4 @@
-//! The languages of specifications and questions: their trees, and the reading of their texts.
+//! The languages of specifications, orderings and questions: their trees, and the reading of their texts.
 #![tactic(auto)]
 
 mod attr;
@@ -12,8 +12,9 @@ mod statement;
 mod tests;
 mod trees;
 
-pub use laws::{one_question, one_specification};
-pub use read::{read_question, read_spec};
+pub use copy_syntax::{CopyTree, Mappings};
+pub use laws::{one_ordering, one_question, one_specification};
+pub use read::{read_ordering, read_question, read_spec};
 pub use rule_syntax::{
     ConclusionTree, OrderAtomTree, PredicateTree, PredicateTreeList, RuleTree, TermTree,
 };

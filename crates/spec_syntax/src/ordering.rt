@@ -34,6 +34,27 @@ impl Rule for OrderingRule {
     }
 }
 
+/// An ordering and the semicolon that ends it.
+pub enum EndedOrderingRule {}
+
+impl Rule for EndedOrderingRule {
+    ghost use Rattle.spec_syntax.specs.Reading.{ended_ordering_at};
+
+    type Tree = OrderingTree;
+
+    ghost reader = { ended_ordering_at };
+
+    #[tactic(auto, unfolding(crate::specs::Reading::ended_ordering_at))]
+    fn read<'a>(
+        alloc: Global,
+        tokens: &'a [Token<'a>],
+    ) -> Result<(OrderingTree, &'a [Token<'a>]), Refusal<'a>> {
+        let (ordering, rest) = OrderingRule::read(alloc, tokens)?;
+        let rest = symbol(b";", rest)?;
+        Ok((ordering, rest))
+    }
+}
+
 /// An earlier row and a later one.
 enum PairRule {}
 

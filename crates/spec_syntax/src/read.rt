@@ -1,9 +1,10 @@
 ghost use Rattle.std.specs.Prelude.{◌≡◌, ◌⊎◌, IfOk, IfErr};
-ghost use Rattle.spec_syntax.specs.Texts.{ReadsSpec, ReadsQuestion, RefusesSpec, RefusesQuestion};
+ghost use Rattle.spec_syntax.specs.Texts.{ReadsSpec, ReadsOrdering, ReadsQuestion, RefusesSpec, RefusesOrdering, RefusesQuestion};
 
+use crate::ordering::EndedOrderingRule;
 use crate::question::QuestionRule;
 use crate::statement::SpecRule;
-use crate::{QuestionTree, SpecTree, TextFault};
+use crate::{OrderingTree, QuestionTree, SpecTree, TextFault};
 use std::alloc::Global;
 use text_grammar::read_text;
 
@@ -11,8 +12,7 @@ use text_grammar::read_text;
 ///
 /// NotUtf8 comes where the text is not UTF-8, at the line of the first wrong byte. Syntax comes at the line
 /// of the first token with which no specification goes on, or where the text ends too early at the line of
-/// its end. In its place Unbuilt comes where that token is the word of a statement that is not built yet
-/// (`orders`, `copy`) and stands where a statement may begin.
+/// its end. Unbuilt never comes.
 pub fn read_spec(alloc: Global, source: &[u8]) -> Result<SpecTree, TextFault>
     ensures read { IfOk result (λ tree. ReadsSpec source.now tree) }
     ensures refused { IfErr result (λ e. (e ≡ TextFault.NoMemory) ⊎ RefusesSpec source.now e) }
@@ -20,10 +20,20 @@ pub fn read_spec(alloc: Global, source: &[u8]) -> Result<SpecTree, TextFault>
     read_text::<SpecRule>(alloc, source)
 }
 
+/// Reads an ordering: an `order` statement without its word, and the semicolon that ends it.
+///
+/// The faults are those of [`read_spec`].
+pub fn read_ordering(alloc: Global, source: &[u8]) -> Result<OrderingTree, TextFault>
+    ensures read { IfOk result (λ tree. ReadsOrdering source.now tree) }
+    ensures refused { IfErr result (λ e. (e ≡ TextFault.NoMemory) ⊎ RefusesOrdering source.now e) }
+{
+    read_text::<EndedOrderingRule>(alloc, source)
+}
+
 /// Reads a question.
 ///
-/// The faults are those of [`read_spec`]. Unbuilt comes where the text begins with the word of a question
-/// that is not built yet (`certain`, `same`, `answers`).
+/// The faults are those of [`read_spec`]. In the place of Syntax, Unbuilt comes where the text begins with
+/// the word of a question that is not built yet (`certain`, `same`, `answers`).
 pub fn read_question(alloc: Global, source: &[u8]) -> Result<QuestionTree, TextFault>
     ensures read { IfOk result (λ tree. ReadsQuestion source.now tree) }
     ensures refused { IfErr result (λ e. (e ≡ TextFault.NoMemory) ⊎ RefusesQuestion source.now e) }

@@ -1,13 +1,13 @@
 ghost use Rattle.std.specs.Prelude.{◌≡◌, ℕ, List, map, true};
 ghost use Rattle.text_tokens.specs.Lexeme.{lexeme_of};
-ghost use Rattle.spec_syntax.specs.Grammar;
 
 use crate::ordering::OrderingRule;
 use crate::relation::RelationRule;
 use crate::{SpecTree, StatementTree};
+use copy_syntax::CopyRule;
 use rule_syntax::RuleRule;
 use std::alloc::Global;
-use text_grammar::{Refusal, Repeats, Rule, is_fixed, many, symbol, word};
+use text_grammar::{Refusal, Repeats, Rule, is_fixed, many, name, string, symbol, word};
 use text_tokens::{Token, TokenKind};
 
 /// A specification: statements to the end of the text.
@@ -75,29 +75,22 @@ impl Rule for StatementRule {
         tokens: &'a [Token<'a>],
     ) -> Result<(StatementTree, &'a [Token<'a>]), Refusal<'a>> {
         match tokens {
-            [] => Err(Refusal::Syntax(tokens)),
+            [] => CopyingRule::read(alloc, tokens),
             [first, ..] => {
                 if is_fixed(TokenKind::Word, b"relation", first) {
                     RelationRule::read(alloc, tokens)
                 } else if is_fixed(TokenKind::Word, b"order", first) {
                     OrderRule::read(alloc, tokens)
+                } else if is_fixed(TokenKind::Word, b"orders", first) {
+                    OrdersRule::read(alloc, tokens)
                 } else if is_fixed(TokenKind::Word, b"rule", first) {
                     ConstraintRule::read(alloc, tokens)
-                } else if is_unbuilt(first) {
-                    Err(Refusal::Unbuilt(tokens))
                 } else {
-                    Err(Refusal::Syntax(tokens))
+                    CopyingRule::read(alloc, tokens)
                 }
             }
         }
     }
-}
-
-/// Is this the word of a statement that is not built yet?
-fn is_unbuilt(token: &Token) -> bool
-    ensures { result ≡ Grammar.is_unbuilt_statement (lexeme_of token.now) }
-{
-    is_fixed(TokenKind::Word, b"orders", token) || is_fixed(TokenKind::Word, b"copy", token)
 }
 
 /// Given pairs of rows, from the word `order` on.
@@ -121,6 +114,29 @@ impl Rule for OrderRule {
     }
 }
 
+/// Given pairs of rows that a document lists, from the word `orders` on.
+enum OrdersRule {}
+
+impl Rule for OrdersRule {
+    ghost use Rattle.spec_syntax.specs.Reading.{orders_at};
+
+    type Tree = StatementTree;
+
+    ghost reader = { orders_at };
+
+    #[tactic(auto, unfolding(crate::specs::Reading::orders_at))]
+    fn read<'a>(
+        alloc: Global,
+        tokens: &'a [Token<'a>],
+    ) -> Result<(StatementTree, &'a [Token<'a>]), Refusal<'a>> {
+        let rest = word(b"orders", tokens)?;
+        let (relation, rest) = name(alloc, rest)?;
+        let rest = word(b"from", rest)?;
+        let (document, rest) = string(alloc, rest)?;
+        Ok((StatementTree::Orders { relation, document }, rest))
+    }
+}
+
 /// A denial constraint, from the word `rule` on.
 enum ConstraintRule {}
 
@@ -138,5 +154,25 @@ impl Rule for ConstraintRule {
     ) -> Result<(StatementTree, &'a [Token<'a>]), Refusal<'a>> {
         let (rule, rest) = RuleRule::read(alloc, tokens)?;
         Ok((StatementTree::Rule(rule), rest))
+    }
+}
+
+/// A copy, from the word `copy` on.
+enum CopyingRule {}
+
+impl Rule for CopyingRule {
+    ghost use Rattle.spec_syntax.specs.Reading.{copying_at};
+
+    type Tree = StatementTree;
+
+    ghost reader = { copying_at };
+
+    #[tactic(auto, unfolding(crate::specs::Reading::copying_at))]
+    fn read<'a>(
+        alloc: Global,
+        tokens: &'a [Token<'a>],
+    ) -> Result<(StatementTree, &'a [Token<'a>]), Refusal<'a>> {
+        let (copy, rest) = CopyRule::read(alloc, tokens)?;
+        Ok((StatementTree::Copy(copy), rest))
     }
 }

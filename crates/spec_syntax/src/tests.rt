@@ -1,8 +1,9 @@
 use crate::TextFault::{NotUtf8, Syntax, Unbuilt};
 use crate::{
-    AttrTree, AttrTreeList, ConclusionTree, Const, Named, NamedList, NamedPair, NamedPairList,
-    OrderAtomTree, OrderingTree, PredicateTree, PredicateTreeList, QuestionTree, RuleTree,
-    SpecTree, StatementTree, StatementTreeList, TermTree, TextFault, read_question, read_spec,
+    AttrTree, AttrTreeList, ConclusionTree, Const, CopyTree, Mappings, Named, NamedList, NamedPair,
+    NamedPairList, OrderAtomTree, OrderingTree, PredicateTree, PredicateTreeList, QuestionTree,
+    RuleTree, SpecTree, StatementTree, StatementTreeList, TermTree, TextFault, read_ordering,
+    read_question, read_spec,
 };
 use currency_base::{Cmp, Kind, Name, NoMemory, Value};
 use std::alloc::Global;
@@ -202,7 +203,7 @@ fn reads_words_of_rules_as_variables(rt: HostRuntime) -> Result<(), Fail> {
 
 #[test]
 fn refuses_rules(rt: HostRuntime) {
-    let rows: [(&[u8], TextFault); 22] = [
+    let rows: [(&[u8], TextFault); 21] = [
         (b"rule n on R (s,\n_): false;", Syntax { line: 2 }),
         (b"rule n on R (s,\n1): false;", Syntax { line: 2 }),
         (b"rule n on R (s,\nif): false;", Syntax { line: 2 }),
@@ -242,10 +243,6 @@ fn refuses_rules(rt: HostRuntime) {
             Syntax { line: 2 },
         ),
         (b"rule n on R (s): false\n", Syntax { line: 2 }),
-        (
-            b"rule n on R (s): false;\norders R from \"o.csv\";",
-            Unbuilt { line: 2 },
-        ),
     ];
     for (source, wanted) in rows {
         assert_eq!(rt;
@@ -265,16 +262,11 @@ fn reads_an_empty_text_as_no_statement(rt: HostRuntime) -> Result<(), Fail> {
 
 #[test]
 fn refuses_specifications(rt: HostRuntime) {
-    let rows: [(&[u8], TextFault); 22] = [
+    let rows: [(&[u8], TextFault); 20] = [
         (b"order R.a: x < y;\norder R.a r1 < r2;", Syntax { line: 2 }),
         (
             b"order R.a: x < y;\nrule n on R (s, t): ..",
             Syntax { line: 2 },
-        ),
-        (b"orders R from \"o.csv\";", Unbuilt { line: 1 }),
-        (
-            b"\n\ncopy c into R (a) from S (a) using \"c.csv\";",
-            Unbuilt { line: 3 },
         ),
         (b"order R.a: x < y\nrule", Syntax { line: 2 }),
         (b"order R.a: x < y", Syntax { line: 1 }),
@@ -308,6 +300,150 @@ fn refuses_specifications(rt: HostRuntime) {
             "{source:?}"
         );
     }
+}
+
+fn copy_of(
+    alloc: Global,
+    target_attrs: NamedList,
+    source_attrs: NamedList,
+    mappings: Mappings,
+) -> Result<CopyTree, NoMemory> {
+    Ok(CopyTree {
+        name: named(alloc, "c d", 1)?,
+        target: named(alloc, "T", 1)?,
+        target_attrs,
+        source: named(alloc, "S", 1)?,
+        source_attrs,
+        mappings,
+    })
+}
+
+#[test]
+fn reads_copies(rt: HostRuntime) -> Result<(), Fail> {
+    let alloc = rt.alloc();
+    let mut target_attrs = NamedList::new(alloc);
+    target_attrs.push(named(alloc, "a", 1)?)?;
+    target_attrs.push(named(alloc, "from", 1)?)?;
+    let mut source_attrs = NamedList::new(alloc);
+    source_attrs.push(named(alloc, "x", 1)?)?;
+    let mut pairs = NamedPairList::new(alloc);
+    pairs.push(pair(alloc, "from", "s1", 2)?)?;
+    pairs.push(pair(alloc, "t2", "from", 3)?)?;
+    let copy = copy_of(alloc, target_attrs, source_attrs, Mappings::Inline(pairs))?;
+    let found = read_spec(
+        alloc,
+        b"copy \"c d\" into T (a, from) from S (x):\nfrom from s1,\nt2 from from;",
+    )?;
+    assert_eq!(rt; found, spec_of(alloc, StatementTree::Copy(copy))?);
+    Ok(())
+}
+
+#[test]
+fn reads_documents_of_copies_and_orders(rt: HostRuntime) -> Result<(), Fail> {
+    let alloc = rt.alloc();
+    let mut target_attrs = NamedList::new(alloc);
+    target_attrs.push(named(alloc, "a", 1)?)?;
+    let mut source_attrs = NamedList::new(alloc);
+    source_attrs.push(named(alloc, "x", 1)?)?;
+    let table = Mappings::Table(named(alloc, "c.csv", 2)?);
+    let copy = copy_of(alloc, target_attrs, source_attrs, table)?;
+    let mut wanted = spec_of(alloc, StatementTree::Copy(copy))?;
+    wanted.statements.push(StatementTree::Orders {
+        relation: named(alloc, "R", 3)?,
+        document: named(alloc, "", 3)?,
+    })?;
+    let found = read_spec(
+        alloc,
+        b"copy \"c d\" into T (a) from S (x)\nusing \"c.csv\";\norders R from \"\";",
+    )?;
+    assert_eq!(rt; found, wanted);
+    Ok(())
+}
+
+#[test]
+fn refuses_copies_and_orders(rt: HostRuntime) {
+    let rows: [(&[u8], TextFault); 16] = [
+        (
+            b"copy\ninto T (a) into S (a) using \"c\";",
+            Syntax { line: 2 },
+        ),
+        (
+            b"copy c into R (\n) from S (a) using \"c\";",
+            Syntax { line: 2 },
+        ),
+        (
+            b"copy c into R\nfrom S (a) using \"c\";",
+            Syntax { line: 2 },
+        ),
+        (b"copy c into R (a)\nS (a) using \"c\";", Syntax { line: 2 }),
+        (
+            b"copy c into R (a) from S\nusing \"c\";",
+            Syntax { line: 2 },
+        ),
+        (b"copy c into R (a) from S (a)\n;", Syntax { line: 2 }),
+        (
+            b"copy c into R (a) from S (a)\nt1 from s1;",
+            Syntax { line: 2 },
+        ),
+        (
+            b"copy c into R (a) from S (a) using\nc;",
+            Syntax { line: 2 },
+        ),
+        (b"copy c into R (a) from S (a): t1\ns1;", Syntax { line: 2 }),
+        (b"copy c into R (a) from S (a):\n;", Syntax { line: 2 }),
+        (
+            b"copy c into R (a) from S (a): t1 from s1,\n;",
+            Syntax { line: 2 },
+        ),
+        (
+            b"copy c into R (a) from S (a): t1 from s1\nusing \"c\";",
+            Syntax { line: 2 },
+        ),
+        (
+            b"copy c into R (a) from S (a) using \"c\"\n: t1 from s1;",
+            Syntax { line: 2 },
+        ),
+        (
+            b"copy c into R (a) from S (a) using \"c\"\n",
+            Syntax { line: 2 },
+        ),
+        (b"orders R\n\"o\";", Syntax { line: 2 }),
+        (b"orders R.\na: x < y;", Syntax { line: 1 }),
+    ];
+    for (source, wanted) in rows {
+        assert_eq!(rt;
+            read_spec(rt.alloc(), source).err(),
+            Some(wanted),
+            "{source:?}"
+        );
+    }
+}
+
+#[test]
+fn reads_and_refuses_orderings(rt: HostRuntime) -> Result<(), Fail> {
+    let alloc = rt.alloc();
+    let mut pairs = NamedPairList::new(alloc);
+    pairs.push(pair(alloc, "r1", "r2", 1)?)?;
+    let wanted = OrderingTree {
+        relation: named(alloc, "R", 1)?,
+        attr: named(alloc, "a", 1)?,
+        pairs,
+    };
+    assert_eq!(rt; read_ordering(alloc, b"R.a: r1 < r2;")?, wanted);
+    let rows: [(&[u8], TextFault); 4] = [
+        (b"\norder R.a: r1 < r2;", Syntax { line: 2 }),
+        (b"R.a: r1 < r2\n", Syntax { line: 2 }),
+        (b"R.a: r1 < r2;\nR.a: r2 < r3;", Syntax { line: 2 }),
+        (b"certain R.a: r1 < r2;", Syntax { line: 1 }),
+    ];
+    for (source, wanted) in rows {
+        assert_eq!(rt;
+            read_ordering(rt.alloc(), source).err(),
+            Some(wanted),
+            "{source:?}"
+        );
+    }
+    Ok(())
 }
 
 #[test]

@@ -1,3 +1,4 @@
+use copy_syntax::CopyTree;
 use currency_base::{ItemList, Kind};
 use rule_syntax::RuleTree;
 use text_grammar::{Named, NamedPairList};
@@ -22,8 +23,15 @@ pub enum StatementTree {
     },
     /// Given pairs of rows.
     Order(OrderingTree),
+    /// A relation, and the document of its given pairs.
+    Orders {
+        relation: Named,
+        document: Named,
+    },
     /// A denial constraint.
     Rule(RuleTree),
+    /// Rows of one relation that are copied from rows of another.
+    Copy(CopyTree),
 }
 
 /// Statements, in the order of the text.

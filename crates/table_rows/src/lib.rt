@@ -8,3 +8,4 @@ mod tuple;
 
 pub use build::table_rows;
 pub use rows::{RowFault, TableRows};
+pub use tuple::take_text;

@@ -19,7 +19,11 @@ const LIMIT_7: (u8, &str) = (6, "limit 7\n");
 
 const LIMIT_8: (u8, &str) = (6, "limit 8\n");
 
+const LIMIT_9: (u8, &str) = (6, "limit 9\n");
+
 const LIMIT_10: (u8, &str) = (6, "limit 10\n");
+
+const LIMIT_11: (u8, &str) = (6, "limit 11\n");
 
 // A specification over a table ends with this status and text.
 fn expect_end(
@@ -50,14 +54,7 @@ fn relations(alloc: Global, count: u32) -> Result<String, Fail> {
 
 // A relation of that name with so many attributes.
 fn relation_with(alloc: Global, name: &str, attrs: u32) -> Result<String, Fail> {
-    let front = format!(in alloc; "relation {name} from \"r.csv\" row id entity eid (a1: int")?;
-    let numbers = Numbers {
-        first: 2,
-        last: attrs,
-    };
-    let mut relation = with_each(alloc, front.as_str(), numbers, ", a", ": int")?;
-    relation.push_str(");\n")?;
-    Ok(relation)
+    relation_over(alloc, name, "r.csv", attrs)
 }
 
 // A table with one record for each number, all of one entity and with the same values.
@@ -197,64 +194,102 @@ fn predicates_and_variables_are_limited(rt: HostRuntime) -> Result<(), Fail> {
     Ok(())
 }
 
-// 62 entities of 64 rows, one of 4 and two of 2: 125,000 pairs of rows of one entity.
-fn pairs_table(alloc: Global) -> Result<String, Fail> {
-    let mut table = String::from_str(alloc, "id,eid,a1,a2,a3,a4\n")?;
-    for entity in 1..=62 {
-        let before = format!(in alloc; "e{entity}r")?;
-        let after = format!(in alloc; ",e{entity},1,2,3,4\n")?;
-        let numbers = Numbers { first: 1, last: 64 };
-        table = with_each(
-            alloc,
-            table.as_str(),
-            numbers,
-            before.as_str(),
-            after.as_str(),
-        )?;
+// A table of so many entities of so many rows each, with a column for each of so many attributes, of value 0.
+fn even_table(alloc: Global, entities: u32, rows: u32, attrs: u32) -> Result<String, Fail> {
+    let columns = Numbers {
+        first: 1,
+        last: attrs,
+    };
+    let mut table = with_each(alloc, "id,eid", columns, ",a", "")?;
+    table.push_str("\n")?;
+    let values = with_each(alloc, "", columns, ",", "")?;
+    let end = format!(in alloc; "{values}\n")?;
+    for entity in 1..=entities {
+        for row in 1..=rows {
+            let names = format!(in alloc; "e{entity}r{row},e{entity}")?;
+            table.push_str(names.as_str())?;
+            table.push_str(end.as_str())?;
+        }
     }
-    let numbers = Numbers { first: 1, last: 4 };
-    table = with_each(alloc, table.as_str(), numbers, "f", ",f,1,2,3,4\n")?;
-    table.push_str("g1,g,1,2,3,4\ng2,g,1,2,3,4\nh1,h,1,2,3,4\nh2,h,1,2,3,4\n")?;
     Ok(table)
 }
 
-// Eight relations of four attributes over one table.
-fn eight_relations(alloc: Global) -> Result<String, Fail> {
-    let numbers = Numbers { first: 1, last: 8 };
-    let rest = " from \"r.csv\" row id entity eid (a1: int, a2: int, a3: int, a4: int);\n";
-    with_each(alloc, "", numbers, "relation R", rest)
+// The declaration of a relation of that name and table with so many attributes.
+fn relation_over(alloc: Global, name: &str, table: &str, attrs: u32) -> Result<String, Fail> {
+    let front = format!(in alloc; "relation {name} from \"{table}\" row id entity eid (a1: int")?;
+    let numbers = Numbers {
+        first: 2,
+        last: attrs,
+    };
+    let mut relation = with_each(alloc, front.as_str(), numbers, ", a", ": int")?;
+    relation.push_str(");\n")?;
+    Ok(relation)
 }
 
-// The eight relations have 4,000,000 variables; two rows of one entity make one more.
+// 13,333 entities of 5 rows with 30 attributes and 50 of 2 rows with 2 attributes have 4,000,000 variables.
+// Statements follow.
+fn expect_end_of_variables(
+    rt: &(impl Abort + AllocGlobal),
+    further: &str,
+    end: (u8, &str),
+) -> Result<(), Fail> {
+    let alloc = rt.alloc();
+    let (status, text) = end;
+    let table = even_table(alloc, 13_333, 5, 30)?;
+    let tables = [("two.csv", b"id,eid,a1,a2\nt1,x,0,0\nt2,x,0,0\n".as_slice())];
+    let relation = relation_over(alloc, "R", "r.csv", 30)?;
+    let numbers = Numbers { first: 1, last: 50 };
+    let rest = " from \"two.csv\" row id entity eid (a1: int, a2: int);\n";
+    let mut spec = with_each(alloc, relation.as_str(), numbers, "relation U", rest)?;
+    spec.push_str(further)?;
+    let documents = Documents {
+        s: spec.as_bytes(),
+        r: table.as_bytes(),
+        p: NOTHING.as_bytes(),
+        tables: &tables,
+        ..first()
+    };
+    expect(rt, documents, status, text)
+}
+
 #[test]
-fn order_variables_are_limited(rt: HostRuntime) -> Result<(), Fail> {
-    let table = pairs_table(rt.alloc())?;
-    let relations = eight_relations(rt.alloc())?;
-    let tables = [
-        ("one.csv", b"id,eid,a\nt1,x,1\nt2,y,2\n".as_slice()),
-        ("two.csv", b"id,eid,a\nt1,x,1\nt2,x,2\n".as_slice()),
-    ];
-    let without_pair = "relation T from \"one.csv\" row id entity eid (a: int);\n";
-    let with_pair = "relation T from \"two.csv\" row id entity eid (a: int);\n";
-    // The limit comes after the last statement.
-    let further = "relation T from \"two.csv\" row id entity eid (a: int);\norder Q.a: t1 < t2;\n";
-    for (rest, (status, text)) in [
-        ("", WITHIN),
-        (without_pair, WITHIN),
-        (with_pair, LIMIT_10),
-        (further, (5, "error E03 s 10\n")),
-    ] {
-        let spec = with_line(rt.alloc(), relations.as_bytes(), rest)?;
-        let documents = Documents {
-            s: spec.as_slice(),
-            r: table.as_bytes(),
-            p: NOTHING.as_bytes(),
-            tables: &tables,
-            ..first()
-        };
-        expect(&rt, documents, status, text)?;
-    }
-    Ok(())
+fn order_variables_are_within_the_limit(rt: HostRuntime) -> Result<(), Fail> {
+    expect_end_of_variables(&rt, "", WITHIN)
+}
+
+#[test]
+fn one_order_variable_more_is_above_the_limit(rt: HostRuntime) -> Result<(), Fail> {
+    let further = "relation V from \"two.csv\" row id entity eid (a1: int);\n";
+    expect_end_of_variables(&rt, further, LIMIT_10)
+}
+
+#[test]
+fn limits_of_all_come_after_the_last_statement(rt: HostRuntime) -> Result<(), Fail> {
+    let further = "relation V from \"two.csv\" row id entity eid (a1: int);\norder Q.a: t1 < t2;\n";
+    expect_end_of_variables(&rt, further, (5, "error E03 s 53\n"))
+}
+
+// An entity of five rows has ten pairs and ten threes in each attribute: 20,000 of them with 20 attributes have
+// just 4,000,000 variables and 8,000,000 instances.
+fn expect_end_of_fives(
+    rt: &(impl Abort + AllocGlobal),
+    further: &str,
+    end: (u8, &str),
+) -> Result<(), Fail> {
+    let table = even_table(rt.alloc(), 20_000, 5, 20)?;
+    let mut spec = relation_over(rt.alloc(), "R", "r.csv", 20)?;
+    spec.push_str(further)?;
+    expect_end(rt, spec.as_str(), table.as_str(), end)
+}
+
+#[test]
+fn both_last_limits_are_reached_together(rt: HostRuntime) -> Result<(), Fail> {
+    expect_end_of_fives(&rt, "", WITHIN)
+}
+
+#[test]
+fn instances_of_rules_are_counted_with_the_others(rt: HostRuntime) -> Result<(), Fail> {
+    expect_end_of_fives(&rt, "rule n on R (s): false;\n", LIMIT_11)
 }
 
 // A table with a column for each of 33 attributes and 65 records of one entity.
@@ -298,9 +333,9 @@ fn limits_come_in_the_order_of_statements(rt: HostRuntime) -> Result<(), Fail> {
         ),
         ("order R.a r1 < r2;\n", 5, "error E02 s 2\n"),
         (
-            "copy c into R (a) from R (a): r1 from r2;\n",
-            5,
-            "error E16 s 2\n",
+            "copy c into R (a) from Q (a): r1 from r2;\n",
+            6,
+            "limit 7\n",
         ),
     ] {
         let spec = with_line(rt.alloc(), S.as_bytes(), rest)?;
@@ -357,6 +392,110 @@ fn limits_come_after_the_checks_of_their_statement(rt: HostRuntime) -> Result<()
         let spec = with_line(rt.alloc(), S.as_bytes(), rest)?;
         let documents = Documents {
             s: spec.as_slice(),
+            ..first()
+        };
+        expect(&rt, documents, status, text)?;
+    }
+    Ok(())
+}
+
+#[test]
+fn copies_are_limited(rt: HostRuntime) -> Result<(), Fail> {
+    for (last, end) in [(64, WITHIN), (65, LIMIT_9)] {
+        let numbers = Numbers { first: 1, last };
+        let rest = " into R (a) from R (a): r1 from r1;\n";
+        let spec = with_each(rt.alloc(), S, numbers, "copy c", rest)?;
+        expect_end(&rt, spec.as_str(), R, end)?;
+    }
+    Ok(())
+}
+
+// So many rules of one variable on the relation: each has an instance for each row.
+fn rules_on(alloc: Global, text: &str, rule: &str, rest: &str, count: u32) -> Result<String, Fail> {
+    let numbers = Numbers {
+        first: 1,
+        last: count,
+    };
+    with_each(alloc, text, numbers, rule, rest)
+}
+
+// 80 rules on 99,996 rows of an entity each and 159 on two rows have 7,999,998 instances; a copy of two rows of
+// one entity from two rows of one entity has two for each of its places.
+fn expect_end_of_copies(
+    rt: &(impl Abort + AllocGlobal),
+    copies: &str,
+    end: (u8, &str),
+) -> Result<(), Fail> {
+    let alloc = rt.alloc();
+    let (status, text) = end;
+    let table = records(alloc, 99_996)?;
+    let tables = [("two.csv", b"id,eid,a\nt1,x,1\nt2,x,1\n".as_slice())];
+    let relations = format!(in alloc;
+        "{ONE}relation S from \"two.csv\" row id entity eid (a: int);
+relation T from \"two.csv\" row id entity eid (a: int);\n"
+    )?;
+    let spec = rules_on(
+        alloc,
+        relations.as_str(),
+        "rule n",
+        " on R (s): false;\n",
+        80,
+    )?;
+    let spec = rules_on(alloc, spec.as_str(), "rule m", " on T (s): false;\n", 159)?;
+    let spec = with_line(alloc, spec.as_bytes(), copies)?;
+    let documents = Documents {
+        s: spec.as_slice(),
+        r: table.as_bytes(),
+        p: NOTHING.as_bytes(),
+        tables: &tables,
+        ..first()
+    };
+    expect(rt, documents, status, text)
+}
+
+#[test]
+fn instances_of_a_copy_are_within_the_limit(rt: HostRuntime) -> Result<(), Fail> {
+    let one = "copy c into T (a) from S (a): t1 from t1, t2 from t2;\n";
+    expect_end_of_copies(&rt, one, WITHIN)
+}
+
+#[test]
+fn instances_of_two_copies_are_above_the_limit(rt: HostRuntime) -> Result<(), Fail> {
+    let two = "copy c into T (a) from S (a): t1 from t1, t2 from t2;
+copy d into S (a) from T (a): t1 from t1, t2 from t2;\n";
+    expect_end_of_copies(&rt, two, LIMIT_11)
+}
+
+#[test]
+fn rows_copied_from_one_row_are_no_instance(rt: HostRuntime) -> Result<(), Fail> {
+    let one_source = "copy c into T (a) from S (a): t1 from t1, t2 from t1;
+copy d into S (a) from T (a): t1 from t1, t2 from t2;\n";
+    expect_end_of_copies(&rt, one_source, WITHIN)
+}
+
+// 8,000,000 instances of rules, and one more.
+#[test]
+fn one_instance_more_is_above_the_limit(rt: HostRuntime) -> Result<(), Fail> {
+    let alloc = rt.alloc();
+    let table = records(alloc, 99_999)?;
+    let tables = [("one.csv", b"id,eid,a\nt1,x,1\n".as_slice())];
+    let relations = format!(in alloc;
+        "{ONE}relation T from \"one.csv\" row id entity eid (a: int);\n"
+    )?;
+    let spec = rules_on(
+        alloc,
+        relations.as_str(),
+        "rule n",
+        " on R (s): false;\n",
+        80,
+    )?;
+    for (count, (status, text)) in [(80, WITHIN), (81, LIMIT_11)] {
+        let spec = rules_on(alloc, spec.as_str(), "rule m", " on T (s): false;\n", count)?;
+        let documents = Documents {
+            s: spec.as_bytes(),
+            r: table.as_bytes(),
+            p: NOTHING.as_bytes(),
+            tables: &tables,
             ..first()
         };
         expect(&rt, documents, status, text)?;

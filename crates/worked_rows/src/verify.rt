@@ -105,6 +105,20 @@ fn faults_of_the_outside_have_their_status(rt: HostRuntime) -> Result<(), Fail> 
     let mut sink = MemorySink::new(alloc);
     assert_eq!(rt; run(alloc, words.as_slice(), &mut shelf, &mut sink), 7);
     assert_eq!(rt; sink.written(), b"read fault p\n".as_slice());
+    // The second of two tables.
+    let two = with_line(alloc, first().s, "orders R from \"o.csv\";\n")?;
+    let tables = [("o.csv", b"attribute,earlier,later\na,r2,r1\n".as_slice())];
+    let documents = Documents {
+        s: two.as_slice(),
+        tables: &tables,
+        ..first()
+    };
+    expect(&rt, documents, 0, ACCEPTED)?;
+    let mut shelf = shelf_of(alloc, documents)?;
+    shelf.fail_at(3);
+    let mut sink = MemorySink::new(alloc);
+    assert_eq!(rt; run(alloc, words.as_slice(), &mut shelf, &mut sink), 7);
+    assert_eq!(rt; sink.written(), b"read fault o.csv\n".as_slice());
     let mut shelf = shelf_of(alloc, first())?;
     let mut sink = MemorySink::new(alloc);
     sink.fail_after(3);
@@ -146,10 +160,9 @@ fn documents_are_refused(rt: HostRuntime) -> Result<(), Fail> {
         ("order R.a: r1 < r9;\n", "error E10 s 2\n"),
         ("order R.a: r1 < r1;\n", "error E11 s 2\n"),
         ("order R.a: r1 < r2,\n r3 < r3;\n", "error E11 s 3\n"),
-        ("orders R from \"o.csv\";\n", "error E16 s 2\n"),
         (
-            "copy c into R (a) from R (a): r1 from r2;\n",
-            "error E16 s 2\n",
+            "copy c into R (a) from R (a): r1 from r1, r1 from r1;\n",
+            "error E12 s 2\n",
         ),
     ] {
         let spec = with_line(alloc, first().s, line)?;

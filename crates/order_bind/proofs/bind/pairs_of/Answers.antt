@@ -1,6 +1,7 @@
 -- An unknown attribute, an unknown row and a wrong pair are the faults that are due, in this order.
 use Rattle.std.proofs.lemmas.Result.{err_from_is_err_and}
-use Rattle.order_bind.proofs.OrderPairs.{IsRead, attr_fault, row_fault, due_same, pairs_read, all_of-length}
+use Rattle.bind_faults.proofs.Outcomes.{due_same}
+use Rattle.order_bind.proofs.OrderPairs.{IsRead, attr_fault, row_fault, pairs_read, all_of-length}
 use Rattle.order_bind.proofs.bind.pairs_of.Goals as goal
 
 pub returns-in_err-attr-clause-due : goal.returns-in_err-attr-clause-due

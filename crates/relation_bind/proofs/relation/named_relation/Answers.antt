@@ -19,7 +19,7 @@ new-requires-clause-facts c =
     let as_many : length c.names.result.now ≡ length d.attrs =
     ap length (c.names.ensures.value ∙ c.requires.attrs) ∙ length-map d.attrs (λ a. a.name.name) in
     let few : length d.attrs + 1 < 2 ^ 32 = omega (arith, as_many, c.if-names-gt-LAST_ID.false) in
-    subst IsRelation (sym is_declared) (declared_relation d t c.requires.rows once few)
+    subst IsRelation (sym is_declared) (declared_relation d t c.requires.rows c.requires.values once few)
 
 pub new-requires-clause-names : goal.new-requires-clause-names
 new-requires-clause-names c =

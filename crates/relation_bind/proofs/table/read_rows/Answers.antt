@@ -1,25 +1,31 @@
-use Rattle.std.proofs.Common.{◌∙◌, ap, subst, Err, List, ℕ}
+use Rattle.std.proofs.Common.{◌≡◌, ◌∙◌, ap, Err}
 use Rattle.std.proofs.lemmas.Result.{err_from_is_err_and}
-use Rattle.relation_bind.specs.Steps.{ReadsTable}
+use Rattle.relation_bind.specs.Relations.{columns_of}
 use Rattle.relation_bind.proofs.Tables.{table_read, table_not_read, no_read_fault, no_table_fault}
 use Rattle.relation_bind.proofs.table.read_rows.Goals as goal
 
-pub returns-in_err-bytes-clause-table : goal.returns-in_err-bytes-clause-table
-returns-in_err-bytes-clause-table g c =
+pub rows_of-requires : goal.rows_of-requires
+rows_of-requires g c =
+    let columns : c.as_slice.result.now ≡ columns_of c.args.declaration.now = c.as_slice.ensures ∙ c.in_ok-columns.ensures in
+    rw columns at c.in_ok-tuples.ensures.kinds
+
+pub returns-in_err-tuples-clause-table : goal.returns-in_err-tuples-clause-table
+returns-in_err-tuples-clause-table g c =
     let d = c.args.declaration.now in
-    let p = err_from_is_err_and c.from_residual.result c.from_residual.ensures.1 in
-    λ settled. table_not_read (g.S.Shelf.texts c.args.shelf.now) d c.declaration.inside.document.now.name c.in_err-bytes.field-0.0 c.from_residual.result
-    (ap (λ x. x.document.name) c.declaration.view_is) c.in_err-bytes.ensures.reads (p.1 ∙ ap Err p.2) settled
+    let columns : c.as_slice.result.now ≡ columns_of d = c.as_slice.ensures ∙ c.in_ok-columns.ensures in
+    let p = err_from_is_err_and c.from_residual-in_err-tuples.result c.from_residual-in_err-tuples.ensures.1 in
+    λ settled. table_not_read (g.S.Shelf.texts c.args.shelf.now) d c.declaration.inside.document.now.name c.as_slice.result.now c.in_err-tuples.field-0.0 c.from_residual-in_err-tuples.result
+    (ap (λ x. x.document.name) c.declaration.view_is) columns c.in_err-tuples.ensures.tuples (p.1 ∙ ap Err p.2) settled
 
 pub returns-clause-table : goal.returns-clause-table
 returns-clause-table g c =
     let d = c.args.declaration.now in
-    let rows = subst (λ (bs : List ℕ). ReadsTable d bs c.rows_in.result) c.as_slice.ensures c.rows_in.ensures.reads in
-    λ settled. table_read (g.S.Shelf.texts c.args.shelf.now) d c.declaration.inside.document.now.name c.in_ok-bytes.bytes c.rows_in.result
-    (ap (λ x. x.document.name) c.declaration.view_is) c.in_ok-bytes.ensures.reads rows settled
+    let columns : c.as_slice.result.now ≡ columns_of d = c.as_slice.ensures ∙ c.in_ok-columns.ensures in
+    λ settled. table_read (g.S.Shelf.texts c.args.shelf.now) d c.declaration.inside.document.now.name c.as_slice.result.now c.in_ok-tuples.tuples c.rows_of.result
+    (ap (λ x. x.document.name) c.declaration.view_is) columns (c.in_ok-tuples.ensures.tuples tt) c.rows_of.ensures.exact settled
 
 pub returns-clause-read_fault : goal.returns-clause-read_fault
-returns-clause-read_fault g c = λ fault. absurd (no_read_fault c.args.declaration.now c.as_slice.result.now c.rows_in.result c.rows_in.ensures.reads fault)
+returns-clause-read_fault g c = λ fault. absurd (no_read_fault c.args.declaration.now c.in_ok-tuples.tuples c.rows_of.result c.rows_of.ensures.exact fault)
 
 pub returns-clause-names_it : goal.returns-clause-names_it
-returns-clause-names_it g c = λ table fault. absurd (no_table_fault c.args.declaration.now c.as_slice.result.now c.rows_in.result c.rows_in.ensures.reads table fault)
+returns-clause-names_it g c = λ table fault. absurd (no_table_fault c.args.declaration.now c.in_ok-tuples.tuples c.rows_of.result c.rows_of.ensures.exact table fault)

@@ -3,7 +3,8 @@ use Rattle.std.proofs.Common.{◌∙◌, ap, sym, arith, Ok}
 use Rattle.std.proofs.lemmas.Result.{err_from_is_err_and}
 use Rattle.bind_faults.specs.Faults.{unless}
 use Rattle.rule_bind.specs.Ruled.{rule_of}
-use Rattle.rule_bind.proofs.Due.{few_names, predicates_fault, conclusion_fault, parts_there, due_same}
+use Rattle.rule_bind.proofs.Due.{few_names, predicates_fault, conclusion_fault, parts_there}
+use Rattle.bind_faults.proofs.Outcomes.{due_same}
 use Rattle.rule_bind.proofs.Fitting.{is_fresh, rule_fits}
 use Rattle.rule_bind.proofs.bind.bind_at.Goals as goal
 

@@ -31,5 +31,5 @@ loop-statement-preserved g c = record {
 pub returns-clause-bound : goal.returns-clause-bound
 returns-clause-bound g c =
     λ settled. tree_bound (g.S.Shelf.texts c.args.shelf.now) c.loop-statement.bound c.args.tree.now c.as_slice-statement-items.result.now
-    c.loop-statement.statement-index c.within_variables.result (omega (arith, c.loop-statement-test.false)) c.loop-statement.invariant.so_far
-    c.within_variables.ensures.due settled
+    c.loop-statement.statement-index c.within_limits.result (omega (arith, c.loop-statement-test.false)) c.loop-statement.invariant.so_far
+    c.within_limits.ensures.due settled

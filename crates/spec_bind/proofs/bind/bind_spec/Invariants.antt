@@ -1,7 +1,8 @@
 use Rattle.std.proofs.Common.{◌≡◌, ◌≤◌, ℕ, List, drop, Result, IfSome}
 use Rattle.spec_model.specs.Spec.{Spec}
 use Rattle.bind_faults.specs.declared.fault.BindFault.{BindFault}
-use Rattle.spec_bind.specs.Bound.{IsBound, TableDue, nothing}
+use Rattle.bound_spec.specs.Growth.{nothing}
+use Rattle.spec_bind.specs.Bound.{IsBound, TableDue}
 use Rattle.spec_bind.proofs.bind.bind_spec.Given as goal
 
 abbrev pub invariant-loop-statement : goal.invariant-loop-statement

@@ -1,8 +1,9 @@
-use Rattle.std.proofs.Common.{◌≡◌, None, sym, subst, rules}
-use Rattle.copy_functions.specs.Copies.{CopyFunction, values_of, IsCopyOf, IsCopied}
+use Rattle.std.proofs.Common.{◌≡◌, None, ap, sym, subst, rules}
+use Rattle.copy_functions.specs.Copies.{CopyFunction, with_source, values_of, IsCopyOf, IsCopied}
 use Rattle.copy_functions.specs.contracts.copy_map.CopyMap.{the_view}
 use Rattle.copy_functions.specs.Faults.{first_difference}
 use Rattle.copy_functions.proofs.Mapped.{copied_more}
+use Rattle.copy_functions.proofs.PutSources.{put_is}
 use Rattle.copy_functions.proofs.SameValues.{equal_at_each}
 use Rattle.copy_functions.proofs.copy_map.CopyMap.add.Goals as goal
 
@@ -28,3 +29,8 @@ returns-clause-copied c = λ were.
     subst (λ (copy : CopyFunction). IsCopyOf copy.places target_rows source_rows c.args.target c.args.source) (sym c.self.view_is) (equal_of c) in
     copied_more c.self.inside.places target_rows source_rows c.self.inside.sources.items c.put.new.sources.items c.args.target c.args.source
     c.in_ok-put.ensures.ok one inside_were
+
+pub returns-clause-value : goal.returns-clause-value
+returns-clause-value c =
+    let put = put_is c.self.inside.sources.items c.put.new.sources.items c.args.target c.args.source c.in_ok-put.ensures.ok c.in_ok-put.ensures.room in
+    rw put (ap (λ (copy : CopyFunction). with_source copy c.args.target c.args.source) c.self.view_is)

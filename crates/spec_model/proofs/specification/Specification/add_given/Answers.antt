@@ -1,6 +1,7 @@
 use Rattle.std.proofs.Common.{◌≡◌, ap}
 use Rattle.spec_model.specs.Spec.{Spec}
 use Rattle.spec_model.proofs.AddedPairs.{are_relations_adding, are_relations_keeping, adds_given, read_at}
+use Rattle.spec_model.proofs.AddedCopies.{copies_given}
 use Rattle.spec_model.proofs.AddedRules.{rules_given}
 use Rattle.spec_model.proofs.specification.Specification.add_given.Goals as goal
 use Rattle.spec_model.proofs.specification.Specification.add_given.Goals.{in-Ok, in-Err}
@@ -19,6 +20,9 @@ invariant_of-self c =
       rules = rules_given c.self.inside.relations.items c.args.rel.0 c.index_mut-relation.result.now c.add.new.self c.self.inside.rules.items
           (read_at c.self.inside.relations.items c.args.self.now.relations c.args.rel.0 c.index_mut-relation.result.now same c.requires.within read)
           c.self.invariant.rules;
+      copies = copies_given c.self.inside.relations.items c.args.rel.0 c.index_mut-relation.result.now c.add.new.self c.self.inside.copies.items
+          (read_at c.self.inside.relations.items c.args.self.now.relations c.args.rel.0 c.index_mut-relation.result.now same c.requires.within read)
+          c.self.invariant.copies;
     }
 
 pub returns-clause-ok : goal.returns-clause-ok

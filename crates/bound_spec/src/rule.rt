@@ -1,0 +1,46 @@
+ghost use Rattle.std.specs.Prelude.{◌≡◌, ◌≤◌, None, length, map, Contains, IfOk};
+ghost use Rattle.bind_faults.specs.Faults.{IsDue, IsReadFault};
+ghost use Rattle.spec_model.specs.Facts.{IsRuleOf};
+ghost use Rattle.spec_limits.specs.Limits.{exceeded};
+ghost use Rattle.bound_spec.specs.Growth.{limited, with_rule};
+
+use crate::bound::Bound;
+use bind_faults::BindFault;
+use currency_base::NoMemory;
+use spec_limits::limit_with_rule;
+use spec_model::Rule;
+use std::alloc::Global;
+
+/// Adds a rule after the others, unless a limit is then exceeded.
+pub fn add_rule(alloc: Global, bound: Bound, rule: Rule) -> Result<Bound, BindFault>
+    requires fits { rule.vars ≤ 4 → length rule.predicates ≤ 16 → IsRuleOf bound.relations rule }
+    requires fresh { Contains (map (λ r. r.name) bound.rules) rule.name → ⊥ }
+    ensures due { IsDue (limited (with_rule bound rule)) result }
+    ensures reads { IsReadFault result → ⊥ }
+{
+    match limit_with_rule(&bound.spec, &rule) {
+        Some(limit) => Err(BindFault::Limit(limit)),
+        None => match with_rule(alloc, bound, rule) {
+            Ok(bound) => Ok(bound),
+            Err(NoMemory) => Err(BindFault::NoMemory),
+        },
+    }
+}
+
+/// Adds a rule with which no limit is exceeded.
+fn with_rule(alloc: Global, bound: Bound, rule: Rule) -> Result<Bound, NoMemory>
+    requires fits { rule.vars ≤ 4 → length rule.predicates ≤ 16 → IsRuleOf bound.relations rule }
+    requires fresh { Contains (map (λ r. r.name) bound.rules) rule.name → ⊥ }
+    requires within { exceeded (with_rule bound rule) ≡ None }
+    ensures { IfOk result (λ new. new ≡ with_rule bound rule) }
+{
+    let Bound {
+        mut spec,
+        mut names,
+        rows,
+    } = bound;
+    let name = rule.name.duplicate(alloc)?;
+    spec.add_rule(rule)?;
+    names.add_rule(name)?;
+    Ok(Bound { spec, names, rows })
+}

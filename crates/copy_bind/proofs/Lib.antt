@@ -1,0 +1,4 @@
+mod Copying
+mod CopyReads
+mod Listing
+mod Mapped

@@ -1,0 +1,6 @@
+pub mod Copied
+pub mod Made
+pub mod Steps
+pub use Rattle.currency_edge.specs.Shelf
+pub use Rattle.currency_edge.specs.Fault
+pub use Rattle.currency_csv.specs.Table

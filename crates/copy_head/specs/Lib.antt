@@ -1,0 +1,3 @@
+pub mod HeadFacts
+pub mod Heads
+pub mod Sides

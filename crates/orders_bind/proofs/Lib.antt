@@ -1,0 +1,4 @@
+mod Answered
+mod Given
+mod Made
+mod Said

@@ -1,0 +1,11 @@
+//! Binding of `orders` statements: the given pairs that a table holds.
+#![tactic(auto)]
+
+mod bind;
+mod laws;
+mod pairs;
+mod records;
+mod table;
+
+pub use bind::bind_orders;
+pub use laws::one_orders;

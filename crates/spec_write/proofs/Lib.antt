@@ -1,0 +1,5 @@
+mod ManyItems
+mod Words
+mod Rewritten
+mod SingleTokens
+mod Rules

@@ -1,0 +1,2 @@
+mod OneTable
+mod Reading

@@ -1,0 +1,4 @@
+pub mod Pieces
+pub mod Spelling
+pub mod Spacing
+pub mod Written
