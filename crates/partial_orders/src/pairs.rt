@@ -1,7 +1,7 @@
-ghost use Rattle.std.specs.Prelude.{◌≡◌, ◌<◌, [], length, IsErrOf, OnOk, OnErr};
+ghost use Rattle.std.specs.Prelude.{◌≡◌, ◌<◌, true, [], length, Contains, IsErrOf, OnOk, OnErr};
 ghost use Rattle.std.specs.BTreeSet.{insert_key};
 ghost use Rattle.std.specs.List.Sorted.{IsStrictlySortedBy};
-ghost use Rattle.partial_orders.specs.Pairs.{pair_cmp, AreOfOneEntity};
+ghost use Rattle.partial_orders.specs.Pairs.{pair_cmp, has_pair, AreOfOneEntity};
 
 use currency_base::{NoMemory, Pair, Rows};
 use std::alloc::Global;
@@ -61,6 +61,15 @@ impl Pairs {
             Ok(_) => Ok(()),
             Err(_) => Err(PairFault::NoMemory),
         }
+    }
+
+    /// Is the pair there? Takes no memory.
+    pub fn has(&self, pair: Pair) -> bool
+        ensures value { result ≡ has_pair self.now pair }
+        ensures is_there { result ≡ true → Contains self.now pair }
+        ensures is_found { Contains self.now pair → result ≡ true }
+    {
+        self.set.contains(&pair)
     }
 
     /// How many pairs there are.

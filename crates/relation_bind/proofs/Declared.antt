@@ -30,6 +30,7 @@ declared_relation d t are values once few = record {
   few_rows = are.few_rows;
   few_entities = are.few_entities;
   entities = are.entities;
+  inhabited = are.inhabited;
   values = rw (kinds_made d.attrs) values;
   attr_names = rw (names_declared d.attrs) once;
   row_names = rw are.names are.row_names;

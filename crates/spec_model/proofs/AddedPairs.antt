@@ -23,6 +23,7 @@ is_relation_with r given h all =
       few_rows = h.few_rows;
       few_entities = h.few_entities;
       entities = h.entities;
+      inhabited = h.inhabited;
       values = h.values;
       attr_names = h.attr_names;
       row_names = h.row_names;

@@ -2,6 +2,7 @@
 use Rattle.std.specs.Prelude.{◌≡◌, ◌+◌, ◌^◌, ◌<◌, ℕ, List, length, map, All, Some, slice_get, slice_set}
 use Rattle.std.specs.BTreeSet.{insert_key}
 use Rattle.currency_base.specs.Lists.{OnlyOnce}
+use Rattle.currency_base.specs.Rows.{HasRowOf}
 use Rattle.currency_base.specs.Values.{kind_of}
 use Rattle.copy_functions.specs.Copies.{CopyFunction, IsCopied}
 use Rattle.copy_functions.specs.declared.place.Place.{Place}
@@ -24,13 +25,15 @@ pub record IsGivenPair (r : Relation) (p : Pair) : Type 0 where
 abbrev pub kinds_of : Relation → List Kind
 kinds_of r = map (λ a. a.kind) r.attrs
 
--- a relation whose ids are numbers of 32 bits, whose rows stand for its entities and have a value of each attribute's
--- kind, whose attributes, rows and entities have a name each of their own, and whose given pairs are such pairs
+-- a relation whose ids are numbers of 32 bits, whose rows stand for its entities, of which each has one, and have a value of
+-- each attribute's kind, whose attributes, rows and entities have a name each of their own, and whose given pairs are such
+-- pairs
 pub record IsRelation (r : Relation) : Type 0 where
   pub few_attrs : length r.attrs + 1 < 2 ^ 32
   pub few_rows : length r.rows + 1 < 2 ^ 32
   pub few_entities : length r.entities + 1 < 2 ^ 32
   pub entities : All (λ row. row.entity.0 < length r.entities) r.rows
+  pub inhabited : (ent : ℕ) → ent < length r.entities → HasRowOf r.rows ent
   pub values : All (λ row. map kind_of row.values ≡ kinds_of r) r.rows
   pub attr_names : OnlyOnce (map (λ a. a.name) r.attrs)
   pub row_names : OnlyOnce (map (λ row. row.name) r.rows)

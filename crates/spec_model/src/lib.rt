@@ -6,6 +6,7 @@
 
 mod completion;
 mod flaw;
+mod instance;
 mod question;
 mod relation;
 mod specification;
@@ -14,6 +15,7 @@ pub use completion::{AttributeRankings, Completion, RelationRankings, set_keeps_
 pub use copy_functions::{CopyFault, CopyList, CopyMap, Place, PlaceList};
 pub use denial_rules::{Binding, Rule, RuleList};
 pub use flaw::Flaw;
+pub use instance::{Instance, TupleTable};
 pub use partial_orders::Pairs;
 pub use question::Question;
 pub use relation::{Attr, AttrList, Relation, RelationList};

@@ -1,11 +1,13 @@
 -- A table's rows as far as its tuples are read.
-use Rattle.std.proofs.Common.{◌≡◌, ◌⊎◌, inl, inr, ◌∙◌, ◌<◌, ◌≤◌, ◌^◌, ℕ, zero, suc, ◌+◌, Bool, true, false, Some, None, Result, Ok, Err, List, [], ◌∷◌, ◌++◌, length, map, min, sym, refl, ap, subst, zero-add, add-zero, arith, length-append}
+use Rattle.std.proofs.Common.{◌≡◌, ◌⊎◌, inl, inr, ◌∙◌, ◌<◌, ◌≤◌, ◌^◌, ℕ, zero, suc, ◌+◌, Bool, true, false, Some, None, Result, Ok, Err, List, [], ◌∷◌, ◌++◌, length, map, min, slice_get, sym, refl, ap, subst, zero-add, add-zero, arith, length-append}
 use Rattle.std.specs.List.{list_any, position_or_len, enumerate_from, All}
 use Rattle.std.specs.Str.{bytes_eq}
-use Rattle.std.proofs.lemmas.Bool.{or_right}
+use Rattle.std.proofs.lemmas.Bool.{or_right, cases_lt}
 use Rattle.std.proofs.lemmas.List.{append-nil, map_push, map-append, length-map}
 use Rattle.std.proofs.lemmas.List.FromFn.{length-enumerate_from}
 use Rattle.std.proofs.lemmas.Slice.Eq.{bytes_eq-Decides}
+use Rattle.currency_base.specs.Lists.{OnlyOnce}
+use Rattle.currency_base.specs.Rows.{HasRowOf}
 use Rattle.currency_base.specs.declared.row.Row.{Row}
 use Rattle.currency_base.specs.declared.value.Value.{Value}
 use Rattle.table_rows.specs.declared.rows.TableRows.{TableRows}
@@ -21,9 +23,10 @@ pub record IsSoFar (named : Bool) (tuples : List (List Value)) (table : TableRow
   pub names : table.names ≡ row_names_of named tuples
   pub entities : table.entities ≡ entities_of named tuples
   pub unrepeated : first_repeat 0 [] (row_names_of named tuples) ≡ None
+  pub inhabited : (ent : ℕ) → ent < length table.entities → HasRowOf table.rows ent
 
 pub begun : (named : Bool) (table : TableRows) → table.rows ≡ [] → table.names ≡ [] → table.entities ≡ [] → IsSoFar named [] table
-begun named table rows names entities = record { rows = rows; names = names; entities = entities; unrepeated = refl }
+begun named table rows names entities = record { rows = rows; names = names; entities = entities; unrepeated = refl; inhabited = λ ent below. absurd (let none : length table.entities ≡ 0 = ap length entities in omega arith) }
 
 same_row : (r s : Row) → r.name ≡ s.name → r.entity.0 ≡ s.entity.0 → r.values ≡ s.values → r ≡ s
 same_row r s name entity values =
@@ -113,6 +116,38 @@ names_of_rows : (named : Bool) (entities : List (List ℕ)) (n : ℕ) (ts : List
 names_of_rows named entities n [] = refl
 names_of_rows named entities n (t ∷ ts) = ap (λ rest. row_name named (n, t) ∷ rest) (names_of_rows named entities (n + 1) ts)
 
+-- ---- each entity has a row
+
+slice_get_front : {A : Type 0} (xs ys : List A) (k : ℕ) (x : A) → slice_get xs k ≡ Some x → slice_get (xs ++ ys) k ≡ Some x
+slice_get_front [] ys k x e = cc
+slice_get_front (a ∷ xs) ys zero x e = e
+slice_get_front (a ∷ xs) ys (suc k) x e = slice_get_front xs ys k x e
+
+slice_get_last : {A : Type 0} (xs : List A) (x : A) → slice_get (xs ++ x ∷ []) (length xs) ≡ Some x
+slice_get_last [] x = refl
+slice_get_last (a ∷ xs) x = slice_get_last xs x
+
+has_row_still : (rows more : List Row) (ent : ℕ) → HasRowOf rows ent → HasRowOf (rows ++ more) ent
+has_row_still rows more ent h = record { at = h.at; row = h.row; is_row = slice_get_front rows more h.at h.row h.is_row; is_of = h.is_of }
+
+-- each entity has a row where one more row stands for its entity, be it new or not
+inhabited_push : (old new : List (List ℕ)) (rows : List Row) (row : Row) (name : List ℕ) → ((ent : ℕ) → ent < length old → HasRowOf rows ent)
+    → new ≡ first_standing old (name ∷ []) → OnlyOnce new → slice_get new row.entity.0 ≡ Some name
+    → (ent : ℕ) → ent < length new → HasRowOf (rows ++ row ∷ []) ent
+inhabited_push old new rows row name has is_new once at ent below =
+    elim (standing_one old name) [
+      | inl (e, same) ↦ let count : length new ≡ length old = ap length (is_new ∙ same) in has_row_still rows (row ∷ []) ent (has ent (omega arith))
+      | inr (e, same) ↦
+          let grown : new ≡ old ++ name ∷ [] = is_new ∙ same in
+          let count : length new ≡ length old + 1 = ap length grown ∙ length-append old (name ∷ []) in
+          let last : slice_get new (length old) ≡ Some name = rw grown (slice_get_last old name) in
+          let place : row.entity.0 ≡ length old = once row.entity.0 (length old) name at last in
+          elim (cases_lt ent (length old)) [
+            | inl below_old ↦ has_row_still rows (row ∷ []) ent (has ent below_old)
+            | inr not_below ↦ record { at = length rows; row = row; is_row = slice_get_last rows row; is_of = omega arith }
+          ]
+    ]
+
 -- ---- one more tuple
 
 entities_push : (named : Bool) (done : List (List Value)) (t : List Value)
@@ -155,6 +190,8 @@ grown named done old new t so_far step =
       entities = entities;
       unrepeated = ap (first_repeat 0 []) names
           ∙ repeat_append 0 [] (row_names_of named done) (row_name named (length done, t) ∷ []) so_far.unrepeated ∙ last;
+      inhabited = rw step.rows (inhabited_push old.entities new.entities old.rows step.row (entity_name named t) so_far.inhabited step.entities
+          (rw entities (only_once _ (standing_distinct [] (map (entity_name named) (done ++ t ∷ [])) none_distinct))) step.entity);
     }
 
 -- ---- what comes of it
@@ -186,6 +223,7 @@ facts named tuples table few so_far =
       row_names = rw so_far.names (only_once _ (unrepeated_distinct 0 [] (row_names_of named tuples) none_distinct so_far.unrepeated));
       entity_names = rw so_far.entities (only_once _ (standing_distinct [] (map (entity_name named) tuples) none_distinct));
       entities = rw (so_far.rows, so_far.entities) (rows_within named (entities_of named tuples) 0 tuples (has_entities named [] tuples));
+      inhabited = so_far.inhabited;
     }
 
 -- where a tuple is left, there is room for its row and its entity

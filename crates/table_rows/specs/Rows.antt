@@ -4,6 +4,7 @@ use Rattle.std.specs.List.{enumerate_from, list_any, position_or_len, slice_inde
 use Rattle.std.specs.Str.{bytes_eq}
 use Rattle.std.specs.Fmt.{decimal}
 use Rattle.currency_base.specs.Lists.{OnlyOnce}
+use Rattle.currency_base.specs.Rows.{HasRowOf}
 use Rattle.currency_base.specs.declared.row.Row.{Row}
 use Rattle.currency_base.specs.declared.value.Value.{Value}
 use Rattle.currency_base.specs.declared.value.Value.TheVariants as value
@@ -79,7 +80,7 @@ told_rows named tuples (Some place) = Err (Repeated (min (place + 2) 4294967295)
 unfoldable pub rows_from : Bool → List (List Value) → Result TableRows RowFault
 rows_from named tuples = told_rows named tuples (first_repeat 0 [] (row_names_of named tuples))
 
--- rows with a name each, which stand for entities with a name each
+-- rows with a name each, which stand for entities with a name each; each entity has a row
 pub record AreRows (r : TableRows) : Type 0 where
   pub few_rows : length r.rows + 1 < 2 ^ 32
   pub few_entities : length r.entities + 1 < 2 ^ 32
@@ -87,3 +88,4 @@ pub record AreRows (r : TableRows) : Type 0 where
   pub row_names : OnlyOnce r.names
   pub entity_names : OnlyOnce r.entities
   pub entities : All (λ row. row.entity.0 < length r.entities) r.rows
+  pub inhabited : (ent : ℕ) → ent < length r.entities → HasRowOf r.rows ent

@@ -1,0 +1,5 @@
+mod Accepted
+mod Renumbered
+mod StillAccepted
+mod StillNumbered
+mod GoalsSay

@@ -1,0 +1,4 @@
+mod Readable
+mod Pushed
+mod Fronts
+mod OneInstance

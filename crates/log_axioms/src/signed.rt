@@ -1,0 +1,87 @@
+ghost use Rattle.std.specs.Prelude.{◌≡◌};
+ghost use Rattle.log_axioms.specs.Axioms.{before, not_before, top, not_top, last, not_last};
+
+use currency_base::{AttrId, ItemList, RelId, RowId};
+use refutation_log::Statement;
+
+/// A statement, or its negation.
+#[derive(Clone, Copy, Debug, PartialEq, Eq)]
+pub struct Signed {
+    pub statement: Statement,
+    pub negative: bool,
+}
+
+/// Statements with their signs, of which a clause holds one.
+pub type SignedList = ItemList<Signed>;
+
+impl Signed {
+    /// One row stands before another.
+    pub(crate) fn before(rel: RelId, attr: AttrId, earlier: RowId, later: RowId) -> Signed
+        ensures { result ≡ before rel attr earlier later }
+    {
+        Signed {
+            statement: Statement::Before {
+                rel,
+                attr,
+                earlier,
+                later,
+            },
+            negative: false,
+        }
+    }
+
+    /// One row does not stand before another.
+    pub(crate) fn not_before(rel: RelId, attr: AttrId, earlier: RowId, later: RowId) -> Signed
+        ensures { result ≡ not_before rel attr earlier later }
+    {
+        Signed {
+            statement: Statement::Before {
+                rel,
+                attr,
+                earlier,
+                later,
+            },
+            negative: true,
+        }
+    }
+
+    /// A row stands last.
+    pub(crate) fn top(rel: RelId, attr: AttrId, row: RowId) -> Signed
+        ensures { result ≡ top rel attr row }
+    {
+        Signed {
+            statement: Statement::Top { rel, attr, row },
+            negative: false,
+        }
+    }
+
+    /// A row does not stand last.
+    pub(crate) fn not_top(rel: RelId, attr: AttrId, row: RowId) -> Signed
+        ensures { result ≡ not_top rel attr row }
+    {
+        Signed {
+            statement: Statement::Top { rel, attr, row },
+            negative: true,
+        }
+    }
+
+    /// A row's value is the current one.
+    pub(crate) fn last(rel: RelId, attr: AttrId, row: RowId) -> Signed
+        ensures { result ≡ last rel attr row }
+    {
+        Signed {
+            statement: Statement::Last { rel, attr, row },
+            negative: false,
+        }
+    }
+
+    /// A row's value is not the current one.
+    pub(crate) fn not_last(rel: RelId, attr: AttrId, row: RowId) -> Signed
+        ensures { result ≡ not_last rel attr row }
+    {
+        Signed {
+            statement: Statement::Last { rel, attr, row },
+            negative: true,
+        }
+    }
+}

@@ -1,0 +1,6 @@
+pub mod Fronts
+pub mod Signs
+pub mod Sound
+mod Numbers
+mod FreshClauses
+mod CountedSteps

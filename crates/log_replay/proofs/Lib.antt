@@ -1,0 +1,5 @@
+mod Falsified
+mod MarksSet
+pub mod OneEnd
+mod Reached
+mod States

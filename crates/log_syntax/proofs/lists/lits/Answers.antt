@@ -1,0 +1,13 @@
+use Rattle.std.proofs.Common.{[], map}
+use Rattle.text_grammar.specs.Reading.{one}
+use Rattle.text_tokens.specs.Lexeme.{lexeme_of}
+use Rattle.log_syntax.specs.Numbers.{lit_in, says_some}
+use Rattle.log_syntax.specs.Reading.{lits_at, pushed}
+use Rattle.log_syntax.proofs.Gathering.{begun}
+use Rattle.log_syntax.proofs.lists.lits.Goals as goal
+
+pub returns : goal.returns
+unfolding lits_at
+returns c =
+    begun (λ x. (x.0, map lexeme_of x.1.now)) c.gather.result pushed (says_some lit_in) (one lit_in)
+    c.new.result [] (map lexeme_of c.args.tokens.now) 4294967294 c.new.ensures c.gather.ensures

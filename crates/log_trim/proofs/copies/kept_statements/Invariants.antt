@@ -1,0 +1,9 @@
+-- The statements so far are copied, those that are kept.
+use Rattle.std.proofs.Common.{◌≡◌, map, take}
+use Rattle.log_trim.specs.Trimmed.{kept_of, renumbered_statement}
+use Rattle.log_trim.specs.Marked.{is_marked}
+use Rattle.log_trim.proofs.copies.kept_statements.Given as goal
+
+abbrev pub invariant-loop-place : goal.invariant-loop-place
+invariant-loop-place l = l.list ≡ map (renumbered_statement (is_marked l.answers))
+    (kept_of (is_marked l.kept) (take l.place l.statements))

@@ -1,0 +1,4 @@
+pub mod Trimmed
+pub mod Marked
+pub mod Laws
+pub mod Place

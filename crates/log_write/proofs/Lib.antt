@@ -1,0 +1,5 @@
+mod Writing
+mod Texts
+mod Numbers
+mod Rules
+mod Logs

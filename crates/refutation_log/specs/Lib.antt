@@ -1,0 +1,4 @@
+pub mod Steps
+pub mod Follows
+pub mod Counted
+pub mod Kept
