@@ -1,5 +1,3 @@
-use currency_base::NoMemory;
-
 /// The first step of a log that fails, counted from 0, and why.
 #[derive(Clone, Copy, Debug, PartialEq, Eq)]
 pub enum LogFault {
@@ -11,10 +9,4 @@ pub enum LogFault {
     /// A hint is no earlier step.
     UnknownHint { step: u32 },
     NoMemory,
-}
-
-impl From<NoMemory> for LogFault {
-    fn from(_: NoMemory) -> LogFault {
-        LogFault::NoMemory
-    }
 }
