@@ -6,15 +6,11 @@ Makes relations of N rows together in entities of 8, a specification of each cas
 each entity's rows by their values. Runs the program as built, and prints per case and N the time per row, its
 ratio to the smallest N, and the peak memory. Each N is run three times, and the quickest counts. Where a
 case is above a mark, this is said and the exit status is 1."""
-import os
 import pathlib
-import subprocess
-import sys
 import tempfile
-import time
 
-ROOT = pathlib.Path(__file__).resolve().parent.parent
-PROGRAM = ROOT / "crates" / "currency" / "out" / "currency"
+from runs import build, end, run
+
 SIZES = [1_000, 10_000, 100_000]
 ENTITY = 8
 MOST_RATIO = 3
@@ -111,19 +107,6 @@ def write_copied(folder, rows):
         report.write("end;\n")
 
 
-def run(folder):
-    """The seconds and the megabytes of one run. The megabytes are never below those of this script."""
-    begin = time.perf_counter()
-    child = subprocess.Popen([PROGRAM, "verify", "s", "q", "p"], cwd=folder, stdout=subprocess.PIPE)
-    said = child.stdout.read()
-    _, status, usage = os.wait4(child.pid, 0)
-    spent = time.perf_counter() - begin
-    child.returncode = os.waitstatus_to_exitcode(status)
-    if child.returncode != 0 or said != b"accepted consistent\n":
-        sys.exit(f"unexpected end: status {child.returncode}, {said!r}")
-    return spent, usage.ru_maxrss / 1024
-
-
 def measure(case, write, most_megabytes):
     """Prints the lines of a case, and answers the marks that it is above."""
     smallest = None
@@ -133,7 +116,7 @@ def measure(case, write, most_megabytes):
             folder = pathlib.Path(name)
             (folder / "q").write_text("consistent;\n")
             write(folder, rows)
-            runs = [run(folder) for _ in range(3)]
+            runs = [run(folder, b"accepted consistent\n") for _ in range(3)]
         per_row = min(spent for spent, _ in runs) / rows
         smallest = smallest or per_row
         ratio = per_row / smallest
@@ -147,14 +130,12 @@ def measure(case, write, most_megabytes):
 
 
 def main():
-    subprocess.run([ROOT / "currency"], capture_output=True, check=False)
+    build()
     above = []
     for case, (attrs, rules) in RULES.items():
         above += measure(case, lambda folder, rows: write_ruled(folder, attrs, rules, rows), MOST_MEGABYTES)
     above += measure("copy and orders", write_copied, MOST_MEGABYTES_OF_TABLES)
-    for line in above:
-        print(f"above its mark: {line}")
-    sys.exit(1 if above else 0)
+    end(above)
 
 
 if __name__ == "__main__":

@@ -1,10 +1,10 @@
 mod Chosen
 mod CopyClauses
-mod Decisions
+pub mod Decisions
 mod OrderClauses
 mod RuleClauses
-mod SaysSame
-mod Standing
+pub mod SaysSame
+pub mod Standing
 mod TopClauses
 pub mod Sound
 pub mod Truths

@@ -46,7 +46,7 @@ rel_is a b e = ap (λ (n : ℕ). let x : RelId = record { 0 = n } in x) e
 attr_is : (a b : AttrId) → a.0 ≡ b.0 → a ≡ b
 attr_is a b e = ap (λ (n : ℕ). let x : AttrId = record { 0 = n } in x) e
 
-place_is : (rel rel' : RelId) (attr attr' : AttrId) → same_place rel attr rel' attr' ≡ true → (rel ≡ rel') × (attr ≡ attr')
+pub place_is : (rel rel' : RelId) (attr attr' : AttrId) → same_place rel attr rel' attr' ≡ true → (rel ≡ rel') × (attr ≡ attr')
 place_is rel rel' attr attr' e =
     let both = and_parts (rel.0 == rel'.0) (attr.0 == attr'.0) e in
     (rel_is rel rel' (eqb-true rel.0 rel'.0 both.0), attr_is attr attr' (eqb-true attr.0 attr'.0 both.1))
@@ -70,7 +70,7 @@ equal_is (Some a) None e = absurd (false≢true e)
 equal_is None b e = absurd (false≢true e)
 
 -- of two rows of one entity with one value, what is said of the current value of the one is said of the other
-last_moves : (c : Rankings) (rel attr ent : ℕ) (rows : List Row) (value : Value) (a b : RowId) → entity_of rows a.0 ≡ Some ent
+pub last_moves : (c : Rankings) (rel attr ent : ℕ) (rows : List Row) (value : Value) (a b : RowId) → entity_of rows a.0 ≡ Some ent
     → entity_of rows b.0 ≡ Some ent
     → field_value rows (Some a) attr ≡ Some value → field_value rows (Some b) attr ≡ Some value → IsLast c rel attr rows a
     → IsLast c rel attr rows b

@@ -95,7 +95,7 @@ label_true s c facts consistent is (label.Match disjunct entities values) clause
 
 -- ---- literals that are the clause have a true one
 
-found : {A : Type 0} (test : A → Bool) (xs : List A) → list_any test xs ≡ true → (x : A) × Contains xs x × (test x ≡ true)
+pub found : {A : Type 0} (test : A → Bool) (xs : List A) → list_any test xs ≡ true → (x : A) × Contains xs x × (test x ≡ true)
 found test [] e = absurd (false≢true e)
 found test (x ∷ xs) e =
     ⊎_elim

@@ -51,7 +51,7 @@ trimmed_are_numbered log goals trimmed in_place numbered t =
     let still = stays_in_place log goals trimmed t in_place in
     record {
       within = within (length trimmed.log.statements) trimmed.log.steps still.vars_in;
-      few_statements = still.few_statements;
+      few_statements = (let few = still.few_statements in omega arith);
       few_steps = still.few_steps;
       few_hints = still_few log goals trimmed t numbered.few_hints;
     }

@@ -13,9 +13,10 @@ use Rattle.spec_model.specs.Spec.{Spec}
 use Rattle.spec_bind.specs.Bound.{IsSpecBound as IsBound}
 use Rattle.bind_faults.specs.declared.fault.BindFault.{BindFault}
 use Rattle.currency_report.specs.Reads.{ReadsReport, RefusesReport, fault_of, said}
-use Rattle.currency_report.specs.declared.report.Part.{Part}
+use Rattle.report_model.specs.declared.report.Part.{Part}
 use Rattle.currency_report.specs.declared.report.ReadReport.{ReadReport}
-use Rattle.currency_report.specs.declared.report.Report.{Report}
+use Rattle.report_model.specs.declared.report.Report.{Report}
+use Rattle.report_model.specs.declared.verdict.Kind.{Kind}
 use Rattle.currency_report.specs.declared.report.ReportFault.{ReportFault}
 use Rattle.report_verify.specs.Shown.{ShowsVerdict, IsFirstUnshown}
 use Rattle.report_verify.specs.declared.fault.Unshown.{Unshown}
@@ -149,11 +150,11 @@ for_documents laws told d =
     then_one (IsReportRead told s.relations d.report) _ (report_one laws s.relations d.report (document told d.report))
     (judged_one laws s question d.report)))
 
-for_words : Laws → (told : List (List ℕ × List ℕ)) (o : Option Documents) (a b : Result (Unit {0}) Trouble)
+for_words : Laws → (told : List (List ℕ × List ℕ)) (o : Option Documents) (a b : Result Kind Trouble)
     → MatchOption o (a ≡ Err trouble.Words) (λ d. IsDueFor told d a) → MatchOption o (b ≡ Err trouble.Words) (λ d. IsDueFor told d b) → a ≡ b
 for_words laws told None a b h k = h ∙ sym k
 for_words laws told (Some d) a b h k = for_documents laws told d a b h k
 
-pub one_due : Laws → (told : List (List ℕ × List ℕ)) (words : List (List ℕ)) (a b : Result (Unit {0}) Trouble)
+pub one_due : Laws → (told : List (List ℕ × List ℕ)) (words : List (List ℕ)) (a b : Result Kind Trouble)
     → IsDue told words a → IsDue told words b → a ≡ b
 one_due laws told words a b h k = for_words laws told (documents_in words) a b h k

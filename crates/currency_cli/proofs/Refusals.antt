@@ -1,5 +1,6 @@
 -- A refusal is due.
 use Rattle.std.proofs.Common.{◌≡◌, ◌≢◌, ℕ, List, Option, Some, None, IfSome, Result, Ok, Err, inl, inr, refl, subst, arith}
+use Rattle.report_model.specs.declared.verdict.Kind.{Kind}
 use Rattle.currency_cli.specs.Due.{IsDue}
 use Rattle.currency_cli.specs.Ends.{EndsWith, IsRefusal, RefusalDue}
 use Rattle.currency_cli.specs.Named.{IsSettled}
@@ -20,13 +21,13 @@ its_own old new wb wn e status (inl h) refusal = h.0
 its_own old new wb wn e status (inr (inl h)) refusal = h.0
 its_own old new wb wn e status (inr (inr h)) refusal = absurd (other status 9 h.0 (omega arith) (omega arith) (omega arith) (omega arith) refusal)
 
-not_done : (old new : Option (List ℕ)) (wb wn : ℕ) (status : ℕ) → EndsWith old new wb wn (Ok tt) status → IsRefusal status → ⊥
-not_done old new wb wn status (inl h) refusal = other status 0 h.0 (omega arith) (omega arith) (omega arith) (omega arith) refusal
-not_done old new wb wn status (inr (inl h)) refusal = other status 8 h.0 (omega arith) (omega arith) (omega arith) (omega arith) refusal
-not_done old new wb wn status (inr (inr h)) refusal = other status 9 h.0 (omega arith) (omega arith) (omega arith) (omega arith) refusal
+not_done : (old new : Option (List ℕ)) (wb wn : ℕ) (kind : Kind) (status : ℕ) → EndsWith old new wb wn (Ok kind) status → IsRefusal status → ⊥
+not_done old new wb wn kind status (inl h) refusal = other status 0 h.0 (omega arith) (omega arith) (omega arith) (omega arith) refusal
+not_done old new wb wn kind status (inr (inl h)) refusal = other status 8 h.0 (omega arith) (omega arith) (omega arith) (omega arith) refusal
+not_done old new wb wn kind status (inr (inr h)) refusal = other status 9 h.0 (omega arith) (omega arith) (omega arith) (omega arith) refusal
 
 -- a trouble whose status is that of a refusal is settled
-is_settled : (e : Trouble) → IsRefusal (trouble_status e) → IsSettled {A = Unit {0}} (Err e)
+is_settled : (e : Trouble) → IsRefusal (trouble_status e) → IsSettled {A = Kind} (Err e)
 is_settled trouble.Words refusal = tt
 is_settled (trouble.Unshown c d l) refusal = tt
 is_settled (trouble.Refused c d l) refusal = tt
@@ -40,10 +41,10 @@ due_of : (texts : Option (List (List ℕ × List ℕ))) (words : List (List ℕ)
 due_of None words e status is due = tt
 due_of (Some told) words e status is due = (e, due, is)
 
-pub refused : (texts : Option (List (List ℕ × List ℕ))) (words : List (List ℕ)) (got : Result (Unit {0}) Trouble) (old new : Option (List ℕ)) (wb wn status : ℕ)
+pub refused : (texts : Option (List (List ℕ × List ℕ))) (words : List (List ℕ)) (got : Result Kind Trouble) (old new : Option (List ℕ)) (wb wn status : ℕ)
     → (IsSettled got → IfSome texts (λ told. IsDue told words got)) → EndsWith old new wb wn got status
     → IsRefusal status → IfSome texts (λ told. RefusalDue told words status)
-refused texts words (Ok done) old new wb wn status due ends refusal = absurd (not_done old new wb wn status ends refusal)
+refused texts words (Ok kind) old new wb wn status due ends refusal = absurd (not_done old new wb wn kind status ends refusal)
 refused texts words (Err e) old new wb wn status due ends refusal =
     let is = its_own old new wb wn e status ends refusal in
     due_of texts words e status is (due (is_settled e (subst IsRefusal is refusal)))

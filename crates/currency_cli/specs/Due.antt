@@ -19,16 +19,18 @@ use Rattle.bind_faults.specs.declared.fault.BindFault.{BindFault}
 use Rattle.bind_faults.specs.declared.fault.BindFault.TheVariants as bind
 use Rattle.currency_report.specs.Lines.{line_of}
 use Rattle.currency_report.specs.Reads.{ReadsReport, RefusesReport}
-use Rattle.currency_report.specs.declared.report.Part.{Part}
+use Rattle.report_model.specs.Verdicts.{kind_of}
+use Rattle.report_model.specs.declared.report.Part.{Part}
+use Rattle.report_model.specs.declared.verdict.Kind.{Kind}
 use Rattle.currency_report.specs.declared.report.ReadReport.{ReadReport}
 use Rattle.currency_report.specs.declared.report.ReportFault.{ReportFault}
 use Rattle.currency_report.specs.declared.report.ReportFault.TheVariants as report
 use Rattle.report_verify.specs.Shown.{ShowsVerdict, IsFirstUnshown}
 use Rattle.report_verify.specs.declared.fault.Unshown.{Unshown}
-use Rattle.report_verify.specs.declared.fault.Unshown.TheVariants.{BadCompletion, NotShown}
+use Rattle.report_verify.specs.declared.fault.Unshown.TheVariants.{BadCompletion, BadLog, NotShown}
 use Rattle.currency_cli.specs.Words.{Documents, documents_in}
 use Rattle.currency_cli.specs.declared.trouble.Check.{Check}
-use Rattle.currency_cli.specs.declared.trouble.Check.TheVariants.{V1, V3}
+use Rattle.currency_cli.specs.declared.trouble.Check.TheVariants.{V1, V2, V3}
 use Rattle.currency_cli.specs.declared.trouble.Trouble.{Trouble}
 use Rattle.currency_cli.specs.declared.trouble.Trouble.TheVariants as trouble
 
@@ -61,6 +63,7 @@ report_trouble name report.NoMemory = trouble.NoMemory
 -- which check a report fails
 abbrev pub check_of : Unshown → Check
 check_of (BadCompletion flaw) = V1
+check_of (BadLog fault) = V2
 check_of (NotShown missing) = V3
 
 -- ---- stages
@@ -118,22 +121,22 @@ IsReportSaid relations name bytes outcome =
 abbrev pub IsReportRead : List (List ℕ × List ℕ) → List Relation → List ℕ → Result ReadReport Trouble → Type 0
 IsReportRead told relations name = IsReportSaid relations name (document told name)
 
--- the job: the report shows its verdict, or the first check that it fails, with the line of the part
-abbrev pub IsJudged : Spec → Question → List ℕ → ReadReport → Result (Unit {0}) Trouble → Type 0
+-- the job: the report shows its verdict, whose kind is told, or the first check that it fails, with the line of the part
+abbrev pub IsJudged : Spec → Question → List ℕ → ReadReport → Result Kind Trouble → Type 0
 IsJudged s question name r outcome =
-    (ShowsVerdict s question r.report × (outcome ≡ Ok tt))
+    (ShowsVerdict s question r.report × (outcome ≡ Ok (kind_of r.report.verdict)))
     ⊎ ((part : Part) × (why : Unshown) × IsFirstUnshown s question r.report part why
     × (outcome ≡ Err (trouble.Unshown (check_of why) name (line_of r.lines part))))
 
 -- what is due for three documents
-abbrev pub IsDueFor : List (List ℕ × List ℕ) → Documents → Result (Unit {0}) Trouble → Type 0
+abbrev pub IsDueFor : List (List ℕ × List ℕ) → Documents → Result Kind Trouble → Type 0
 IsDueFor told d =
     Then (IsSpecRead told d.spec) (λ s.
     Then (IsQuestionRead told d.question) (λ question.
     Then (IsReportRead told s.relations d.report) (IsJudged s question d.report)))
 
 -- what is due for words
-abbrev pub IsDue : List (List ℕ × List ℕ) → List (List ℕ) → Result (Unit {0}) Trouble → Type 0
+abbrev pub IsDue : List (List ℕ × List ℕ) → List (List ℕ) → Result Kind Trouble → Type 0
 IsDue told words outcome = MatchOption (documents_in words) (outcome ≡ Err trouble.Words) (λ d. IsDueFor told d outcome)
 
 -- ---- documents

@@ -6,18 +6,21 @@ use Rattle.currency_base.specs.declared.error_code.ErrorCode.{ErrorCode}
 use Rattle.currency_base.specs.declared.error_code.ErrorCode.TheVariants as code
 use Rattle.currency_base.specs.declared.value.Value.{Value}
 use Rattle.text_write.specs.Spelling.{value_text}
+use Rattle.report_model.specs.Verdicts.{kind_text}
+use Rattle.report_model.specs.declared.verdict.Kind.{Kind}
 use Rattle.currency_cli.specs.declared.trouble.Check.{Check}
-use Rattle.currency_cli.specs.declared.trouble.Check.TheVariants.{V1, V3}
+use Rattle.currency_cli.specs.declared.trouble.Check.TheVariants.{V1, V2, V3}
 use Rattle.currency_cli.specs.declared.trouble.Trouble.{Trouble}
 use Rattle.currency_cli.specs.declared.trouble.Trouble.TheVariants.{Words, Unshown, Refused, CopyDiffers, Limit, ReadFault, NoMemory}
 
--- the line of a report that shows its verdict `consistent`
-abbrev pub accepted_text : List ℕ
-accepted_text = codes "accepted consistent\n"
+-- the line of a report that shows a verdict of this kind
+abbrev pub accepted_text : Kind → List ℕ
+accepted_text kind = codes "accepted " ++ kind_text kind ++ 10 ∷ []
 
 -- which check a report fails
 abbrev pub check_text : Check → List ℕ
 check_text V1 = codes "refused V1"
+check_text V2 = codes "refused V2"
 check_text V3 = codes "refused V3"
 
 -- which fault a document has

@@ -1,29 +1,30 @@
 ghost use Rattle.std.specs.Prelude.{◌≡◌, ◌≢◌, ◌⊎◌, ◌≤◌, ℕ, List, IfSome, None, Ok, Err, Result, map, string_bytes};
-ghost use Rattle.std.specs.Io.KnownBytes.{Appends};
 ghost use Rattle.currency_edge.specs.Fault.{Rose};
 ghost use Rattle.currency_edge.specs.Sink.{AppendsPrefix};
 ghost use Rattle.currency_cli.specs.Due.{IsDue, IsReadDue};
-ghost use Rattle.currency_cli.specs.Ends.{EndsWith, ComesTo, status_of, IsRefusal, RefusalDue, NamesConsistent, NamesUnread};
+ghost use Rattle.currency_cli.specs.Ends.{EndsWith, ComesTo, status_of, IsRefusal, RefusalDue, IsAccepted, NamesUnread};
 ghost use Rattle.currency_cli.specs.Named.{IsSettled, IsReadFault, IsReadFaultOf};
 ghost use Rattle.currency_cli.specs.Texts.{accepted_text, trouble_status};
 ghost use Rattle.currency_cli.specs.Words.{documents_in};
 ghost use Rattle.currency_cli.specs.declared.trouble.Trouble.{Trouble};
+ghost use Rattle.report_model.specs.declared.verdict.Kind.{Kind};
 
 use crate::Trouble;
 use crate::laws::one_due;
 use crate::stages::outcome;
-use crate::texts::text_of;
+use crate::texts::{accepted_line, text_of};
 use currency_edge::{Shelf, Sink, SinkFault, put_all};
+use report_model::Kind;
 use std::alloc::Global;
 
-// The line of a report that shows its verdict.
-const ACCEPTED: &str = "accepted consistent\n";
-
 // Writes the text of a job that was done.
-fn hand_out<K: Sink>(alloc: Global, out: &mut K) -> u8
-    ensures { EndsWith (K.written out.old) (K.written out.new) (K.faults out.old) (K.faults out.new) (Ok tt) result }
+fn hand_out<K: Sink>(alloc: Global, out: &mut K, kind: Kind) -> u8
+    ensures { EndsWith (K.written out.old) (K.written out.new) (K.faults out.old) (K.faults out.new) (Ok kind) result }
 {
-    match put_all(alloc, out, ACCEPTED.as_bytes()) {
+    let Ok(text) = accepted_line(alloc, kind) else {
+        return 9;
+    };
+    match put_all(alloc, out, text.as_slice()) {
         Ok(()) => 0,
         Err(SinkFault::Failed) => 8,
         Err(SinkFault::NoMemory) => 9,
@@ -64,7 +65,7 @@ fn refuse<K: Sink>(alloc: Global, out: &mut K, trouble: &Trouble) -> u8
 ///
 /// | status | comes |
 /// |---|---|
-/// | 0 | the report shows its verdict, so the specification has a consistent completion |
+/// | 0 | the report shows its verdict, which is right where it is a decided one |
 /// | 2 | the words are not a program's name, `verify` and three words |
 /// | 4 | the report does not show its verdict |
 /// | 5 | a document is refused |
@@ -74,19 +75,19 @@ fn refuse<K: Sink>(alloc: Global, out: &mut K, trouble: &Trouble) -> u8
 /// | 9 | want of memory |
 pub fn run<S: Shelf, K: Sink>(alloc: Global, words: &[String], shelf: &mut S, out: &mut K) -> u8
     // Whatever comes, it is what is due for the words and the told documents, with its text and status.
-    ensures ends { (outcome : Result (Unit {0}) Trouble)
+    ensures ends { (outcome : Result Kind Trouble)
         × (IsSettled outcome → IfSome (S.texts shelf.old) (λ told. IsDue told (map (λ w. string_bytes w) words.now) outcome))
         × (IsReadFault outcome → Rose (S.faults shelf.old) (S.faults shelf.new))
         × ((n : List ℕ) → IsReadFaultOf outcome n → IfSome (S.texts shelf.old) (λ told. IsReadDue told (map (λ w. string_bytes w) words.now) n))
         × EndsWith (K.written out.old) (K.written out.new) (K.faults out.old) (K.faults out.new) outcome result }
 
     // The other way round: where an outcome is due, the answer is its status, unless the outside fails.
-    ensures exact { (outcome : Result (Unit {0}) Trouble) → IfSome (S.texts shelf.old) (λ told.
+    ensures exact { (outcome : Result Kind Trouble) → IfSome (S.texts shelf.old) (λ told.
         IsDue told (map (λ w. string_bytes w) words.now) outcome
         → ComesTo outcome (S.faults shelf.old) (S.faults shelf.new) (K.faults out.old) (K.faults out.new) result) }
 
     ensures complete { (Rose (S.faults shelf.old) (S.faults shelf.new) → ⊥) → (Rose (K.faults out.old) (K.faults out.new) → ⊥)
-        → (outcome : Result (Unit {0}) Trouble) → IfSome (S.texts shelf.old) (λ told.
+        → (outcome : Result Kind Trouble) → IfSome (S.texts shelf.old) (λ told.
         IsDue told (map (λ w. string_bytes w) words.now) outcome → (result ≡ status_of outcome) ⊎ (result ≡ 9)) }
 
     // A refusal of the words, a document, a bound or the report is due.
@@ -97,21 +98,21 @@ pub fn run<S: Shelf, K: Sink>(alloc: Global, words: &[String], shelf: &mut S, ou
     ensures words { result ≡ 2 → documents_in (map (λ w. string_bytes w) words.now) ≡ None }
     ensures words_refused { documents_in (map (λ w. string_bytes w) words.now) ≡ None → (result ≡ 2) ⊎ (result ≡ 9) }
 
-    // The job was done.
-    ensures accepted { result ≡ 0 → IfSome (S.texts shelf.old) (λ told. IsDue told (map (λ w. string_bytes w) words.now) (Ok tt)) }
-    ensures consistent { result ≡ 0 → IfSome (S.texts shelf.old) (λ told. NamesConsistent told (map (λ w. string_bytes w) words.now)) }
-    ensures accepted_text { result ≡ 0 → Appends (K.written out.old) (K.written out.new) accepted_text }
+    // The job was done. No report whose decided verdict is wrong is accepted, whoever made it.
+    ensures accepted { result ≡ 0
+        → IsAccepted (S.texts shelf.old) (map (λ w. string_bytes w) words.now) (K.written out.old) (K.written out.new) }
 
     // Faults of the outside.
     ensures read_fault { result ≡ 7 → Rose (S.faults shelf.old) (S.faults shelf.new) }
     ensures read_fault_text { result ≡ 7
         → NamesUnread (S.texts shelf.old) (map (λ w. string_bytes w) words.now) (K.written out.old) (K.written out.new) }
     ensures write_fault { result ≡ 8 → Rose (K.faults out.old) (K.faults out.new) }
-    ensures write_fault_text { result ≡ 8 → AppendsPrefix (K.written out.old) (K.written out.new) accepted_text }
+    ensures write_fault_text { result ≡ 8
+        → (kind : Kind) × AppendsPrefix (K.written out.old) (K.written out.new) (accepted_text kind) }
 {
     one_due();
     match outcome(alloc, words, shelf) {
-        Ok(()) => hand_out(alloc, out),
+        Ok(kind) => hand_out(alloc, out, kind),
         Err(trouble) => refuse(alloc, out, &trouble),
     }
 }

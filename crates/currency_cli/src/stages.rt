@@ -1,7 +1,14 @@
-ghost use Rattle.std.specs.Prelude.{◌≡◌, ◌≢◌, ℕ, List, IfErr, None, ◌≤◌, ◌<◌, ◌^◌, ◌⊎◌, All, IfOk, IfSome, Ok, Err, length, map, string_bytes};
+ghost use Rattle.std.specs.Prelude.{◌≡◌, ◌≢◌, ℕ, true, List, IfErr, None, ◌≤◌, ◌<◌, ◌^◌, ◌⊎◌, All, IfOk, IfSome, OnOk, Ok, Err, length, map, string_bytes};
 ghost use Rattle.currency_edge.specs.Fault.{Rose};
+ghost use Rattle.currency_report.specs.Lines.{AreLinesOf};
+ghost use Rattle.log_checker.specs.Accepted.{IsNumbered};
+ghost use Rattle.report_model.specs.Verdicts.{is_decided, kind_of};
+ghost use Rattle.report_verify.specs.Right.{IsRight};
+ghost use Rattle.report_verify.specs.Shown.{ShowsVerdict};
 ghost use Rattle.spec_model.specs.Completion.{HasShape};
-ghost use Rattle.currency_cli.specs.Due.{IsSpecTree, IsSpecSaid, IsSpecRead, IsQuestionSaid, IsQuestionRead, IsReportSaid, IsReportRead, IsJudged, IsDueFor, IsDue, IsSaidTableDue, IsTableDue, IsDocumentDue, IsReadDue};
+ghost use Rattle.spec_model.specs.declared.question.Question.TheVariants as asked;
+ghost use Rattle.currency_cli.specs.Ends.{IsReportShown, IsShownRight, NamesShown};
+ghost use Rattle.currency_cli.specs.Due.{Then, IsSpecTree, IsSpecSaid, IsSpecRead, IsQuestionSaid, IsQuestionRead, IsReportSaid, IsReportRead, IsJudged, IsDueFor, IsDue, IsSaidTableDue, IsTableDue, IsDocumentDue, IsReadDue};
 ghost use Rattle.currency_cli.specs.Words.{documents_in};
 ghost use Rattle.currency_cli.specs.Named.{IsSettled, IsReadFault, IsReadFaultOf, documents_of};
 
@@ -11,6 +18,7 @@ use crate::troubles::{of_binding, of_report, of_text, of_unshown};
 use crate::words::{Documents, documents_in};
 use currency_edge::Shelf;
 use currency_report::{ReadReport, read_report};
+use report_model::Kind;
 use report_verify::{VerifyFault, verify};
 use spec_bind::bind_spec;
 use spec_model::{Question, Specification};
@@ -75,6 +83,7 @@ fn read_specification<S: Shelf>(
 // The question that a text says.
 fn question_said(alloc: Global, name: &str, bytes: &[u8]) -> Result<Question, Trouble>
     ensures said { IsSettled result → IsQuestionSaid name.now bytes.now result }
+    ensures consistent { IfOk result (λ q. q ≡ asked.Consistent) }
     ensures inside { IsReadFault result → ⊥ }
     ensures not_words { IfErr result (λ e. e ≢ Trouble.Words) }
 {
@@ -93,6 +102,7 @@ fn read_the_question<S: Shelf>(
     ensures kept { S.texts shelf.new ≡ S.texts shelf.old }
     ensures later { S.faults shelf.old ≤ S.faults shelf.new }
     ensures stage { IsSettled result → IfSome (S.texts shelf.old) (λ told. IsQuestionRead told name.now result) }
+    ensures consistent { IfOk result (λ q. q ≡ asked.Consistent) }
     ensures read_fault { IsReadFault result → Rose (S.faults shelf.old) (S.faults shelf.new) }
     ensures named { (n : List ℕ) → IsReadFaultOf result n → n ≡ name.now }
     ensures not_words { IfErr result (λ e. e ≢ Trouble.Words) }
@@ -112,7 +122,8 @@ fn report_said(
     ensures inside { IsReadFault result → ⊥ }
     ensures shape { IfOk result (λ r. All (HasShape spec.now.relations) r.report.completions) }
     ensures few { IfOk result (λ r. length r.report.completions < 2 ^ 32) }
-    ensures lines { IfOk result (λ r. length r.lines.completions ≡ length r.report.completions) }
+    ensures numbered { IfOk result (λ r. IsNumbered r.report.log.statements r.report.log.steps) }
+    ensures lines { IfOk result (λ r. AreLinesOf r.report r.lines) }
     ensures not_words { IfErr result (λ e. e ≢ Trouble.Words) }
 {
     match read_report(alloc, bytes, spec) {
@@ -134,7 +145,8 @@ fn read_the_report<S: Shelf>(
     ensures read_fault { IsReadFault result → Rose (S.faults shelf.old) (S.faults shelf.new) }
     ensures shape { IfOk result (λ r. All (HasShape spec.now.relations) r.report.completions) }
     ensures few { IfOk result (λ r. length r.report.completions < 2 ^ 32) }
-    ensures lines { IfOk result (λ r. length r.lines.completions ≡ length r.report.completions) }
+    ensures numbered { IfOk result (λ r. IsNumbered r.report.log.statements r.report.log.steps) }
+    ensures lines { IfOk result (λ r. AreLinesOf r.report r.lines) }
     ensures named { (n : List ℕ) → IsReadFaultOf result n → n ≡ name.now }
     ensures not_words { IfErr result (λ e. e ≢ Trouble.Words) }
 {
@@ -154,20 +166,48 @@ fn judge(
     spec: &Specification,
     question: &Question,
     read: &ReadReport,
-) -> Result<(), Trouble>
+) -> Result<Kind, Trouble>
+    requires consistent { question.now ≡ asked.Consistent }
     requires shape { All (HasShape spec.now.relations) read.now.report.completions }
     requires few { length read.now.report.completions < 2 ^ 32 }
-    requires lines { length read.now.lines.completions ≡ length read.now.report.completions }
+    requires numbered { IsNumbered read.now.report.log.statements read.now.report.log.steps }
+    requires lines { AreLinesOf read.now.report read.now.lines }
+    ensures kind { IfOk result (λ kind. kind ≡ kind_of read.now.report.verdict) }
+    ensures shown { OnOk result (ShowsVerdict spec.now question.now read.now.report) }
+    ensures right { IfOk result (λ kind. is_decided kind ≡ true → IsRight spec.now question.now read.now.report.verdict) }
     ensures job { IsSettled result → IsJudged spec.now question.now name.now read.now result }
     ensures inside { IsReadFault result → ⊥ }
     ensures not_words { IfErr result (λ e. e ≢ Trouble.Words) }
 {
     match verify(alloc, spec, question, &read.report) {
-        Ok(()) => Ok(()),
+        Ok(()) => Ok(read.report.verdict.kind()),
         Err(VerifyFault::Refused { part, why }) => {
             Err(of_unshown(alloc, name, why, read.lines.of(part)))
         }
         Err(VerifyFault::NoMemory) => Err(Trouble::NoMemory),
+    }
+}
+
+// The report and the job, once the specification and the question are read.
+fn judge_document<S: Shelf>(
+    alloc: Global,
+    shelf: &mut S,
+    name: &str,
+    spec: &Specification,
+    question: &Question,
+) -> Result<Kind, Trouble>
+    requires consistent { question.now ≡ asked.Consistent }
+    ensures later { S.faults shelf.old ≤ S.faults shelf.new }
+    ensures due { IsSettled result → IfSome (S.texts shelf.old) (λ told.
+        Then (IsReportRead told spec.now.relations name.now) (IsJudged spec.now question.now name.now) result) }
+    ensures right { IfOk result (λ kind. IfSome (S.texts shelf.old) (λ told. IsReportShown told spec.now question.now name.now kind)) }
+    ensures read_fault { IsReadFault result → Rose (S.faults shelf.old) (S.faults shelf.new) }
+    ensures named { (n : List ℕ) → IsReadFaultOf result n → n ≡ name.now }
+    ensures not_words { IfErr result (λ e. e ≢ Trouble.Words) }
+{
+    match read_the_report(alloc, shelf, name, spec) {
+        Ok(read) => judge(alloc, name, spec, question, &read),
+        Err(trouble) => Err(trouble),
     }
 }
 
@@ -176,25 +216,32 @@ fn verify_documents<S: Shelf>(
     alloc: Global,
     shelf: &mut S,
     documents: Documents<'_>,
-) -> Result<(), Trouble>
+) -> Result<Kind, Trouble>
     ensures later { S.faults shelf.old ≤ S.faults shelf.new }
     ensures due { IsSettled result → IfSome (S.texts shelf.old) (λ told. IsDueFor told (documents_of documents.entry) result) }
+    ensures right { IfOk result (λ kind. IfSome (S.texts shelf.old) (λ told. IsShownRight told (documents_of documents.entry) kind)) }
     ensures read_fault { IsReadFault result → Rose (S.faults shelf.old) (S.faults shelf.new) }
     ensures unread { (n : List ℕ) → IsReadFaultOf result n
         → IfSome (S.texts shelf.old) (λ told. IsDocumentDue told (documents_of documents.entry) n) }
     ensures not_words { IfErr result (λ e. e ≢ Trouble.Words) }
 {
-    let spec = read_specification(alloc, shelf, documents.spec)?;
-    let question = read_the_question(alloc, shelf, documents.question)?;
-    let read = read_the_report(alloc, shelf, documents.report, &spec)?;
-    judge(alloc, documents.report, &spec, &question, &read)
+    let spec = match read_specification(alloc, shelf, documents.spec) {
+        Ok(spec) => spec,
+        Err(trouble) => return Err(trouble),
+    };
+    let question = match read_the_question(alloc, shelf, documents.question) {
+        Ok(question) => question,
+        Err(trouble) => return Err(trouble),
+    };
+    judge_document(alloc, shelf, documents.report, &spec, &question)
 }
 
-/// What is due for the words, unless the outside fails or memory runs out: `Ok` where the report shows
-/// its verdict, else the first trouble.
-pub fn outcome<S: Shelf>(alloc: Global, words: &[String], shelf: &mut S) -> Result<(), Trouble>
+/// What is due for the words, unless the outside fails or memory runs out: where the report shows its
+/// verdict, the verdict's kind, else the first trouble.
+pub fn outcome<S: Shelf>(alloc: Global, words: &[String], shelf: &mut S) -> Result<Kind, Trouble>
     ensures later { S.faults shelf.old ≤ S.faults shelf.new }
     ensures due { IsSettled result → IfSome (S.texts shelf.old) (λ told. IsDue told (map (λ w. string_bytes w) words.now) result) }
+    ensures right { IfOk result (λ kind. IfSome (S.texts shelf.old) (λ told. NamesShown told (map (λ w. string_bytes w) words.now) kind)) }
     ensures read_fault { IsReadFault result → Rose (S.faults shelf.old) (S.faults shelf.new) }
     ensures unread { (n : List ℕ) → IsReadFaultOf result n
         → IfSome (S.texts shelf.old) (λ told. IsReadDue told (map (λ w. string_bytes w) words.now) n) }

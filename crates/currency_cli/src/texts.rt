@@ -1,8 +1,9 @@
 ghost use Rattle.std.specs.Prelude.{◌≡◌, IfOk, string_bytes};
-ghost use Rattle.currency_cli.specs.Texts.{check_text, error_text, document_front, document_text, difference_text, trouble_text};
+ghost use Rattle.currency_cli.specs.Texts.{accepted_text, check_text, error_text, document_front, document_text, difference_text, trouble_text};
 
 use crate::{Check, Trouble};
 use currency_base::{ByteList, ErrorCode, Name, NoMemory, Value};
+use report_model::Kind;
 use std::alloc::{AllocError, Global};
 use text_write::write_value;
 
@@ -13,6 +14,7 @@ impl Check {
     {
         match self {
             Check::V1 => "refused V1",
+            Check::V2 => "refused V2",
             Check::V3 => "refused V3",
         }
     }
@@ -104,6 +106,15 @@ fn unread_line(alloc: Global, document: &Name) -> Result<String, AllocError>
 {
     let document = document.text();
     format!(in alloc; "read fault {document}\n")
+}
+
+/// The line of a report that shows its verdict.
+pub fn accepted_line(alloc: Global, kind: Kind) -> Result<ByteList, NoMemory>
+    ensures { IfOk result (λ text. text ≡ accepted_text kind) }
+{
+    let kind = kind.text();
+    let text = format!(in alloc; "accepted {kind}\n")?;
+    Ok(bytes_of(text))
 }
 
 /// The line of a refusal. For want of memory it has no byte.

@@ -5,7 +5,9 @@ use currency_base::{ErrorCode, Name, Value};
 pub enum Check {
     /// A listed completion is not consistent.
     V1,
-    /// What is listed does not show the verdict.
+    /// The log is not accepted.
+    V2,
+    /// What is listed and derived does not show the verdict.
     V3,
 }
 

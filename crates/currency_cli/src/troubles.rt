@@ -123,6 +123,7 @@ pub fn of_unshown(alloc: Global, name: &str, why: Unshown, line: u32) -> Trouble
 {
     let check = match why {
         Unshown::BadCompletion(_) => Check::V1,
+        Unshown::BadLog(_) => Check::V2,
         Unshown::NotShown(_) => Check::V3,
     };
     match Name::from_bytes(alloc, name.as_bytes()) {

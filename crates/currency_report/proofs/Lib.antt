@@ -1,5 +1,6 @@
 mod Places
-mod Shapes
+mod Outcomes
 mod Rankings
 mod Listed
-mod Outcomes
+mod Joining
+mod Whole

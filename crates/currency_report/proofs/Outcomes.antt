@@ -1,76 +1,56 @@
--- What is known of a report that was read, and of one that was refused.
-use Rattle.std.proofs.Common.{◌≡◌, ◌∙◌, ◌<◌, ◌^◌, ◌≤◌, ◌+◌, ℕ, List, [], ◌∷◌, length, Result, Ok, Err, IfOk, IfErr, refl, sym, arith, inl, inr, ◌⊎◌}
-use Rattle.std.proofs.lemmas.List.{length-map}
-use Rattle.spec_model.specs.Completion.{Rankings}
-use Rattle.spec_model.specs.declared.relation.Relation.{Relation}
-use Rattle.report_syntax.specs.Spells.{SpellsReport, SpellsCompletions}
-use Rattle.report_syntax.specs.declared.tree.CompletionTree.{CompletionTree}
-use Rattle.report_syntax.specs.declared.tree.ReportTree.{ReportTree}
-use Rattle.text_grammar.specs.Texts.{ReadsText}
-use Rattle.text_tokens.specs.Lexeme.{Lexeme}
-use Rattle.currency_report.specs.Completed.{and_then, completed, all_completed}
-use Rattle.currency_report.specs.Reads.{report_of, said, RefusesReport}
-use Rattle.currency_report.specs.Steps.{IsDue}
-use Rattle.currency_report.specs.declared.report.ReadReport.{ReadReport}
+-- Outcomes of one part after another, up to the first refusal.
+use Rattle.std.proofs.Common.{◌≡◌, ◌∙◌, ◌<◌, ◌+◌, ℕ, List, [], ◌∷◌, ◌++◌, append_assoc, length, get_or, drop, drop-cons, add-one, Result, Ok, Err, refl, sym, arith}
+use Rattle.currency_report.specs.Outcomes.{and_then, IsDue}
 use Rattle.currency_report.specs.declared.report.ReportFault.{ReportFault}
 use Rattle.currency_report.specs.declared.report.ReportFault.TheVariants.{Refused, NoMemory}
 
--- as many completions as trees
-one_more : (first : Result Rankings ReportFault) (rest : Result (List Rankings) ReportFault) (n : ℕ) (cs : List Rankings)
-    → ((more : List Rankings) → rest ≡ Ok more → length more ≡ n)
-    → and_then first (λ c. and_then rest (λ more. Ok (c ∷ more))) ≡ Ok cs → length cs ≡ n + 1
-one_more (Err e) rest n cs h same = cc
-one_more (Ok c) (Err e) n cs h same = cc
-one_more (Ok c) (Ok more) n cs h same =
-    let is : ◌≡◌ {A = List Rankings} (c ∷ more) cs = cc in
+-- what is left at a place begins with the item there
+pub next_left : {A : Type 0} (xs : List A) (i : ℕ) (x : A) → i < length xs → x ≡ get_or xs i x → drop i xs ≡ x ∷ drop (i + 1) xs
+next_left xs i x below is = rw (add-one, drop-cons xs i x, ← is) refl
+
+-- what is due in other words is due
+pub due_is : {A : Type 0} (due other : Result A ReportFault) (outcome : Result A ReportFault) → due ≡ other → IsDue due outcome → IsDue other outcome
+due_is due other (Ok a) same h = rw (← same) h
+due_is due other (Err (Refused code line)) same h = rw (← same) h
+due_is due other (Err NoMemory) same h = tt
+
+pub regroup : {A : Type 0} (front : List A) (x : A) (rest : Result (List A) ReportFault)
+    → and_then rest (λ more. Ok ((front ++ x ∷ []) ++ more)) ≡ and_then (and_then rest (λ more. Ok (x ∷ more))) (λ more. Ok (front ++ more))
+regroup front x (Ok more) = rw append_assoc refl
+regroup front x (Err fault) = refl
+
+one_longer : {A : Type 0} (first : Result A ReportFault) (rest : Result (List A) ReportFault) (n : ℕ) (ys : List A)
+    → ((more : List A) → rest ≡ Ok more → length more ≡ n) → and_then first (λ y. and_then rest (λ more. Ok (y ∷ more))) ≡ Ok ys → length ys ≡ n + 1
+one_longer (Err e) rest n ys h same = cc
+one_longer (Ok y) (Err e) n ys h same = cc
+one_longer {A} (Ok y) (Ok more) n ys h same =
+    let is : ◌≡◌ {A = List A} (y ∷ more) ys = cc in
     let e = h more refl in
     rw (← is) (omega (arith, e))
 
-all_lengths : (relations : List Relation) (ts : List CompletionTree) (cs : List Rankings) → all_completed relations ts ≡ Ok cs → length cs ≡ length ts
-all_lengths relations [] cs h = let is : ◌≡◌ {A = List Rankings} [] cs = cc in rw (← is) refl
-all_lengths relations (t ∷ ts) cs h =
-    let e = one_more (completed relations t) (all_completed relations ts) (length ts) cs (λ more. all_lengths relations ts more) h in
-    omega (arith, e)
+-- the items of a list, each with its outcome, up to the first refusal
+module _ {A B : Type 0} (one : A → Result B ReportFault) (all : List A → Result (List B) ReportFault)
+    (step : (x : A) (xs : List A) → all (x ∷ xs) ≡ and_then (one x) (λ y. and_then (all xs) (λ ys. Ok (y ∷ ys)))) where
+  -- the item at a place comes behind those before it
+  pub one_more : (xs : List A) (i : ℕ) (x : A) (front now : List B) (y : B) → i < length xs → x ≡ get_or xs i x
+      → and_then (all (drop i xs)) (λ more. Ok (front ++ more)) ≡ all xs → one x ≡ Ok y → now ≡ front ++ y ∷ []
+      → and_then (all (drop (i + 1) xs)) (λ more. Ok (now ++ more)) ≡ all xs
+  one_more xs i x front now y below is so_far due put =
+      let next = rw (next_left xs i x below is, step x (drop (i + 1) xs), due) at so_far in
+      rw put (regroup front y (all (drop (i + 1) xs)) ∙ next)
 
--- a report is that of a tree with its completions
-report_is : (t : ReportTree) (due : Result (List Rankings) ReportFault) (r : ReadReport) → and_then due (λ cs. Ok (report_of t cs)) ≡ Ok r
-    → (cs : List Rankings) × (due ≡ Ok cs) × (report_of t cs ≡ r)
-report_is t (Err e) r h = cc
-report_is t (Ok cs) r h = (cs, refl, cc)
+  -- ... or is refused
+  pub ends : (xs : List A) (i : ℕ) (x : A) (front : List B) (fault : ReportFault) → i < length xs → x ≡ get_or xs i x
+      → and_then (all (drop i xs)) (λ more. Ok (front ++ more)) ≡ all xs → IsDue (one x) (Err fault) → IsDue (all xs) (Err fault)
+  ends xs i x front (Refused code line) below is so_far due =
+      rw (← so_far, next_left xs i x below is, step x (drop (i + 1) xs), due) refl
+  ends xs i x front NoMemory below is so_far due = tt
 
-listed : (relations : List Relation) (t : ReportTree) (r : ReadReport) → said relations t ≡ Ok r → length r.report.completions ≡ length t.completions
-unfolding said
-listed relations t r h =
-    let is = report_is t (all_completed relations t.completions) r h in
-    rw (← is.2) (all_lengths relations t.completions is.0 is.1)
-
-lined : (relations : List Relation) (t : ReportTree) (r : ReadReport) → said relations t ≡ Ok r → length r.lines.completions ≡ length t.completions
-unfolding said
-lined relations t r h =
-    let is = report_is t (all_completed relations t.completions) r h in
-    rw (← is.2, length-map) refl
-
--- the grammar has at most one completion
-at_most_one : (ts : List CompletionTree) (tokens : List Lexeme) → SpellsCompletions ts tokens → length ts ≤ 1
-at_most_one [] tokens h = omega arith
-at_most_one (t ∷ []) tokens h = omega arith
-at_most_one (t ∷ u ∷ ts) tokens h = absurd h
-
-pub few : (relations : List Relation) (source : List ℕ) (t : ReportTree) (result : Result ReadReport ReportFault)
-    → ReadsText SpellsReport source t → IsDue (said relations t) result → IfOk result (λ r. length r.report.completions < 2 ^ 32)
-few relations source t (Ok r) text due =
-    let one = at_most_one t.completions _ text.spelled.second.second.second.second.second.first in
-    omega (arith, one, listed relations t r due)
-few relations source t (Err e) text due = tt
-
-pub lines : (relations : List Relation) (t : ReportTree) (result : Result ReadReport ReportFault)
-    → IsDue (said relations t) result → IfOk result (λ r. length r.lines.completions ≡ length r.report.completions)
-lines relations t (Ok r) due = lined relations t r due ∙ sym (listed relations t r due)
-lines relations t (Err e) due = tt
-
-pub refused : (relations : List Relation) (source : List ℕ) (t : ReportTree) (result : Result ReadReport ReportFault)
-    → ReadsText SpellsReport source t → IsDue (said relations t) result
-    → IfErr result (λ e. (e ≡ NoMemory) ⊎ RefusesReport relations source e)
-refused relations source t (Ok r) text due = tt
-refused relations source t (Err (Refused code line)) text due = inr (inr record { tree = t; spelled = text; refuses = due })
-refused relations source t (Err NoMemory) text due = inl refl
+  -- where none is refused, there are as many outcomes as items
+  pub same_length : all [] ≡ Ok [] → (xs : List A) (ys : List B) → all xs ≡ Ok ys → length ys ≡ length xs
+  same_length none [] ys h =
+      let is : ◌≡◌ {A = List B} [] ys = (let both : ◌≡◌ {A = Result (List B) ReportFault} (Ok []) (Ok ys) = sym none ∙ h in cc) in
+      rw (← is) refl
+  same_length none (x ∷ xs) ys h =
+      let e = one_longer (one x) (all xs) (length xs) ys (λ more. same_length none xs more) (sym (step x xs) ∙ h) in
+      omega (arith, e)

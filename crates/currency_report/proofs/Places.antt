@@ -1,5 +1,5 @@
--- The place that a ranking names, found by the names of a specification's parts.
-use Rattle.std.proofs.Common.{◌≡◌, ◌∙◌, ◌<◌, ◌^◌, ℕ, List, [], map, length, Option, Some, None, slice_get, option_map, refl, sym, ap, subst, arith}
+-- The places that names name, found by the names of a specification's parts.
+use Rattle.std.proofs.Common.{◌≡◌, ◌∙◌, ◌<◌, ◌^◌, ℕ, List, [], ◌∷◌, map, length, Option, Some, None, slice_get, option_map, refl, sym, ap, subst, arith}
 use Rattle.std.proofs.lemmas.List.{length-map}
 use Rattle.std.proofs.lemmas.List.Elements.{All-get_or}
 use Rattle.std.proofs.lemmas.List.Quantifiers.{position-Some}
@@ -11,9 +11,9 @@ use Rattle.spec_model.specs.declared.relation.Relation.{Relation}
 use Rattle.spec_names.specs.NameLists.{NameLists}
 use Rattle.spec_names.specs.Names.{names_of, all_names_of, place_of}
 use Rattle.spec_names.specs.declared.names.RelationNames.{RelationNames}
-use Rattle.report_syntax.specs.declared.tree.RankingTree.{RankingTree}
-use Rattle.currency_report.specs.Steps.{IsPlaceOf}
-use Rattle.currency_report.specs.declared.place.PlaceIds.{PlaceIds}
+use Rattle.text_grammar.specs.declared.named.Named.{Named}
+use Rattle.currency_report.specs.Ids.{IsAttrOf, IsEntityOf, IsPlaceOf, row_among, rows_among}
+use Rattle.currency_report.specs.Places.{row_named, rows_named}
 
 -- what a mapped option is of
 mapped_from : {A B : Type 0} (f : A → B) (o : Option A) (y : B) → option_map f o ≡ Some y → (x : A) × (o ≡ Some x) × (y ≡ f x)
@@ -70,39 +70,76 @@ entity_fits s names rel parts is same at name i found =
     let few = few_names s names rel parts is same at in
     omega (arith, few.entities, place_within parts.entities name i found)
 
--- the place of three names that are found
-is_place_in : (relations : List Relation) (t : RankingTree) (rel attr ent : ℕ) (r : Relation)
-    → place_of (map (λ q. q.name) relations) t.relation.name ≡ Some rel → slice_get relations rel ≡ Some r
-    → place_of (map (λ a. a.name) r.attrs) t.attr.name ≡ Some attr → place_of r.entities t.entity.name ≡ Some ent
-    → IsPlaceOf relations t record { rel = record { 0 = rel }; attr = record { 0 = attr }; ent = record { 0 = ent } }
-is_place_in relations t rel attr ent r of_relation at of_attr of_entity = record {
-  relation = r;
-  found = at;
-  named = rw (of_relation, at, of_attr, of_entity) refl;
-  attr_within = rw length-map at (place_within (map (λ a. a.name) r.attrs) t.attr.name attr (sym of_attr));
-  ent_within = place_within r.entities t.entity.name ent (sym of_entity);
-}
+-- ---- what is found by names
 
-pub is_place : (s : Spec) (names : NameLists) (t : RankingTree) (rel attr ent : ℕ) (parts : RelationNames)
-    → names ≡ all_names_of s → slice_get names.each rel ≡ Some parts → Some rel ≡ place_of names.relations t.relation.name
-    → Some attr ≡ place_of parts.attrs t.attr.name → Some ent ≡ place_of parts.entities t.entity.name
-    → IsPlaceOf s.relations t record { rel = record { 0 = rel }; attr = record { 0 = attr }; ent = record { 0 = ent } }
-is_place s names t rel attr ent parts same at of_relation of_attr of_entity =
+pub is_attr : (s : Spec) (names : NameLists) (relation attr : Named) (rel a : ℕ) (parts : RelationNames) → names ≡ all_names_of s
+    → slice_get names.each rel ≡ Some parts → Some rel ≡ place_of names.relations relation.name → Some a ≡ place_of parts.attrs attr.name
+    → IsAttrOf s.relations relation attr record { rel = record { 0 = rel }; attr = record { 0 = a } }
+is_attr s names relation attr rel a parts same at of_relation of_attr =
     let found = named_relation s.relations rel parts (rw same at at) in
-    is_place_in s.relations t rel attr ent found.0 (sym (rw same at of_relation)) found.1 (sym (rw found.2 at of_attr)) (sym (rw found.2 at of_entity))
+    let relation_is = sym (rw same at of_relation) in
+    let attr_is = sym (rw found.2 at of_attr) in
+    record {
+      of = found.0;
+      found = found.1;
+      is_named = rw (relation_is, found.1, attr_is) refl;
+      attr_within = rw length-map at (place_within (map (λ a. a.name) found.0.attrs) attr.name a (sym attr_is));
+    }
 
--- the names of the relation of a place
-parts_are : (s : Spec) (names : NameLists) (t : RankingTree) (p : PlaceIds) (parts : RelationNames) → names ≡ all_names_of s
-    → (h : IsPlaceOf s.relations t p) → slice_get names.each p.rel.0 ≡ Some parts → parts ≡ names_of h.relation
-parts_are s names t p parts same h at =
-    let there : ◌≡◌ (Some parts) (Some (names_of h.relation)) =
-    sym (rw same at at) ∙ slice_get-map names_of s.relations p.rel.0 ∙ ap (option_map names_of) h.found in
+pub is_entity : (s : Spec) (names : NameLists) (relation entity : Named) (rel ent : ℕ) (parts : RelationNames) → names ≡ all_names_of s
+    → slice_get names.each rel ≡ Some parts → Some rel ≡ place_of names.relations relation.name → Some ent ≡ place_of parts.entities entity.name
+    → IsEntityOf s.relations relation entity record { rel = record { 0 = rel }; ent = record { 0 = ent } }
+is_entity s names relation entity rel ent parts same at of_relation of_entity =
+    let found = named_relation s.relations rel parts (rw same at at) in
+    let relation_is = sym (rw same at of_relation) in
+    let entity_is = sym (rw found.2 at of_entity) in
+    record {
+      of = found.0;
+      found = found.1;
+      is_named = rw (relation_is, found.1, entity_is) refl;
+      ent_within = place_within found.0.entities entity.name ent (sym entity_is);
+    }
+
+pub is_place : (s : Spec) (names : NameLists) (relation attr entity : Named) (rel a ent : ℕ) (parts : RelationNames) → names ≡ all_names_of s
+    → slice_get names.each rel ≡ Some parts → Some rel ≡ place_of names.relations relation.name → Some a ≡ place_of parts.attrs attr.name
+    → Some ent ≡ place_of parts.entities entity.name
+    → IsPlaceOf s.relations relation attr entity record { rel = record { 0 = rel }; attr = record { 0 = a }; ent = record { 0 = ent } }
+is_place s names relation attr entity rel a ent parts same at of_relation of_attr of_entity =
+    let found = named_relation s.relations rel parts (rw same at at) in
+    let relation_is = sym (rw same at of_relation) in
+    let attr_is = sym (rw found.2 at of_attr) in
+    let entity_is = sym (rw found.2 at of_entity) in
+    record {
+      of = found.0;
+      found = found.1;
+      is_named = rw (relation_is, found.1, attr_is, entity_is) refl;
+      attr_within = rw length-map at (place_within (map (λ a. a.name) found.0.attrs) attr.name a (sym attr_is));
+      ent_within = place_within found.0.entities entity.name ent (sym entity_is);
+    }
+
+-- ---- the names of a relation that is found
+
+-- the names of the relation at a place
+parts_are : (s : Spec) (names : NameLists) (rel : ℕ) (r : Relation) (parts : RelationNames) → names ≡ all_names_of s
+    → slice_get s.relations rel ≡ Some r → slice_get names.each rel ≡ Some parts → parts ≡ names_of r
+parts_are s names rel r parts same found at =
+    let there : ◌≡◌ (Some parts) (Some (names_of r)) =
+    sym (rw same at at) ∙ slice_get-map names_of s.relations rel ∙ ap (option_map names_of) found in
     cc
 
-pub row_names : (s : Spec) (names : NameLists) (t : RankingTree) (p : PlaceIds) (parts : RelationNames) → names ≡ all_names_of s
-    → (h : IsPlaceOf s.relations t p) → slice_get names.each p.rel.0 ≡ Some parts → parts.rows ≡ map (λ row. row.name) h.relation.rows
-row_names s names t p parts same h at = ap (λ q. q.rows) (parts_are s names t p parts same h at)
+pub rel_within_names : (s : Spec) (names : NameLists) (rel : ℕ) (r : Relation) → names ≡ all_names_of s → slice_get s.relations rel ≡ Some r
+    → rel < length names.each
+rel_within_names s names rel r same found = rw (same, length-map) (slice_get_within s.relations rel r found)
 
-pub rel_within_names : (s : Spec) (names : NameLists) (t : RankingTree) (p : PlaceIds) → names ≡ all_names_of s
-    → IsPlaceOf s.relations t p → p.rel.0 < length names.each
-rel_within_names s names t p same h = rw (same, length-map) (slice_get_within s.relations p.rel.0 h.relation h.found)
+-- the rows of names, by the relation's rows and by their names
+rows_alike : (r : Relation) (ns : List Named) → rows_named r ns ≡ rows_among (map (λ row. row.name) r.rows) ns
+rows_alike r [] = refl
+rows_alike r (n ∷ ns) = rw (rows_alike r ns) refl
+
+pub row_in : (s : Spec) (names : NameLists) (rel : ℕ) (r : Relation) (parts : RelationNames) → names ≡ all_names_of s
+    → slice_get s.relations rel ≡ Some r → slice_get names.each rel ≡ Some parts → (n : Named) → row_among parts.rows n ≡ row_named r n
+row_in s names rel r parts same found at n = rw (parts_are s names rel r parts same found at) refl
+
+pub rows_in : (s : Spec) (names : NameLists) (rel : ℕ) (r : Relation) (parts : RelationNames) → names ≡ all_names_of s
+    → slice_get s.relations rel ≡ Some r → slice_get names.each rel ≡ Some parts → (ns : List Named) → rows_among parts.rows ns ≡ rows_named r ns
+rows_in s names rel r parts same found at ns = rw (parts_are s names rel r parts same found at, rows_alike r ns) refl

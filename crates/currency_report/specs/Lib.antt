@@ -1,4 +1,9 @@
 pub mod Lines
+pub mod Outcomes
+pub mod Places
+pub mod Ids
+pub mod Claimed
 pub mod Completed
-pub mod Steps
+pub mod Following
 pub mod Reads
+pub mod Parts

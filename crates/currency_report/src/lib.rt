@@ -1,12 +1,15 @@
-//! Reports: what is claimed of a specification, and what shows it.
+//! The reading of reports: the text of a report, and the report that it says of a specification.
 #![tactic(auto)]
 
+mod claim;
 mod complete;
+mod lines;
+mod log;
 mod place;
 mod rank;
 mod read;
 mod report;
-mod rows;
+mod said;
 
 pub use read::read_report;
-pub use report::{CompletionList, LineList, Lines, Part, ReadReport, Report, ReportFault, Verdict};
+pub use report::{Lines, ReadReport, ReportFault};

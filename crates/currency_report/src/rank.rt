@@ -2,18 +2,17 @@ ghost use Rattle.std.specs.Prelude.{◌≡◌};
 ghost use Rattle.spec_model.specs.Completion.{HasShape};
 ghost use Rattle.spec_names.specs.Names.{all_names_of};
 ghost use Rattle.currency_report.specs.Completed.{ranked_with, ranked_by, refused_at};
-ghost use Rattle.currency_report.specs.Steps.{Steps};
+ghost use Rattle.currency_report.specs.Outcomes.{Steps};
 
 use crate::ReportFault;
-use crate::place::place_named;
-use crate::rows::rows_named;
+use crate::place::{place_named, rows_named};
 use currency_base::ErrorCode;
 use report_syntax::RankingTree;
-use spec_model::{Completion, Specification};
+use spec_model::{Completion, Specification, set_keeps_shape};
 use spec_names::SpecNames;
 use std::alloc::Global;
 
-/// The refusal of a ranking.
+// The refusal of a ranking.
 fn refused_at(code: ErrorCode, ranking: &RankingTree) -> ReportFault
     ensures { result ≡ refused_at code ranking.now }
 {
@@ -23,7 +22,7 @@ fn refused_at(code: ErrorCode, ranking: &RankingTree) -> ReportFault
     }
 }
 
-/// Lists the rows of a ranking at its place, which has no row yet.
+// Lists the rows of a ranking at its place, which has no row yet.
 fn rank(
     alloc: Global,
     spec: &Specification,
@@ -38,7 +37,13 @@ fn rank(
 {
     // A specification's ids fit 32 bits: that is what this call tells.
     let _relations = spec.relations();
-    let Some(place) = place_named(spec, names, ranking) else {
+    let Some(place) = place_named(
+        spec,
+        names,
+        &ranking.relation,
+        &ranking.attr,
+        &ranking.entity,
+    ) else {
         return Err(refused_at(ErrorCode::UnknownName, ranking));
     };
     let listed = completion.ranking(place.rel, place.attr, place.ent);
@@ -49,11 +54,12 @@ fn rank(
     let Some(rows) = rows_named(alloc, &parts.rows, ranking.rows.as_slice())? else {
         return Err(refused_at(ErrorCode::UnknownRow, ranking));
     };
+    set_keeps_shape();
     completion.set(place.rel, place.attr, place.ent, rows);
     Ok(())
 }
 
-/// The same for each of these rankings, in their order; the first that is refused ends it.
+/// Lists the rows of each of these rankings at its place; the first that is refused ends it.
 pub fn rank_all(
     alloc: Global,
     spec: &Specification,

@@ -1,17 +1,25 @@
-ghost use Rattle.std.specs.Prelude.{◌≡◌, ◌<◌, ◌^◌, ◌⊎◌, All, IfOk, IfErr, length};
+ghost use Rattle.std.specs.Prelude.{◌≡◌, ◌<◌, ◌^◌, ◌⊎◌, None, All, IfOk, IfErr, length};
+ghost use Rattle.log_checker.specs.Accepted.{IsNumbered};
+ghost use Rattle.log_form.specs.Form.{first_fault};
 ghost use Rattle.spec_model.specs.Completion.{HasShape};
-ghost use Rattle.currency_report.specs.Steps.{IsDue};
-ghost use Rattle.currency_report.specs.Reads.{ReadsReport, RefusesReport, said, verdict_of, verdict_line};
+ghost use Rattle.currency_report.specs.Lines.{AreLinesOf};
+ghost use Rattle.currency_report.specs.Reads.{ReadsReport, RefusesReport};
 
-use crate::complete::{all_completed, lines_of};
-use crate::{Lines, ReadReport, Report, ReportFault, Verdict};
-use report_syntax::{ReportTree, VerdictTree, read_report_tree};
+use crate::said::report_said;
+use crate::{ReadReport, ReportFault};
+use log_form::literals_are_of_statements;
+use report_syntax::read_report_tree;
 use spec_model::Specification;
-use spec_names::SpecNames;
 use std::alloc::Global;
 
-/// The report on a specification that a text says. A place that a completion does not rank has the
-/// empty list.
+/// The report on a specification that a text says, of version 1 or 2. A place that a completion does not rank
+/// has the empty list; in a later completion of version 2 it has the first completion's. Takes time in
+/// proportion to the text, and to the specification for each completion.
+///
+/// Refused are E01 and E02 where the text is none of the grammar, and then, by the first clause at fault, E03 where
+/// a name or a literal's statement is not there, E04 where a completion ranks a place twice or a statement is
+/// not above the one before it, E05 where the row of a `last` is not the first of its entity with its value,
+/// E10 where a row is not there, and E11 where the rows of a `before` are of two entities or not in order.
 pub fn read_report(
     alloc: Global,
     source: &[u8],
@@ -20,50 +28,15 @@ pub fn read_report(
     ensures read { IfOk result (ReadsReport spec.now.relations source.now) }
     ensures shape { IfOk result (λ r. All (HasShape spec.now.relations) r.report.completions) }
     ensures few { IfOk result (λ r. length r.report.completions < 2 ^ 32) }
-    ensures lines { IfOk result (λ r. length r.lines.completions ≡ length r.report.completions) }
+    ensures numbered { IfOk result (λ r. IsNumbered r.report.log.statements r.report.log.steps) }
+    ensures well_formed { IfOk result (λ r. first_fault spec.now.relations r.report.log ≡ None) }
+    ensures lines { IfOk result (λ r. AreLinesOf r.report r.lines) }
     ensures refused { IfErr result (λ e. (e ≡ ReportFault.NoMemory) ⊎ RefusesReport spec.now.relations source.now e) }
 {
+    // That a log's literals are numbered by its statements is what this law tells.
+    literals_are_of_statements();
     match read_report_tree(alloc, source) {
-        Ok(tree) => report_said(alloc, spec, &tree),
+        Ok(tree) => report_said(alloc, spec, tree),
         Err(fault) => Err(ReportFault::from(fault)),
-    }
-}
-
-/// The report on a specification that a tree says.
-#[tactic(auto, unfolding(crate::specs::Reads::said))]
-fn report_said(
-    alloc: Global,
-    spec: &Specification,
-    tree: &ReportTree,
-) -> Result<ReadReport, ReportFault>
-    ensures due { IsDue (said spec.now.relations tree.now) result }
-    ensures shape { IfOk result (λ r. All (HasShape spec.now.relations) r.report.completions) }
-{
-    let names = SpecNames::of(alloc, spec)?;
-    let completions = match all_completed(alloc, spec, &names, tree.completions.as_slice()) {
-        Ok(completions) => completions,
-        Err(fault) => return Err(fault),
-    };
-    let begins = lines_of(alloc, tree.completions.as_slice())?;
-    let (verdict, line) = verdict_of(tree.verdict);
-    Ok(ReadReport {
-        report: Report {
-            verdict,
-            completions,
-        },
-        lines: Lines {
-            verdict: line,
-            completions: begins,
-        },
-    })
-}
-
-/// The verdict of a tree, and its line.
-fn verdict_of(tree: VerdictTree) -> (Verdict, u32)
-    ensures verdict { result.0 ≡ verdict_of tree }
-    ensures line { result.1 ≡ verdict_line tree }
-{
-    match tree {
-        VerdictTree::Consistent { line } => (Verdict::Consistent, line),
     }
 }

@@ -1,43 +1,19 @@
 ghost use Rattle.std.specs.Prelude.{◌≡◌};
 ghost use Rattle.currency_report.specs.Lines.{HasPart, line_of};
 
-use currency_base::{ErrorCode, ItemList, NoMemory};
-use spec_model::Completion;
+use currency_base::{ErrorCode, NoMemory};
+use report_model::{Part, Report};
+use report_syntax::LineList;
 use text_tokens::TextFault;
 
-/// What a report claims.
-#[derive(Clone, Copy, Debug, PartialEq, Eq)]
-pub enum Verdict {
-    /// The specification is consistent.
-    Consistent,
-}
-
-/// Completions, in the order of the text.
-pub type CompletionList = ItemList<Completion>;
-
-/// A verdict and the completions that are listed for it.
-#[derive(Debug, Drop)]
-pub struct Report {
-    pub verdict: Verdict,
-    pub completions: CompletionList,
-}
-
-/// A part of a report, as a refusal names it.
-#[derive(Clone, Copy, Debug, PartialEq, Eq)]
-pub enum Part {
-    Verdict,
-    /// A listed completion, by its place, counted from 0.
-    Completion(u32),
-}
-
-/// Lines of a text, counted from 1.
-pub type LineList = ItemList<u32>;
-
-/// The lines on which the parts of a report begin.
+/// The lines on which the parts of a report begin: the verdict, its items, the completions and the steps of
+/// the log, in order.
 #[derive(Debug, Drop)]
 pub struct Lines {
     pub verdict: u32,
+    pub items: LineList,
     pub completions: LineList,
+    pub steps: LineList,
 }
 
 impl Lines {
@@ -48,7 +24,9 @@ impl Lines {
     {
         match part {
             Part::Verdict => self.verdict,
+            Part::Item(place) => *self.items.get(place as usize),
             Part::Completion(place) => *self.completions.get(place as usize),
+            Part::Step(place) => *self.steps.get(place as usize),
         }
     }
 }

@@ -50,11 +50,11 @@ module _ (n : ℕ) where
 pub numbered_by_test : (statements : List Statement) (steps : List Step) → is_numbered statements steps ≡ true → IsNumbered statements steps
 numbered_by_test statements steps e =
     let n = length statements in
-    let all = both (nat_lt n (2 ^ 31) && nat_lt (length steps) (2 ^ 32)) (list_all (is_numbered_step n) steps) e in
-    let few = both (nat_lt n (2 ^ 31)) (nat_lt (length steps) (2 ^ 32)) all.0 in
+    let all = both (nat_lt n (2 ^ 32) && nat_lt (length steps) (2 ^ 32)) (list_all (is_numbered_step n) steps) e in
+    let few = both (nat_lt n (2 ^ 32)) (nat_lt (length steps) (2 ^ 32)) all.0 in
     record {
       within = each (is_numbered_step n) (λ step. All (λ lit. var_of lit < n) (clause_of step)) (lits_within n) steps all.1;
-      few_statements = ltb-true n (2 ^ 31) few.0;
+      few_statements = ltb-true n (2 ^ 32) few.0;
       few_steps = ltb-true (length steps) (2 ^ 32) few.1;
       few_hints = each (is_numbered_step n) HasFewHints (few_hints n) steps all.1;
     }

@@ -65,6 +65,6 @@ HasFewHints (Learn lits hints counted) = length hints < 2 ^ 32
 -- the literals are of the log's statements, and there are no more steps, statements and hints than numbers for them
 pub record IsNumbered (statements : List Statement) (steps : List Step) : Type 0 where
   pub within : AreWithin (length statements) steps
-  pub few_statements : length statements < 2 ^ 31
+  pub few_statements : length statements < 2 ^ 32
   pub few_steps : length steps < 2 ^ 32
   pub few_hints : All HasFewHints steps

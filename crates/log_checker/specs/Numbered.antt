@@ -20,4 +20,4 @@ is_numbered_step statements (Learn lits hints counted) = are_within statements l
 -- a log can be checked
 abbrev pub is_numbered : List Statement → List Step → Bool
 is_numbered statements steps =
-    nat_lt (length statements) (2 ^ 31) && nat_lt (length steps) (2 ^ 32) && list_all (is_numbered_step (length statements)) steps
+    nat_lt (length statements) (2 ^ 32) && nat_lt (length steps) (2 ^ 32) && list_all (is_numbered_step (length statements)) steps

@@ -44,7 +44,7 @@ impl Checked {
 
     // Nothing is shown yet, with room for the literals of so many variables.
     pub(crate) fn new(alloc: Global, vars: usize) -> Result<Checked, NoMemory>
-        requires { vars < 2 ^ 31 }
+        requires { vars < 2 ^ 32 }
         ensures { IfOk result (λ c. c ≡ record { units = replicate (2 * vars) false; empty = false }) }
     {
         let mut units = Vec::new(alloc);

@@ -6,7 +6,7 @@ ghost use Rattle.log_checker.specs.Numbered.{are_within, is_numbered_step, is_nu
 use currency_base::Lit;
 use refutation_log::{Log, StepRef};
 
-/// Can the log be checked: are its literals of its statements, and are there fewer than 2^31 statements,
+/// Can the log be checked: are its literals of its statements, and are there fewer than 2^32 statements,
 /// and fewer than 2^32 steps and hints of a step?
 pub fn is_numbered(log: &Log) -> bool
     ensures value { result ≡ is_numbered log.now.statements log.now.steps }
@@ -21,7 +21,7 @@ fn are_numbered(log: &Log) -> bool
     ensures { result ≡ is_numbered log.now.statements log.now.steps }
 {
     let statements = log.statements.len();
-    if statements >= 1 << 31 || log.steps.len() >= 1 << 32 {
+    if statements >= 1 << 32 || log.steps.len() >= 1 << 32 {
         return false;
     }
     for place in 0..log.steps.len() {

@@ -1,45 +1,43 @@
 -- The rules of logs are read as they are spelled.
-use Rattle.std.proofs.Common.{◌≡◌, ℕ, Bool, true, false, not, ◌||◌, List, [], ◌∷◌, ◌⊎◌, inl, inr, refl, sym, ap, subst, Option, Some, None, codes}
+use Rattle.std.proofs.Common.{◌≡◌, ℕ, Bool, true, not, List, [], ◌∷◌, inl, inr, refl, sym, ap, subst, Option, Some, None, codes}
 use Rattle.text_tokens.specs.Lexeme.{Lexeme}
-use Rattle.text_tokens.specs.declared.token.TokenKind.TheVariants.{Word, Symbol}
-use Rattle.text_grammar.specs.Words.{is_word, is_symbol}
-use Rattle.text_grammar.specs.Grammar.{Language, ◌⋅◌, IsSymbol, IsWord, Maybe}
-use Rattle.text_grammar.specs.Reading.{after, both}
+use Rattle.text_tokens.specs.declared.token.TokenKind.TheVariants.{Symbol}
+use Rattle.text_grammar.specs.Words.{is_symbol}
+use Rattle.text_grammar.specs.Grammar.{Language, ◌⋅◌, IsSymbol, Maybe}
+use Rattle.text_grammar.specs.Reading.{both}
 use Rattle.text_grammar.specs.Laws.{IsReader}
 use Rattle.text_grammar.proofs.Readers.{always, Begins, Ended, Image, first_then, reads_made, reads_same, reads_then, reads_two}
 use Rattle.text_grammar.proofs.Choices.{Either, maybe_ends, reads_maybe}
-use Rattle.text_grammar.proofs.FixedTokens.{after_symbol, after_word, apart, before_symbol, begins_fixed}
+use Rattle.text_grammar.proofs.FixedTokens.{after_symbol, apart, before_symbol, begins_fixed}
 use Rattle.currency_base.specs.declared.ids.EntId.{EntId}
 use Rattle.currency_base.specs.declared.ids.RowId.{RowId}
 use Rattle.currency_base.specs.declared.lit.Lit.{Lit}
 use Rattle.currency_base.specs.declared.value.Value.{Value}
 use Rattle.refutation_log.specs.declared.step.Label.{Label}
 use Rattle.refutation_log.specs.declared.step.Label.TheVariants as label
-use Rattle.refutation_log.specs.declared.step.Step.{Step}
-use Rattle.refutation_log.specs.declared.step.Step.TheVariants.{Axiom, OnDemand, Learn}
 use Rattle.log_syntax.specs.declared.trees.Cell.{Cell}
 use Rattle.log_syntax.specs.Numbers.{lit_in, place_in, says_some}
-use Rattle.log_syntax.specs.Grammar.{SpellsCell, SpellsConstant, SpellsConstants, SpellsEndedStep, SpellsEntities, SpellsFurther, SpellsHints, SpellsLabel, SpellsLits, SpellsNumber, SpellsRows, SpellsStep, SpellsValues, UpTo}
-use Rattle.log_syntax.specs.Reading.{above_at, all_of, axiom_at, begins_step, cell_at, constants_at, copy_at, current_label_at, demand_at, derive_at, ended_step_at, entities_at, entity_at, further_at, given_at, hints_at, is_inside, label_at, last_at, learn_at, lits_at, match_at, number_at, pushed, put_all, row_at, rows_at, rule_at, some_constants_at, step_at, steps_at, top_at, transitive_at, value_at, values_at}
+use Rattle.log_syntax.specs.Grammar.{SpellsCell, SpellsConstant, SpellsConstants, SpellsEntities, SpellsFurther, SpellsHints, SpellsLabel, SpellsLits, SpellsNumber, SpellsRows, SpellsValues, UpTo}
+use Rattle.log_syntax.specs.Reading.{above_at, all_of, cell_at, constants_at, copy_at, current_label_at, entities_at, entity_at, further_at, given_at, hints_at, is_inside, label_at, last_at, lits_at, match_at, number_at, pushed, put_all, row_at, rows_at, rule_at, some_constants_at, top_at, transitive_at, value_at, values_at}
 use Rattle.log_syntax.proofs.Gathering.{all_pushed}
-use Rattle.log_syntax.proofs.Keywords.{AnswersAt, BeginsWith, Case, case_begins, either_begins, reads_case, reads_cases}
-use Rattle.log_syntax.proofs.Tokens.{begins_said, by_no_lit, constant_inside, reads_constant_value, reads_lit, reads_number, symbol_no_lit, symbol_no_number}
+use Rattle.log_syntax.proofs.Keywords.{BeginsWith, Case, case_begins, either_begins, reads_case, reads_cases}
+use Rattle.log_syntax.proofs.Tokens.{begins_said, constant_inside, reads_constant_value, reads_lit, reads_number, symbol_no_lit, symbol_no_number}
 use Rattle.log_syntax.proofs.UpToReaders.{ended_within, ends_within, reads_gathered, reads_up_to}
 
 -- ---- lists of tokens
 
 -- what ends numbers, and literals
-abbrev ends_numbers : {A : Type 0} → List A → Lexeme → Bool
+abbrev pub ends_numbers : {A : Type 0} → List A → Lexeme → Bool
 ends_numbers = ends_within 4294967294 (says_some place_in)
 
-abbrev ends_lits : List Lit → Lexeme → Bool
+abbrev pub ends_lits : List Lit → Lexeme → Bool
 ends_lits = ends_within 4294967294 (says_some lit_in)
 
 -- a symbol ends them
-numbers_end : {A : Type 0} (text : List ℕ) → Ended {A = List A} ends_numbers (is_symbol text)
+pub numbers_end : {A : Type 0} (text : List ℕ) → Ended {A = List A} ends_numbers (is_symbol text)
 numbers_end text = ended_within 4294967294 (says_some place_in) (is_symbol text) (symbol_no_number text)
 
-lits_end : (text : List ℕ) → Ended ends_lits (is_symbol text)
+pub lits_end : (text : List ℕ) → Ended ends_lits (is_symbol text)
 lits_end text = ended_within 4294967294 (says_some lit_in) (is_symbol text) (symbol_no_lit text)
 
 reads_row : IsReader (λ (row : RowId). SpellsNumber row.0) always row_at
@@ -58,11 +56,11 @@ reads_entities : IsReader SpellsEntities ends_numbers entities_at
 unfolding entities_at
 reads_entities = reads_gathered reads_entity (says_some place_in) (λ entity. begins_said place_in entity.0) 4294967294
 
-reads_hints : IsReader SpellsHints ends_numbers hints_at
+pub reads_hints : IsReader SpellsHints ends_numbers hints_at
 unfolding hints_at
 reads_hints = reads_gathered reads_number (says_some place_in) (begins_said place_in) 4294967294
 
-reads_lits : IsReader SpellsLits ends_lits lits_at
+pub reads_lits : IsReader SpellsLits ends_lits lits_at
 unfolding lits_at
 reads_lits = reads_gathered reads_lit (says_some lit_in) (begins_said lit_in) 4294967294
 
@@ -142,7 +140,7 @@ pub reads_values : IsReader SpellsValues always values_at
 unfolding values_at
 reads_values = after_symbol (codes "(") (before_symbol (codes ")") reads_constants constants_end)
 
-begins_values : Begins (is_symbol (codes "(")) true SpellsValues
+pub begins_values : Begins (is_symbol (codes "(")) true SpellsValues
 begins_values =
     begins_fixed (λ vs. SpellsConstants vs ⋅ IsSymbol (codes ")")) Symbol (codes "(") (is_symbol (codes "(")) true (λ t e. e)
 
@@ -374,7 +372,7 @@ reads_label = reads_same
     begins_transitive (refl, (refl, (refl, (refl, (refl, (refl, (refl, (refl, tt)))))))))
     label_spelled spelled_label
 
-label_ends : Ended ends_label (is_symbol (codes ":"))
+pub label_ends : Ended ends_label (is_symbol (codes ":"))
 label_ends (label.Given rel attr earlier later) t e = refl
 label_ends (label.Transitive rel attr first second third) t e = refl
 label_ends (label.Rule rule rows) t e = numbers_end (codes ":") rows t e
@@ -384,150 +382,3 @@ label_ends (label.Top rel attr row) t e = refl
 label_ends (label.Last rel attr row) t e = refl
 label_ends (label.Value rel attr row) t e = refl
 label_ends (label.Match disjunct entities values) t e = refl
-
--- ---- steps
-
--- what ends a step: a literal or a hint goes on with it
-abbrev ends_step : Step → Lexeme → Bool
-ends_step (Axiom l lits) t = ends_lits lits t
-ends_step (OnDemand l lits) t = ends_lits lits t
-ends_step (Learn lits hints counted) t = ends_numbers hints t
-
-abbrev Labelled : Label × List Lit → Language
-Labelled x = SpellsLabel x.0 ⋅ IsSymbol (codes ":") ⋅ SpellsLits x.1
-
-abbrev Following : List Lit × List ℕ → Language
-Following x = SpellsLits x.0 ⋅ IsWord (codes "by") ⋅ SpellsHints x.1
-
-reads_labelled : IsReader Labelled (λ x. ends_lits x.1) (both label_at (after (is_symbol (codes ":")) lits_at))
-reads_labelled = reads_then reads_label (after_symbol (codes ":") reads_lits) (is_symbol (codes ":"))
-    (begins_fixed SpellsLits Symbol (codes ":") (is_symbol (codes ":")) true (λ t e. e)) label_ends
-
-reads_following : IsReader Following (λ x. ends_numbers x.1) (both lits_at (after (is_word (codes "by")) hints_at))
-reads_following = reads_then reads_lits (after_word (codes "by") reads_hints) (is_word (codes "by"))
-    (begins_fixed SpellsHints Word (codes "by") (is_word (codes "by")) true (λ t e. e))
-    (ended_within 4294967294 (says_some lit_in) (is_word (codes "by")) by_no_lit)
-
-abbrev axiom_of : Label × List Lit → Step
-axiom_of x = Axiom x.0 x.1
-
-abbrev demand_of : Label × List Lit → Step
-demand_of x = OnDemand x.0 x.1
-
-abbrev learn_of : List Lit × List ℕ → Step
-learn_of x = Learn x.0 x.1 true
-
-abbrev derive_of : List Lit × List ℕ → Step
-derive_of x = Learn x.0 x.1 false
-
-reads_axiom : IsReader (Case (codes "axiom") axiom_of Labelled) ends_step axiom_at
-unfolding axiom_at
-reads_axiom = reads_case (codes "axiom") reads_labelled axiom_of ends_step (λ a t. refl)
-
-reads_demand : IsReader (Case (codes "demand") demand_of Labelled) ends_step demand_at
-unfolding demand_at
-reads_demand = reads_case (codes "demand") reads_labelled demand_of ends_step (λ a t. refl)
-
-reads_learn : IsReader (Case (codes "learn") learn_of Following) ends_step learn_at
-unfolding learn_at
-reads_learn = reads_case (codes "learn") reads_following learn_of ends_step (λ a t. refl)
-
-reads_derive : IsReader (Case (codes "derive") derive_of Following) ends_step derive_at
-unfolding derive_at
-reads_derive = reads_case (codes "derive") reads_following derive_of ends_step (λ a t. refl)
-
-abbrev FromDerive : Step → Language
-FromDerive = Case (codes "derive") derive_of Following
-
-abbrev FromLearn : Step → Language
-FromLearn = Either (Case (codes "learn") learn_of Following) FromDerive
-
-abbrev FromDemand : Step → Language
-FromDemand = Either (Case (codes "demand") demand_of Labelled) FromLearn
-
-abbrev FromAxiom : Step → Language
-FromAxiom = Either (Case (codes "axiom") axiom_of Labelled) FromDemand
-
-abbrev words_derive : List (List ℕ)
-words_derive = codes "derive" ∷ []
-
-abbrev words_learn : List (List ℕ)
-words_learn = codes "learn" ∷ words_derive
-
-abbrev words_demand : List (List ℕ)
-words_demand = codes "demand" ∷ words_learn
-
-begins_derive : BeginsWith words_derive FromDerive
-begins_derive = case_begins (codes "derive") derive_of Following
-
-begins_learn : BeginsWith words_learn FromLearn
-begins_learn = either_begins (codes "learn") words_derive learn_of Following FromDerive begins_derive
-
-begins_demand : BeginsWith words_demand FromDemand
-begins_demand = either_begins (codes "demand") words_learn demand_of Labelled FromLearn begins_learn
-
-begins_axiom : BeginsWith (codes "axiom" ∷ words_demand) FromAxiom
-begins_axiom = either_begins (codes "axiom") words_demand axiom_of Labelled FromDemand begins_demand
-
-step_spelled : (s : Step) (tokens : List Lexeme) → FromAxiom s tokens → SpellsStep s tokens
-step_spelled s tokens (inl h) = subst (λ (s : Step). SpellsStep s tokens) h.is h.spelled
-step_spelled s tokens (inr (inl h)) = subst (λ (s : Step). SpellsStep s tokens) h.is h.spelled
-step_spelled s tokens (inr (inr (inl h))) = subst (λ (s : Step). SpellsStep s tokens) h.is h.spelled
-step_spelled s tokens (inr (inr (inr h))) = subst (λ (s : Step). SpellsStep s tokens) h.is h.spelled
-
-spelled_step : (s : Step) (tokens : List Lexeme) → SpellsStep s tokens → FromAxiom s tokens
-spelled_step (Axiom l lits) tokens h = inl (record { tree = (l, lits); is = refl; spelled = h })
-spelled_step (OnDemand l lits) tokens h = inr (inl (record { tree = (l, lits); is = refl; spelled = h }))
-spelled_step (Learn lits hints true) tokens h = inr (inr (inl (record { tree = (lits, hints); is = refl; spelled = h })))
-spelled_step (Learn lits hints false) tokens h = inr (inr (inr (record { tree = (lits, hints); is = refl; spelled = h })))
-
-reads_step : IsReader SpellsStep ends_step step_at
-unfolding step_at
-reads_step = reads_same
-    (reads_cases (codes "axiom") words_demand reads_axiom
-    (reads_cases (codes "demand") words_learn reads_demand
-    (reads_cases (codes "learn") words_derive reads_learn reads_derive begins_derive (refl, tt))
-    begins_learn (refl, (refl, tt)))
-    begins_demand (refl, (refl, (refl, tt))))
-    step_spelled spelled_step
-
-step_ends : Ended ends_step (is_symbol (codes ";"))
-step_ends (Axiom l lits) t e = lits_end (codes ";") lits t e
-step_ends (OnDemand l lits) t e = lits_end (codes ";") lits t e
-step_ends (Learn lits hints counted) t e = numbers_end (codes ";") hints t e
-
-pub reads_ended_step : IsReader SpellsEndedStep always ended_step_at
-unfolding ended_step_at
-reads_ended_step = before_symbol (codes ";") reads_step step_ends
-
--- the words that begin a step are those of its kinds
-step_words : AnswersAt begins_step true (codes "axiom" ∷ words_demand)
-step_words = (
-  (λ t e. ap (λ (b : Bool). b || is_word (codes "demand") t || is_word (codes "learn") t || is_word (codes "derive") t) e),
-  (
-    (λ t e. second (is_word (codes "axiom") t) (is_word (codes "demand") t) (is_word (codes "learn") t) (is_word (codes "derive") t) (inl e)),
-    (
-      (λ t e. second (is_word (codes "axiom") t) (is_word (codes "demand") t) (is_word (codes "learn") t) (is_word (codes "derive") t) (inr (inl e))),
-      (
-        (λ t e. second (is_word (codes "axiom") t) (is_word (codes "demand") t) (is_word (codes "learn") t) (is_word (codes "derive") t) (inr (inr e))),
-        tt,
-      ),
-    ),
-  ),
-)
-  where
-    second : (a b c d : Bool) → (b ≡ true) ⊎ (c ≡ true) ⊎ (d ≡ true) → a || b || c || d ≡ true
-    second true b c d e = refl
-    second false true c d e = refl
-    second false false true d e = refl
-    second false false false d (inr (inr e)) = e
-    second false false false d (inl e) = absurd (cc)
-    second false false false d (inr (inl e)) = absurd (cc)
-
-pub begins_ended_step : Begins begins_step true SpellsEndedStep
-begins_ended_step s tokens h =
-    first_then begins_step true (λ front k. begins_axiom begins_step true step_words s front (spelled_step s front k)) h
-
-pub reads_steps : IsReader (UpTo 4294967294 SpellsEndedStep) (ends_within 4294967294 begins_step) steps_at
-unfolding steps_at
-reads_steps = reads_gathered reads_ended_step begins_step begins_ended_step 4294967294

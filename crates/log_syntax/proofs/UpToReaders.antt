@@ -17,12 +17,15 @@ ends_within zero test xs t = true
 ends_within (suc k) test [] t = not (test t)
 ends_within (suc k) test (x ∷ xs) t = ends_within k test xs t
 
--- each token that begins no item ends it
+-- a token that begins no item ends it
+pub ended_at : {A : Type 0} (k : ℕ) (test : Lexeme → Bool) (xs : List A) (t : Lexeme) → test t ≡ false → ends_within k test xs t ≡ true
+ended_at zero test xs t e = refl
+ended_at (suc k) test [] t e = ap not e
+ended_at (suc k) test (x ∷ xs) t e = ended_at k test xs t e
+
 pub ended_within : {A : Type 0} (k : ℕ) (test stop : Lexeme → Bool) → ((t : Lexeme) → stop t ≡ true → test t ≡ false)
     → Ended {A = List A} (ends_within k test) stop
-ended_within zero test stop goes xs t e = refl
-ended_within (suc k) test stop goes [] t e = ap not (goes t e)
-ended_within (suc k) test stop goes (x ∷ xs) t e = ended_within k test stop goes xs t e
+ended_within k test stop goes xs t e = ended_at k test xs t (goes t e)
 
 -- lists of one length end alike
 pub ends_alike : {A B : Type 0} (k : ℕ) (test : Lexeme → Bool) (xs : List A) (ys : List B) (t : Lexeme) → length xs ≡ length ys
@@ -39,7 +42,7 @@ pub up_to_begins : {A : Type 0} (k : ℕ) (P : A → List Lexeme → Type 0) (te
 up_to_begins k P test b begins x xs tokens h = first_then test b (begins x) h.spelled
 
 -- one item and the others, or none
-abbrev list_of : {A : Type 0} → Option (A × List A) → List A
+abbrev pub list_of : {A : Type 0} → Option (A × List A) → List A
 list_of None = []
 list_of (Some x) = x.0 ∷ x.1
 
@@ -56,12 +59,12 @@ one_or_none : {A : Type 0} (b : Bool) (t : Lexeme) (ts : List Lexeme) (o : Outco
 one_or_none true t ts o q = same_outcome o q
 one_or_none false t ts o q = refl
 
-same_reader : {A : Type 0} (k : ℕ) (test : Lexeme → Bool) (p : Parser A) (tokens : List Lexeme)
+pub same_reader : {A : Type 0} (k : ℕ) (test : Lexeme → Bool) (p : Parser A) (tokens : List Lexeme)
     → many_within (suc k) test p tokens ≡ mapped list_of (maybe test (both p (many_within k test p))) tokens
 same_reader k test p [] = refl
 same_reader k test p (t ∷ ts) = one_or_none (test t) t ts (p (t ∷ ts)) (many_within k test p)
 
-no_more : {A : Type 0} (P : A → List Lexeme → Type 0) (test : Lexeme → Bool) (p : Parser A)
+pub no_more : {A : Type 0} (P : A → List Lexeme → Type 0) (test : Lexeme → Bool) (p : Parser A)
     → IsReader (UpTo 0 P) (ends_within 0 test) (many_within 0 test p)
 no_more {A} P test p = record {
   some = record { more = []; tree = []; spelled = record { few = omega arith; spelled = refl } };

@@ -1,6 +1,7 @@
 -- The grammar of logs: which tokens spell a log.
-use Rattle.std.specs.Prelude.{◌≡◌, ◌≤◌, ℕ, ◌+◌, true, false, List, [], ◌∷◌, length, codes}
+use Rattle.std.specs.Prelude.{◌≡◌, ◌⊎◌, ◌≤◌, ℕ, ◌+◌, true, false, if◌then◌else◌, List, [], ◌∷◌, length, map, Option, Some, None, codes}
 use Rattle.text_tokens.specs.Lexeme.{Lexeme}
+use Rattle.text_grammar.specs.Words.{is_word}
 use Rattle.text_grammar.specs.Grammar.{Language, Nothing, ◌⋅◌, Says, IsWord, IsSymbol, Many}
 use Rattle.currency_base.specs.declared.ids.AttrId.{AttrId}
 use Rattle.currency_base.specs.declared.ids.EntId.{EntId}
@@ -15,6 +16,9 @@ use Rattle.refutation_log.specs.declared.step.Label.{Label}
 use Rattle.refutation_log.specs.declared.step.Label.TheVariants as label
 use Rattle.refutation_log.specs.declared.step.Step.{Step}
 use Rattle.refutation_log.specs.declared.step.Step.TheVariants.{Axiom, OnDemand, Learn}
+use Rattle.log_syntax.specs.declared.trees.ReadLog.{ReadLog}
+use Rattle.log_syntax.specs.declared.trees.StatementOnLine.{StatementOnLine}
+use Rattle.log_syntax.specs.declared.trees.StepOnLine.{StepOnLine}
 use Rattle.log_syntax.specs.declared.trees.StatementTree.{StatementTree}
 use Rattle.log_syntax.specs.declared.trees.StatementTree.TheVariants.{Before, Top, Last, Answer}
 use Rattle.log_syntax.specs.Numbers.{place_in, lit_in, constant_in}
@@ -23,6 +27,14 @@ use Rattle.log_syntax.specs.Numbers.{place_in, lit_in, constant_in}
 pub record UpTo {A : Type 0} (most : ℕ) (P : A → List Lexeme → Type 0) (xs : List A) (tokens : List Lexeme) : Type 0 where
   pub few : length xs ≤ most
   pub spelled : Many P xs tokens
+
+-- the line of a token that is this word
+abbrev pub word_line : List ℕ → Lexeme → Option ℕ
+word_line text t = if is_word text t then Some t.line else None
+
+-- this word on this line
+abbrev pub IsWordOn : List ℕ → ℕ → Language
+IsWordOn text line = Says (word_line text) line
 
 -- one token that counts this place from 1
 abbrev pub SpellsNumber : ℕ → Language
@@ -91,15 +103,22 @@ SpellsLabel (label.Match disjunct entities values) =
 
 -- step = "axiom" label ":" { literal } | "demand" label ":" { literal }
 --      | "learn" { literal } "by" { N } | "derive" { literal } "by" { N }
-abbrev pub SpellsStep : Step → Language
-SpellsStep (Axiom l lits) = IsWord (codes "axiom") ⋅ SpellsLabel l ⋅ IsSymbol (codes ":") ⋅ SpellsLits lits
-SpellsStep (OnDemand l lits) = IsWord (codes "demand") ⋅ SpellsLabel l ⋅ IsSymbol (codes ":") ⋅ SpellsLits lits
-SpellsStep (Learn lits hints true) = IsWord (codes "learn") ⋅ SpellsLits lits ⋅ IsWord (codes "by") ⋅ SpellsHints hints
-SpellsStep (Learn lits hints false) = IsWord (codes "derive") ⋅ SpellsLits lits ⋅ IsWord (codes "by") ⋅ SpellsHints hints
+abbrev pub SpellsStep : ℕ → Step → Language
+SpellsStep line (Axiom l lits) = IsWordOn (codes "axiom") line ⋅ SpellsLabel l ⋅ IsSymbol (codes ":") ⋅ SpellsLits lits
+SpellsStep line (OnDemand l lits) = IsWordOn (codes "demand") line ⋅ SpellsLabel l ⋅ IsSymbol (codes ":") ⋅ SpellsLits lits
+SpellsStep line (Learn lits hints true) = IsWordOn (codes "learn") line ⋅ SpellsLits lits ⋅ IsWord (codes "by") ⋅ SpellsHints hints
+SpellsStep line (Learn lits hints false) = IsWordOn (codes "derive") line ⋅ SpellsLits lits ⋅ IsWord (codes "by") ⋅ SpellsHints hints
 
--- a step and its semicolon
-abbrev pub SpellsEndedStep : Step → Language
-SpellsEndedStep s = SpellsStep s ⋅ IsSymbol (codes ";")
+-- a step that begins on its line, and its semicolon
+abbrev pub SpellsEndedStep : StepOnLine → Language
+SpellsEndedStep s = SpellsStep s.line s.step ⋅ IsSymbol (codes ";")
+
+-- these steps, on these lines, are those that are written
+pub record SpellsSteps (steps : List Step) (lines : List ℕ) (tokens : List Lexeme) : Type 0 where
+  pub trees : List StepOnLine
+  pub steps_are : steps ≡ map (λ s. s.step) trees
+  pub lines_are : lines ≡ map (λ s. s.line) trees
+  pub spelled : UpTo 4294967294 SpellsEndedStep trees tokens
 
 -- ---- statements
 
@@ -110,9 +129,9 @@ SpellsStatement (Top rel attr row) = IsWord (codes "top") ⋅ SpellsCell rel att
 SpellsStatement (Last rel attr row) = IsWord (codes "last") ⋅ SpellsCell rel attr row
 SpellsStatement (Answer values) = IsWord (codes "answer") ⋅ SpellsValues values
 
--- the word `statement`, a statement and its semicolon
-abbrev pub SpellsEndedStatement : StatementTree → Language
-SpellsEndedStatement t = IsWord (codes "statement") ⋅ SpellsStatement t ⋅ IsSymbol (codes ";")
+-- the word `statement` on its line, a statement and its semicolon
+abbrev pub SpellsEndedStatement : StatementOnLine → Language
+SpellsEndedStatement t = IsWordOn (codes "statement") t.line ⋅ SpellsStatement t.statement ⋅ IsSymbol (codes ";")
 
 -- the tuples of the answers among the statements, in order
 abbrev pub answers_of : List StatementTree → List (List Value)
@@ -130,21 +149,30 @@ statements_of n (Before rel attr earlier later ∷ trees) = statement.Before rel
 statements_of n (Top rel attr row ∷ trees) = statement.Top rel attr row ∷ statements_of n trees
 statements_of n (Last rel attr row ∷ trees) = statement.Last rel attr row ∷ statements_of n trees
 
--- these answers and statements are those that are written
-pub record SpellsStatements (answers : List (List Value)) (statements : List Statement) (tokens : List Lexeme) : Type 0 where
-  pub trees : List StatementTree
-  pub answers_are : answers ≡ answers_of trees
-  pub statements_are : statements ≡ statements_of 0 trees
+-- these answers and statements, on these lines, are those that are written
+pub record SpellsStatements (answers : List (List Value)) (statements : List Statement) (lines : List ℕ) (tokens : List Lexeme) : Type 0 where
+  pub trees : List StatementOnLine
+  pub answers_are : answers ≡ answers_of (map (λ t. t.statement) trees)
+  pub statements_are : statements ≡ statements_of 0 (map (λ t. t.statement) trees)
+  pub lines_are : lines ≡ map (λ t. t.line) trees
   pub spelled : UpTo 4294967294 SpellsEndedStatement trees tokens
 
 -- ---- logs
 
 -- log = "log" ";" { "statement" statement ";" } { step ";" }
-abbrev pub SpellsLog : Log → Language
-SpellsLog log =
+abbrev pub SpellsLog : ReadLog → Language
+SpellsLog r =
     IsWord (codes "log") ⋅ IsSymbol (codes ";")
-    ⋅ SpellsStatements log.answers log.statements ⋅ UpTo 4294967294 SpellsEndedStep log.steps
+    ⋅ SpellsStatements r.log.answers r.log.statements r.statements ⋅ SpellsSteps r.log.steps r.steps
 
 -- the log with no statement and no step
 abbrev pub empty_log : Log
 empty_log = record { answers = []; statements = []; steps = [] }
+
+-- the same as it is read where no token is
+abbrev pub no_log : ReadLog
+no_log = record { log = empty_log; statements = []; steps = [] }
+
+-- [ log ]: no token is the empty log
+abbrev pub SpellsLogPart : ReadLog → Language
+SpellsLogPart r tokens = ((r ≡ no_log) × (tokens ≡ [])) ⊎ SpellsLog r tokens

@@ -1,5 +1,5 @@
 -- How the rules of logs are read.
-use Rattle.std.specs.Prelude.{ℕ, Bool, true, false, not, ◌||◌, List, [], ◌∷◌, ◌++◌, length, Option, Some, None, Ok, codes, Result}
+use Rattle.std.specs.Prelude.{ℕ, Bool, true, false, not, ◌||◌, List, [], ◌∷◌, ◌++◌, length, Option, Some, None, codes, Result}
 use Rattle.text_tokens.specs.Lexeme.{Lexeme}
 use Rattle.text_grammar.specs.Words.{is_word, is_symbol, constant}
 use Rattle.text_grammar.specs.Reading.{Stop, Parser, one, both, after, before, mapped, maybe, choose, many_within, whole}
@@ -7,18 +7,21 @@ use Rattle.currency_base.specs.declared.ids.EntId.{EntId}
 use Rattle.currency_base.specs.declared.ids.RowId.{RowId}
 use Rattle.currency_base.specs.declared.lit.Lit.{Lit}
 use Rattle.currency_base.specs.declared.value.Value.{Value}
-use Rattle.refutation_log.specs.declared.log.Log.{Log}
+use Rattle.refutation_log.specs.declared.statement.Statement.{Statement}
 use Rattle.refutation_log.specs.declared.statement.Statement.TheVariants as statement
 use Rattle.refutation_log.specs.declared.step.Label.{Label}
 use Rattle.refutation_log.specs.declared.step.Label.TheVariants as label
-use Rattle.refutation_log.specs.declared.step.Step.{Step}
 use Rattle.refutation_log.specs.declared.step.Step.TheVariants.{Axiom, OnDemand, Learn}
 use Rattle.log_syntax.specs.declared.trees.Cell.{Cell}
+use Rattle.log_syntax.specs.declared.trees.ReadLog.{ReadLog}
 use Rattle.log_syntax.specs.declared.trees.Said.{Said}
+use Rattle.log_syntax.specs.declared.trees.SaidSteps.{SaidSteps}
+use Rattle.log_syntax.specs.declared.trees.StatementOnLine.{StatementOnLine}
+use Rattle.log_syntax.specs.declared.trees.StepOnLine.{StepOnLine}
 use Rattle.log_syntax.specs.declared.trees.StatementTree.{StatementTree}
 use Rattle.log_syntax.specs.declared.trees.StatementTree.TheVariants.{Before, Top, Last, Answer}
 use Rattle.log_syntax.specs.Numbers.{place_in, lit_in, says_some}
-use Rattle.log_syntax.specs.Grammar.{empty_log}
+use Rattle.log_syntax.specs.Grammar.{word_line, no_log}
 
 -- ---- lists
 
@@ -150,37 +153,49 @@ label_at =
 
 -- ---- steps
 
-unfoldable pub axiom_at : Parser Step
+unfoldable pub axiom_at : Parser StepOnLine
 axiom_at =
-    mapped (λ x. Axiom x.0 x.1) (after (is_word (codes "axiom")) (both label_at (after (is_symbol (codes ":")) lits_at)))
+    mapped (λ x. record { line = x.0; step = Axiom x.1.0 x.1.1 })
+    (both (one (word_line (codes "axiom"))) (both label_at (after (is_symbol (codes ":")) lits_at)))
 
-unfoldable pub demand_at : Parser Step
+unfoldable pub demand_at : Parser StepOnLine
 demand_at =
-    mapped (λ x. OnDemand x.0 x.1) (after (is_word (codes "demand")) (both label_at (after (is_symbol (codes ":")) lits_at)))
+    mapped (λ x. record { line = x.0; step = OnDemand x.1.0 x.1.1 })
+    (both (one (word_line (codes "demand"))) (both label_at (after (is_symbol (codes ":")) lits_at)))
 
-unfoldable pub learn_at : Parser Step
+unfoldable pub learn_at : Parser StepOnLine
 learn_at =
-    mapped (λ x. Learn x.0 x.1 true) (after (is_word (codes "learn")) (both lits_at (after (is_word (codes "by")) hints_at)))
+    mapped (λ x. record { line = x.0; step = Learn x.1.0 x.1.1 true })
+    (both (one (word_line (codes "learn"))) (both lits_at (after (is_word (codes "by")) hints_at)))
 
-unfoldable pub derive_at : Parser Step
+unfoldable pub derive_at : Parser StepOnLine
 derive_at =
-    mapped (λ x. Learn x.0 x.1 false) (after (is_word (codes "derive")) (both lits_at (after (is_word (codes "by")) hints_at)))
+    mapped (λ x. record { line = x.0; step = Learn x.1.0 x.1.1 false })
+    (both (one (word_line (codes "derive"))) (both lits_at (after (is_word (codes "by")) hints_at)))
 
-unfoldable pub step_at : Parser Step
+unfoldable pub step_at : Parser StepOnLine
 step_at =
     choose (is_word (codes "axiom")) axiom_at
     (choose (is_word (codes "demand")) demand_at
     (choose (is_word (codes "learn")) learn_at derive_at))
 
-unfoldable pub ended_step_at : Parser Step
+unfoldable pub ended_step_at : Parser StepOnLine
 ended_step_at = before step_at (is_symbol (codes ";"))
 
 -- a word that begins a step
 abbrev pub begins_step : Lexeme → Bool
 begins_step t = is_word (codes "axiom") t || is_word (codes "demand") t || is_word (codes "learn") t || is_word (codes "derive") t
 
-unfoldable pub steps_at : Parser (List Step)
-steps_at = gathered pushed [] 4294967294 begins_step ended_step_at
+-- one step more
+abbrev pub stepped : SaidSteps → StepOnLine → SaidSteps
+stepped said s = record { steps = said.steps ++ s.step ∷ []; lines = said.lines ++ s.line ∷ [] }
+
+-- no step
+abbrev pub no_step_said : SaidSteps
+no_step_said = record { steps = []; lines = [] }
+
+unfoldable pub steps_at : Parser SaidSteps
+steps_at = gathered stepped no_step_said 4294967294 begins_step ended_step_at
 
 -- ---- statements
 
@@ -203,35 +218,65 @@ statement_at =
     (choose (is_word (codes "top")) top_statement_at
     (choose (is_word (codes "last")) last_statement_at answer_at))
 
-unfoldable pub ended_statement_at : Parser StatementTree
-ended_statement_at = after (is_word (codes "statement")) (before statement_at (is_symbol (codes ";")))
+unfoldable pub ended_statement_at : Parser StatementOnLine
+ended_statement_at =
+    mapped (λ x. record { line = x.0; statement = x.1 })
+    (both (one (word_line (codes "statement"))) (before statement_at (is_symbol (codes ";"))))
+
+-- a statement more, and its line
+abbrev pub with_statement : Said → ℕ → Statement → Said
+with_statement said line s =
+    record { answers = said.answers; statements = said.statements ++ s ∷ []; lines = said.lines ++ line ∷ [] }
+
+-- an answer more, and its line
+abbrev pub with_answer : Said → ℕ → List Value → Said
+with_answer said line values = record {
+  answers = said.answers ++ values ∷ [];
+  statements = said.statements ++ statement.Answer (length said.answers) ∷ [];
+  lines = said.lines ++ line ∷ [];
+}
 
 -- one statement more
-unfoldable pub said_too : Said → StatementTree → Said
-said_too said (Before rel attr earlier later) =
-    record { answers = said.answers; statements = said.statements ++ statement.Before rel attr earlier later ∷ [] }
-said_too said (Top rel attr row) =
-    record { answers = said.answers; statements = said.statements ++ statement.Top rel attr row ∷ [] }
-said_too said (Last rel attr row) =
-    record { answers = said.answers; statements = said.statements ++ statement.Last rel attr row ∷ [] }
-said_too said (Answer values) =
-    record { answers = said.answers ++ values ∷ []; statements = said.statements ++ statement.Answer (length said.answers) ∷ [] }
+unfoldable pub said_by : Said → ℕ → StatementTree → Said
+said_by said line (Before rel attr earlier later) = with_statement said line (statement.Before rel attr earlier later)
+said_by said line (Top rel attr row) = with_statement said line (statement.Top rel attr row)
+said_by said line (Last rel attr row) = with_statement said line (statement.Last rel attr row)
+said_by said line (Answer values) = with_answer said line values
+
+abbrev pub said_too : Said → StatementOnLine → Said
+said_too said t = said_by said t.line t.statement
 
 -- no statement
 abbrev pub nothing_said : Said
-nothing_said = record { answers = []; statements = [] }
+nothing_said = record { answers = []; statements = []; lines = [] }
 
 unfoldable pub statements_at : Parser Said
 statements_at = gathered said_too nothing_said 4294967294 (is_word (codes "statement")) ended_statement_at
 
 -- ---- logs
 
-unfoldable pub log_at : Parser Log
+-- what was read of a log
+abbrev pub log_said : Said → SaidSteps → ReadLog
+log_said said steps = record {
+  log = record { answers = said.answers; statements = said.statements; steps = steps.steps };
+  statements = said.lines;
+  steps = steps.lines;
+}
+
+unfoldable pub log_at : Parser ReadLog
 log_at =
-    mapped (λ x. record { answers = x.0.answers; statements = x.0.statements; steps = x.1 })
+    mapped (λ x. log_said x.0 x.1)
     (after (is_word (codes "log")) (after (is_symbol (codes ";")) (both statements_at steps_at)))
 
+-- a log or none
+abbrev pub log_or_none : Option ReadLog → ReadLog
+log_or_none None = no_log
+log_or_none (Some r) = r
+
+-- [ log ]
+unfoldable pub log_part_at : Parser ReadLog
+log_part_at = mapped log_or_none (maybe (is_word (codes "log")) log_at)
+
 -- the log of a whole text; no token is the empty log
-unfoldable pub log_of : List Lexeme → Result Log Stop
-log_of [] = Ok empty_log
-log_of (t ∷ ts) = whole log_at (t ∷ ts)
+abbrev pub log_of : List Lexeme → Result ReadLog Stop
+log_of tokens = whole log_part_at tokens

@@ -1,15 +1,16 @@
 -- Which log tokens spell, and where they are refused.
-use Rattle.std.specs.Prelude.{◌≡◌, ◌⊎◌, ℕ, List, [], ◌∷◌}
+use Rattle.std.specs.Prelude.{◌≡◌, ℕ, List, [], ◌∷◌}
 use Rattle.text_tokens.specs.Lexeme.{Lexeme}
 use Rattle.text_tokens.specs.declared.token.TextFault.{TextFault}
 use Rattle.text_tokens.specs.declared.token.TextFault.TheVariants.{NotUtf8, Syntax, Unbuilt, NoMemory}
 use Rattle.text_grammar.specs.Grammar.{RefusedAt}
 use Rattle.refutation_log.specs.declared.log.Log.{Log}
-use Rattle.log_syntax.specs.Grammar.{SpellsLog, empty_log}
+use Rattle.log_syntax.specs.Grammar.{SpellsLogPart}
+use Rattle.log_syntax.specs.declared.trees.ReadLog.{ReadLog}
 
--- [ log ]: no token is the empty log
+-- [ log ], whatever its lines: no token is the empty log
 abbrev pub SpellsLogOrNothing : Log → List Lexeme → Type 0
-SpellsLogOrNothing log tokens = ((log ≡ empty_log) × (tokens ≡ [])) ⊎ SpellsLog log tokens
+SpellsLogOrNothing log tokens = (r : ReadLog) × (r.log ≡ log) × SpellsLogPart r tokens
 
 -- the line of a refused place: that of the first token left, or the one where the tokens end
 abbrev pub line_at : ℕ → List Lexeme → ℕ

@@ -5,7 +5,7 @@ ghost use Rattle.log_syntax.specs.Reading.{above_at, copy_at, current_label_at, 
 
 use crate::lists::{entities, rows};
 use crate::number::{cell, number};
-use crate::values::values;
+use crate::value_list::values;
 use currency_base::{CopyId, RowId, RuleId};
 use refutation_log::Label;
 use std::alloc::Global;

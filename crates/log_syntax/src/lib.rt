@@ -4,9 +4,10 @@
 //! the code follows.
 #![tactic(auto)]
 
-mod gather;
+mod fold;
 mod label;
 mod laws;
+mod line;
 mod lists;
 mod log;
 mod number;
@@ -14,8 +15,12 @@ mod read;
 mod statement;
 mod step;
 mod trees;
-mod values;
+mod value_list;
 
+pub use fold::{Gathers, MOST, gather};
 pub use laws::one_log;
+pub use line::word_on;
+pub use log::log_part;
 pub use read::read_log;
-pub use trees::StatementTree;
+pub use trees::{LineList, ReadLog, StatementTree};
+pub use value_list::values;

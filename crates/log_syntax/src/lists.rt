@@ -3,7 +3,7 @@ ghost use Rattle.text_tokens.specs.Lexeme.{lexeme_of};
 ghost use Rattle.text_grammar.specs.Reading.{Gives};
 ghost use Rattle.log_syntax.specs.Reading.{entities_at, hints_at, lits_at, rows_at};
 
-use crate::gather::{Gathers, MOST, gather};
+use crate::fold::{Gathers, MOST, gather};
 use crate::number::{lit_in, number, place_in};
 use currency_base::{EntId, EntList, Lit, LitList, NoMemory, RowId, RowList};
 use refutation_log::HintList;

@@ -20,7 +20,7 @@ pub fn read_log(alloc: Global, tokens: &[Token], end: u32) -> Result<Log, TextFa
     ensures refused { IfErr result (λ e. (e ≡ TextFault.NoMemory) ⊎ RefusesLog (map lexeme_of tokens.now) end e) }
 {
     match log_or_nothing(alloc, tokens) {
-        Ok(log) => Ok(log),
+        Ok(read) => Ok(read.log),
         Err(Refusal::Syntax(left)) => Err(TextFault::Syntax {
             line: line_at(end, left),
         }),

@@ -1,14 +1,14 @@
 ghost use Rattle.std.specs.Prelude.{◌≡◌, map, OnOk};
 ghost use Rattle.text_tokens.specs.Lexeme.{lexeme_of};
 ghost use Rattle.text_grammar.specs.Reading.{Gives};
-ghost use Rattle.log_syntax.specs.declared.trees.StatementTree.TheVariants.{Answer};
-ghost use Rattle.log_syntax.specs.Reading.{answer_at, before_at, last_statement_at, said_too, statement_at, statements_at, top_statement_at};
+ghost use Rattle.log_syntax.specs.Reading.{answer_at, before_at, last_statement_at, said_by, statement_at, statements_at, top_statement_at, with_answer, with_statement};
 
 use crate::StatementTree;
-use crate::gather::{Gathers, MOST, gather};
+use crate::fold::{Gathers, MOST, gather};
+use crate::line::word_on;
 use crate::number::{cell, number};
-use crate::trees::Said;
-use crate::values::values;
+use crate::trees::{LineList, Said, StatementOnLine};
+use crate::value_list::values;
 use currency_base::{NoMemory, RowId, Tuple, TupleList};
 use refutation_log::{Statement, StatementList};
 use std::alloc::Global;
@@ -26,6 +26,7 @@ pub fn statements<'a>(
     let said = Said {
         answers: TupleList::new(alloc),
         statements: StatementList::new(alloc),
+        lines: LineList::new(alloc),
     };
     gather::<StatementRule>(alloc, MOST, said, tokens)
 }
@@ -36,7 +37,7 @@ enum StatementRule {}
 impl Rule for StatementRule {
     ghost use Rattle.log_syntax.specs.Reading.{ended_statement_at};
 
-    type Tree = StatementTree;
+    type Tree = StatementOnLine;
 
     ghost reader = { ended_statement_at };
 
@@ -44,11 +45,11 @@ impl Rule for StatementRule {
     fn read<'a>(
         alloc: Global,
         tokens: &'a [Token<'a>],
-    ) -> Result<(StatementTree, &'a [Token<'a>]), Refusal<'a>> {
-        let rest = word(b"statement", tokens)?;
+    ) -> Result<(StatementOnLine, &'a [Token<'a>]), Refusal<'a>> {
+        let (line, rest) = word_on(b"statement", tokens)?;
         let (statement, rest) = statement(alloc, rest)?;
         let rest = symbol(b";", rest)?;
-        Ok((statement, rest))
+        Ok((StatementOnLine { line, statement }, rest))
     }
 }
 
@@ -70,45 +71,66 @@ impl Gathers for StatementRule {
 
     ghost put = { said_too };
 
-    #[tactic(auto, unfolding(crate::specs::Reading::said_too))]
-    fn put(into: &mut Said, tree: StatementTree) -> Result<(), NoMemory> {
+    fn put(into: &mut Said, tree: StatementOnLine) -> Result<(), NoMemory> {
+        into.put(tree.line, tree.statement)
+    }
+}
+
+impl Said {
+    /// A statement more, and its line.
+    #[tactic(auto, unfolding(crate::specs::Reading::said_by))]
+    fn put(&mut self, line: u32, tree: StatementTree) -> Result<(), NoMemory>
+        ensures { OnOk result (self.new ≡ said_by self.old line tree) }
+    {
         match tree {
             StatementTree::Before {
                 rel,
                 attr,
                 earlier,
                 later,
-            } => into.statements.push(Statement::Before {
-                rel,
-                attr,
-                earlier,
-                later,
-            }),
-            StatementTree::Top { rel, attr, row } => {
-                into.statements.push(Statement::Top { rel, attr, row })
-            }
+            } => self.say(
+                line,
+                Statement::Before {
+                    rel,
+                    attr,
+                    earlier,
+                    later,
+                },
+            ),
+            StatementTree::Top { rel, attr, row } => self.say(
+                line,
+                Statement::Top { rel, attr, row },
+            ),
             StatementTree::Last { rel, attr, row } => {
-                into.statements.push(Statement::Last { rel, attr, row })
+                self.say(line, Statement::Last { rel, attr, row })
             }
-            StatementTree::Answer { values } => into.answer(values),
+            StatementTree::Answer { values } => self.answer(line, values),
         }
     }
-}
 
-impl Said {
+    /// A statement of no answer more.
+    fn say(&mut self, line: u32, statement: Statement) -> Result<(), NoMemory>
+        ensures { OnOk result (self.new ≡ with_statement self.old line statement) }
+    {
+        self.statements.push(statement)?;
+        self.lines.push(line)
+    }
+
     /// An answer more: its tuple, and the statement that names it.
-    #[tactic(auto, unfolding(crate::specs::Reading::said_too))]
-    fn answer(&mut self, values: Tuple) -> Result<(), NoMemory>
-        ensures { OnOk result (self.new ≡ said_too self.old (Answer values)) }
+    fn answer(&mut self, line: u32, values: Tuple) -> Result<(), NoMemory>
+        ensures { OnOk result (self.new ≡ with_answer self.old line values) }
     {
         let tuple = self.answers.len();
         if tuple > u32::MAX as usize {
             return Err(NoMemory);
         }
         self.answers.push(values)?;
-        self.statements.push(Statement::Answer {
-            tuple: tuple as u32,
-        })
+        self.say(
+            line,
+            Statement::Answer {
+                tuple: tuple as u32,
+            },
+        )
     }
 }
 

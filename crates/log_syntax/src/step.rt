@@ -4,9 +4,11 @@ ghost use Rattle.text_grammar.specs.Reading.{Gives};
 ghost use Rattle.log_syntax.specs.Reading;
 ghost use Rattle.log_syntax.specs.Reading.{axiom_at, demand_at, derive_at, learn_at, step_at, steps_at};
 
-use crate::gather::{Gathers, MOST, gather};
+use crate::fold::{Gathers, MOST, gather};
 use crate::label::label;
+use crate::line::word_on;
 use crate::lists::{hints, lits};
+use crate::trees::{LineList, SaidSteps, StepOnLine};
 use currency_base::NoMemory;
 use refutation_log::{Step, Steps};
 use std::alloc::Global;
@@ -18,19 +20,23 @@ use text_tokens::{Token, TokenKind};
 pub fn steps<'a>(
     alloc: Global,
     tokens: &'a [Token<'a>],
-) -> Result<(Steps, &'a [Token<'a>]), Refusal<'a>>
+) -> Result<(SaidSteps, &'a [Token<'a>]), Refusal<'a>>
     ensures { Gives (λ x. (x.0, map lexeme_of x.1.now)) result (steps_at (map lexeme_of tokens.now)) }
 {
-    gather::<StepRule>(alloc, MOST, Steps::new(alloc), tokens)
+    let said = SaidSteps {
+        steps: Steps::new(alloc),
+        lines: LineList::new(alloc),
+    };
+    gather::<StepRule>(alloc, MOST, said, tokens)
 }
 
-/// A step and its semicolon.
+/// A step, its line and its semicolon.
 enum StepRule {}
 
 impl Rule for StepRule {
     ghost use Rattle.log_syntax.specs.Reading.{ended_step_at};
 
-    type Tree = Step;
+    type Tree = StepOnLine;
 
     ghost reader = { ended_step_at };
 
@@ -38,7 +44,7 @@ impl Rule for StepRule {
     fn read<'a>(
         alloc: Global,
         tokens: &'a [Token<'a>],
-    ) -> Result<(Step, &'a [Token<'a>]), Refusal<'a>> {
+    ) -> Result<(StepOnLine, &'a [Token<'a>]), Refusal<'a>> {
         let (step, rest) = step(alloc, tokens)?;
         let rest = symbol(b";", rest)?;
         Ok((step, rest))
@@ -59,20 +65,24 @@ impl Repeats for StepRule {
 }
 
 impl Gathers for StepRule {
-    ghost use Rattle.log_syntax.specs.Reading.{pushed};
+    ghost use Rattle.log_syntax.specs.Reading.{stepped};
 
-    type Into = Steps;
+    type Into = SaidSteps;
 
-    ghost put = { pushed };
+    ghost put = { stepped };
 
-    fn put(into: &mut Steps, tree: Step) -> Result<(), NoMemory> {
-        into.push(tree.as_ref())
+    fn put(into: &mut SaidSteps, tree: StepOnLine) -> Result<(), NoMemory> {
+        into.steps.push(tree.step.as_ref())?;
+        into.lines.push(tree.line)
     }
 }
 
 /// Takes a step from the front of the tokens.
 #[tactic(auto, unfolding(crate::specs::Reading::step_at))]
-fn step<'a>(alloc: Global, tokens: &'a [Token<'a>]) -> Result<(Step, &'a [Token<'a>]), Refusal<'a>>
+fn step<'a>(
+    alloc: Global,
+    tokens: &'a [Token<'a>],
+) -> Result<(StepOnLine, &'a [Token<'a>]), Refusal<'a>>
     ensures { Gives (λ x. (x.0, map lexeme_of x.1.now)) result (step_at (map lexeme_of tokens.now)) }
 {
     match tokens {
@@ -93,14 +103,18 @@ fn step<'a>(alloc: Global, tokens: &'a [Token<'a>]) -> Result<(Step, &'a [Token<
 
 /// An axiom, from the word `axiom` on.
 #[tactic(auto, unfolding(crate::specs::Reading::axiom_at))]
-fn axiom<'a>(alloc: Global, tokens: &'a [Token<'a>]) -> Result<(Step, &'a [Token<'a>]), Refusal<'a>>
+fn axiom<'a>(
+    alloc: Global,
+    tokens: &'a [Token<'a>],
+) -> Result<(StepOnLine, &'a [Token<'a>]), Refusal<'a>>
     ensures { Gives (λ x. (x.0, map lexeme_of x.1.now)) result (axiom_at (map lexeme_of tokens.now)) }
 {
-    let rest = word(b"axiom", tokens)?;
+    let (line, rest) = word_on(b"axiom", tokens)?;
     let (label, rest) = label(alloc, rest)?;
     let rest = symbol(b":", rest)?;
     let (lits, rest) = lits(alloc, rest)?;
-    Ok((Step::Axiom { label, lits }, rest))
+    let step = Step::Axiom { label, lits };
+    Ok((StepOnLine { line, step }, rest))
 }
 
 /// An axiom that the search brought in, from the word `demand` on.
@@ -108,33 +122,35 @@ fn axiom<'a>(alloc: Global, tokens: &'a [Token<'a>]) -> Result<(Step, &'a [Token
 fn demand<'a>(
     alloc: Global,
     tokens: &'a [Token<'a>],
-) -> Result<(Step, &'a [Token<'a>]), Refusal<'a>>
+) -> Result<(StepOnLine, &'a [Token<'a>]), Refusal<'a>>
     ensures { Gives (λ x. (x.0, map lexeme_of x.1.now)) result (demand_at (map lexeme_of tokens.now)) }
 {
-    let rest = word(b"demand", tokens)?;
+    let (line, rest) = word_on(b"demand", tokens)?;
     let (label, rest) = label(alloc, rest)?;
     let rest = symbol(b":", rest)?;
     let (lits, rest) = lits(alloc, rest)?;
-    Ok((Step::OnDemand { label, lits }, rest))
+    let step = Step::OnDemand { label, lits };
+    Ok((StepOnLine { line, step }, rest))
 }
 
 /// A clause that follows and is counted, from the word `learn` on.
 #[tactic(auto, unfolding(crate::specs::Reading::learn_at))]
-fn learn<'a>(alloc: Global, tokens: &'a [Token<'a>]) -> Result<(Step, &'a [Token<'a>]), Refusal<'a>>
+fn learn<'a>(
+    alloc: Global,
+    tokens: &'a [Token<'a>],
+) -> Result<(StepOnLine, &'a [Token<'a>]), Refusal<'a>>
     ensures { Gives (λ x. (x.0, map lexeme_of x.1.now)) result (learn_at (map lexeme_of tokens.now)) }
 {
-    let rest = word(b"learn", tokens)?;
+    let (line, rest) = word_on(b"learn", tokens)?;
     let (lits, rest) = lits(alloc, rest)?;
     let rest = word(b"by", rest)?;
     let (hints, rest) = hints(alloc, rest)?;
-    Ok((
-        Step::Learn {
-            lits,
-            hints,
-            counted: true,
-        },
-        rest,
-    ))
+    let step = Step::Learn {
+        lits,
+        hints,
+        counted: true,
+    };
+    Ok((StepOnLine { line, step }, rest))
 }
 
 /// A clause that follows and is not counted, from the word `derive` on.
@@ -142,19 +158,17 @@ fn learn<'a>(alloc: Global, tokens: &'a [Token<'a>]) -> Result<(Step, &'a [Token
 fn derive<'a>(
     alloc: Global,
     tokens: &'a [Token<'a>],
-) -> Result<(Step, &'a [Token<'a>]), Refusal<'a>>
+) -> Result<(StepOnLine, &'a [Token<'a>]), Refusal<'a>>
     ensures { Gives (λ x. (x.0, map lexeme_of x.1.now)) result (derive_at (map lexeme_of tokens.now)) }
 {
-    let rest = word(b"derive", tokens)?;
+    let (line, rest) = word_on(b"derive", tokens)?;
     let (lits, rest) = lits(alloc, rest)?;
     let rest = word(b"by", rest)?;
     let (hints, rest) = hints(alloc, rest)?;
-    Ok((
-        Step::Learn {
-            lits,
-            hints,
-            counted: false,
-        },
-        rest,
-    ))
+    let step = Step::Learn {
+        lits,
+        hints,
+        counted: false,
+    };
+    Ok((StepOnLine { line, step }, rest))
 }

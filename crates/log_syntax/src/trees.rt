@@ -1,5 +1,16 @@
-use currency_base::{AttrId, RelId, RowId, Tuple, TupleList};
-use refutation_log::StatementList;
+use currency_base::{AttrId, ItemList, RelId, RowId, Tuple, TupleList};
+use refutation_log::{Log, StatementList, Step, Steps};
+
+/// Lines of a text, counted from 1.
+pub type LineList = ItemList<u32>;
+
+/// A log as it was read: the log, and the lines on which its statements and its steps begin, in order.
+#[derive(Debug, Drop)]
+pub struct ReadLog {
+    pub log: Log,
+    pub statements: LineList,
+    pub steps: LineList,
+}
 
 /// A statement as it is written: an answer has its tuple.
 #[derive(Debug, Drop, PartialEq)]
@@ -29,11 +40,34 @@ pub enum StatementTree {
     },
 }
 
-/// The statements that were read: the answers' tuples, and the statements, which name them by their places.
+/// A statement, and the line of the word `statement` before it.
+#[derive(Debug, Drop)]
+pub struct StatementOnLine {
+    pub line: u32,
+    pub statement: StatementTree,
+}
+
+/// A step, and the line of its first word.
+#[derive(Debug, Drop)]
+pub struct StepOnLine {
+    pub line: u32,
+    pub step: Step,
+}
+
+/// The statements that were read: the answers' tuples, the statements, which name them by their places, and
+/// the statements' lines.
 #[derive(Debug, Drop)]
 pub struct Said {
     pub answers: TupleList,
     pub statements: StatementList,
+    pub lines: LineList,
+}
+
+/// The steps that were read, and their lines.
+#[derive(Debug, Drop)]
+pub struct SaidSteps {
+    pub steps: Steps,
+    pub lines: LineList,
 }
 
 /// The numbers of a relation, of an attribute of it and of a row.

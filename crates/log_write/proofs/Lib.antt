@@ -1,5 +1,5 @@
 mod Writing
-mod Texts
+pub mod Texts
 mod Numbers
-mod Rules
-mod Logs
+pub mod Rules
+pub mod Logs

@@ -1,8 +1,9 @@
 -- A log that is written spells itself.
 use Rattle.std.proofs.Common.{◌≡◌, ℕ, ◌+◌, ◌≤◌, Bool, true, false, ◌&&◌, cond, List, [], ◌∷◌, ◌++◌, inl, inr, length, length-append, map, refl, sym, ap, ap₂, ◌∙◌, append_assoc, arith, codes}
 use Rattle.std.specs.Prelude.{slice_index_or, ◌==◌}
+use Rattle.std.proofs.lemmas.List.{length-map}
 use Rattle.text_tokens.specs.Lexeme.{Lexeme}
-use Rattle.text_grammar.specs.Grammar.{Many}
+use Rattle.text_grammar.specs.Grammar.{◌⋅◌, IsSymbol, IsWord, Many}
 use Rattle.text_grammar.specs.Texts.{ReadsText}
 use Rattle.currency_base.specs.declared.value.Value.{Value}
 use Rattle.refutation_log.specs.declared.log.Log.{Log}
@@ -12,13 +13,14 @@ use Rattle.refutation_log.specs.declared.step.Step.{Step}
 use Rattle.text_write.specs.Pieces.{text_of}
 use Rattle.text_write.specs.Written.{HasTokens}
 use Rattle.text_write.proofs.Tokens.{pieces_found}
+use Rattle.log_syntax.specs.declared.trees.ReadLog.{ReadLog}
 use Rattle.log_syntax.specs.declared.trees.StatementTree.{StatementTree}
-use Rattle.log_syntax.specs.Grammar.{SpellsEndedStatement, SpellsLog, SpellsStatements, answers_of, empty_log, statements_of}
+use Rattle.log_syntax.specs.Grammar.{SpellsEndedStatement, SpellsLog, SpellsStatements, UpTo, answers_of, empty_log, no_log, statements_of}
 use Rattle.log_syntax.specs.Reads.{SpellsLogOrNothing}
 use Rattle.log_write.specs.Pieces.{clause_pieces, ended_statement_pieces, is_empty, log_pieces, many_pieces}
 use Rattle.log_write.specs.Writable.{AreAnswered, IsWritable}
-use Rattle.log_write.proofs.Rules.{Parts, semicolon, text_statements, text_steps, tree_of}
-use Rattle.log_write.proofs.Texts.{IsText, text_nothing, text_then, text_word}
+use Rattle.log_write.proofs.Rules.{EndedStatement, Parts, StepsSomewhere, semicolon, statement_on, text_statements, text_steps, tree_of}
+use Rattle.log_write.proofs.Texts.{AreSpelled, IsText, many_on_lines, text_nothing, text_then, text_wider, text_word}
 
 -- ---- the answers that statements name
 
@@ -62,35 +64,67 @@ many_map f P [] tokens h = h
 many_map f P (x ∷ xs) tokens h =
     record { front = h.front; rest = h.rest; split = h.split; first = h.first; second = many_map f P xs h.rest h.second }
 
-map_length : {A B : Type 0} (f : A → B) (xs : List A) → length (map f xs) ≡ length xs
-map_length f [] = refl
-map_length f (x ∷ xs) = (let e = map_length f xs in omega arith)
+-- statements on some lines
+abbrev Somewhere : Log → List Lexeme → Type 0
+Somewhere log tokens = (lines : List ℕ) × SpellsStatements log.answers log.statements lines tokens
 
 text_said : (log : Log) → IsWritable log
-    → IsText (SpellsStatements log.answers log.statements) (many_pieces (ended_statement_pieces log.answers) log.statements)
-text_said log h =
-    let many = text_statements log.answers h.answers log.statements h.statements in
-    let said : AreNamed 0 log.answers log.statements (map (tree_of log.answers) log.statements) =
-    named log.answers 0 log.statements [] log.answers refl refl h.answered in
-    record {
-      whole = many.whole;
-      read = λ tokens e. record {
-        trees = map (tree_of log.answers) log.statements;
-        answers_are = said.answers_are;
-        statements_are = said.statements_are;
-        spelled = (let up = many.read tokens e in
-            let few : length log.statements ≤ 4294967294 = up.few in
-            let count : length (map (tree_of log.answers) log.statements) ≡ length log.statements =
-            map_length (tree_of log.answers) log.statements in
-            record { few = omega arith; spelled = many_map (tree_of log.answers) SpellsEndedStatement log.statements tokens up.spelled });
-      };
-    }
+    → IsText (Somewhere log) (many_pieces (ended_statement_pieces log.answers) log.statements)
+text_said log h = text_wider (text_statements log.answers h.answers log.statements h.statements) read
+  where
+    trees : List StatementTree
+    trees = map (tree_of log.answers) log.statements
+
+    said : AreNamed 0 log.answers log.statements trees
+    said = named log.answers 0 log.statements [] log.answers refl refl h.answered
+
+    read : (tokens : List Lexeme) → UpTo 4294967294 (λ s. EndedStatement (tree_of log.answers s)) log.statements tokens → Somewhere log tokens
+    read tokens up =
+        let on_lines : AreSpelled (λ t. t.statement) SpellsEndedStatement trees tokens =
+        many_on_lines (λ t. t.statement) statement_on SpellsEndedStatement (λ line t. refl) trees tokens
+        (many_map (tree_of log.answers) EndedStatement log.statements tokens up.spelled) in
+        let few : length log.statements ≤ 4294967294 = up.few in
+        let count : length log.statements ≡ length on_lines.trees =
+        sym (length-map log.statements (tree_of log.answers)) ∙ ap length on_lines.are ∙ length-map on_lines.trees (λ t. t.statement) in (
+          map (λ t. t.line) on_lines.trees,
+          record {
+            trees = on_lines.trees;
+            answers_are = said.answers_are ∙ ap answers_of on_lines.are;
+            statements_are = said.statements_are ∙ ap (statements_of 0) on_lines.are;
+            lines_are = refl;
+            spelled = record { few = omega arith; spelled = on_lines.spelled };
+          },
+        )
 
 -- ---- logs
 
-text_full : Parts → (log : Log) → IsWritable log
-    → IsText (SpellsLog log) (clause_pieces log)
-text_full parts log h = text_then (text_word (codes "log") (omega arith) refl) (text_then semicolon (text_then (text_said log h) (text_steps parts log.steps h.steps)))
+-- a log on some lines
+abbrev LogSomewhere : Log → List Lexeme → Type 0
+LogSomewhere log tokens = (r : ReadLog) × (r.log ≡ log) × SpellsLog r tokens
+
+text_full : Parts → (log : Log) → IsWritable log → IsText (LogSomewhere log) (clause_pieces log)
+text_full parts log h =
+    text_wider (text_then (text_word (codes "log") (omega arith) refl) (text_then semicolon (text_then (text_said log h) (text_steps parts log.steps h.steps)))) read
+  where
+    read : (tokens : List Lexeme) → (IsWord (codes "log") ⋅ IsSymbol (codes ";") ⋅ Somewhere log ⋅ StepsSomewhere log.steps) tokens → LogSomewhere log tokens
+    read tokens k =
+        let both = k.second.second in (
+          record { log = log; statements = both.first.0; steps = both.second.0 },
+          refl,
+          record {
+            front = k.front;
+            rest = k.rest;
+            split = k.split;
+            first = k.first;
+            second = record {
+              front = k.second.front;
+              rest = k.second.rest;
+              split = k.second.split;
+              first = k.second.first;
+              second = record { front = both.front; rest = both.rest; split = both.split; first = both.first.1; second = both.second.1 };
+            };
+          },
+        )
 
 none : (answers : List (List Value)) (statements : List Statement) (steps : List Step)
     → (length statements == 0) && (length steps == 0) ≡ true → AreAnswered 0 statements answers
@@ -102,14 +136,15 @@ none answers [] (s ∷ steps) e h = absurd (grind arith)
 none answers (s ∷ statements) steps e h = absurd (grind arith)
 
 text_empty : (log : Log) → log ≡ empty_log → IsText (SpellsLogOrNothing log) []
-text_empty log e = record { whole = text_nothing.whole; read = λ tokens f. inl (e, text_nothing.read tokens f) }
+text_empty log e = text_wider text_nothing (λ tokens h. (no_log, sym e, inl (refl, h)))
 
-text_log : Parts → (log : Log) → IsWritable log → IsText (SpellsLogOrNothing log) (log_pieces log)
+-- tokens with just the pieces of a log spell it, on some lines
+pub text_log : Parts → (log : Log) → IsWritable log → IsText (SpellsLogOrNothing log) (log_pieces log)
 text_log parts log h = by (is_empty log) refl
   where
     by : (b : Bool) → is_empty log ≡ b → IsText (SpellsLogOrNothing log) (cond b [] (clause_pieces log))
     by true e = text_empty log (none log.answers log.statements log.steps e h.answered)
-    by false e = (let t = text_full parts log h in record { whole = t.whole; read = λ tokens f. inr (t.read tokens f) })
+    by false e = text_wider (text_full parts log h) (λ tokens k. (k.0, k.1, inr k.2))
 
 pub read_again : Parts → (log : Log) → IsWritable log → ReadsText SpellsLogOrNothing (text_of (log_pieces log)) log
 read_again parts log h =

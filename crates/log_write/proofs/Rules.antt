@@ -1,5 +1,7 @@
 -- Labels, steps and statements that are written spell themselves.
-use Rattle.std.proofs.Common.{◌≡◌, ℕ, true, false, zero, suc, List, [], ◌∷◌, ◌++◌, length, ◌≤◌, refl, arith, codes}
+use Rattle.std.proofs.Common.{◌≡◌, ℕ, true, false, zero, suc, List, [], ◌∷◌, ◌++◌, length, ◌≤◌, map, refl, ap, ◌∙◌, arith, codes}
+use Rattle.std.proofs.lemmas.List.{length-map}
+use Rattle.text_tokens.specs.Lexeme.{Lexeme}
 use Rattle.std.specs.Prelude.{All, slice_index_or}
 use Rattle.std.proofs.lemmas.List.Elements.{All-nil, All-head, All-tail}
 use Rattle.text_grammar.specs.Grammar.{◌⋅◌, IsSymbol, Many}
@@ -17,13 +19,15 @@ use Rattle.refutation_log.specs.declared.step.Label.TheVariants as label
 use Rattle.refutation_log.specs.declared.step.Step.{Step}
 use Rattle.refutation_log.specs.declared.step.Step.TheVariants.{Axiom, OnDemand, Learn}
 use Rattle.text_write.specs.Written.{IsValue}
+use Rattle.log_syntax.specs.declared.trees.StatementOnLine.{StatementOnLine}
 use Rattle.log_syntax.specs.declared.trees.StatementTree.{StatementTree}
+use Rattle.log_syntax.specs.declared.trees.StepOnLine.{StepOnLine}
 use Rattle.log_syntax.specs.declared.trees.StatementTree.TheVariants.{Before, Top, Last, Answer}
-use Rattle.log_syntax.specs.Grammar.{SpellsCell, SpellsConstants, SpellsEndedStatement, SpellsEndedStep, SpellsEntities, SpellsFurther, SpellsHints, SpellsLabel, SpellsLit, SpellsLits, SpellsNumber, SpellsRows, SpellsStatement, SpellsStep, SpellsValues, UpTo}
+use Rattle.log_syntax.specs.Grammar.{SpellsCell, SpellsConstants, SpellsEndedStatement, SpellsEndedStep, SpellsEntities, SpellsFurther, SpellsHints, SpellsLabel, SpellsLit, SpellsLits, SpellsNumber, SpellsRows, SpellsStatement, SpellsStep, SpellsSteps, SpellsValues, UpTo}
 use Rattle.log_write.specs.Pieces.{cell_pieces, constants_pieces, ended_statement_pieces, ended_step_pieces, entity_pieces, further_pieces, label_pieces, lit_pieces, many_pieces, number_pieces, row_pieces, statement_pieces, step_pieces, symbol, values_pieces}
 use Rattle.log_write.specs.Writable.{AreFew, IsLit, IsPlace, IsWritableLabel, IsWritableStatement, IsWritableStep}
 use Rattle.log_write.proofs.Numbers.{text_constant, text_lit, text_number}
-use Rattle.log_write.proofs.Texts.{IsText, text_few, text_many, text_nothing, text_symbol, text_then, text_word}
+use Rattle.log_write.proofs.Texts.{AreSpelled, IsText, OnSomeLine, many_on_lines, text_few, text_many, text_nothing, text_on_line, text_symbol, text_then, text_wider, text_word, text_word_on}
 
 -- ---- symbols
 
@@ -74,7 +78,7 @@ text_constants (v ∷ vs) h =
     text_then (text_constant v (All-head IsValue v vs h.each))
     (record { whole = many.whole; read = λ tokens e. record { few = omega arith; spelled = many.read tokens e } })
 
-text_values : (vs : List Value) → AreFew IsValue vs → IsText (SpellsValues vs) (values_pieces vs)
+pub text_values : (vs : List Value) → AreFew IsValue vs → IsText (SpellsValues vs) (values_pieces vs)
 text_values vs h = text_then opening (text_then (text_constants vs h) closing)
 
 text_cell : (rel : RelId) (attr : AttrId) (row : RowId) → IsPlace rel.0 → IsPlace attr.0 → IsPlace row.0
@@ -110,21 +114,46 @@ text_labelled : Parts → (l : Label) (lits : List Lit) → IsWritableLabel l �
 text_labelled parts l lits a b =
     text_then (text_label l a) (text_then colon (text_lits parts lits b))
 
-text_step : Parts → (s : Step) → IsWritableStep s → IsText (SpellsStep s) (step_pieces s)
+-- a step on some line
+abbrev StepSomewhere : Step → List Lexeme → Type 0
+StepSomewhere s = OnSomeLine (λ line. SpellsStep line s)
+
+text_step : Parts → (s : Step) → IsWritableStep s → IsText (StepSomewhere s) (step_pieces s)
 text_step parts (Axiom l lits) (a, b) =
-    text_then (text_word (codes "axiom") (omega arith) refl) (text_labelled parts l lits a b)
+    text_on_line (text_word_on (codes "axiom") (omega arith) refl) (text_labelled parts l lits a b)
 text_step parts (OnDemand l lits) (a, b) =
-    text_then (text_word (codes "demand") (omega arith) refl) (text_labelled parts l lits a b)
+    text_on_line (text_word_on (codes "demand") (omega arith) refl) (text_labelled parts l lits a b)
 text_step parts (Learn lits hints true) (a, b) =
-    text_then (text_word (codes "learn") (omega arith) refl)
+    text_on_line (text_word_on (codes "learn") (omega arith) refl)
     (text_then (text_lits parts lits a) (text_then (text_word (codes "by") (omega arith) refl) (text_hints hints b)))
 text_step parts (Learn lits hints false) (a, b) =
-    text_then (text_word (codes "derive") (omega arith) refl)
+    text_on_line (text_word_on (codes "derive") (omega arith) refl)
     (text_then (text_lits parts lits a) (text_then (text_word (codes "by") (omega arith) refl) (text_hints hints b)))
 
-pub text_steps : Parts → (steps : List Step) → AreFew IsWritableStep steps
-    → IsText (UpTo 4294967294 SpellsEndedStep steps) (many_pieces ended_step_pieces steps)
-text_steps parts = text_few SpellsEndedStep ended_step_pieces IsWritableStep (λ s h. text_then (text_step parts s h) semicolon)
+abbrev step_on : ℕ → Step → StepOnLine
+step_on line s = record { line = line; step = s }
+
+-- a step and its semicolon on some line
+abbrev EndedStep : Step → List Lexeme → Type 0
+EndedStep s = OnSomeLine (λ line. SpellsEndedStep (step_on line s))
+
+-- steps on some lines
+abbrev pub StepsSomewhere : List Step → List Lexeme → Type 0
+StepsSomewhere steps tokens = (lines : List ℕ) × SpellsSteps steps lines tokens
+
+pub text_steps : Parts → (steps : List Step) → AreFew IsWritableStep steps → IsText (StepsSomewhere steps) (many_pieces ended_step_pieces steps)
+text_steps parts steps few =
+    text_wider (text_few EndedStep ended_step_pieces IsWritableStep (λ s h. text_on_line (text_step parts s h) semicolon) steps few) read
+  where
+    read : (tokens : List Lexeme) → UpTo 4294967294 EndedStep steps tokens → StepsSomewhere steps tokens
+    read tokens h =
+        let said : AreSpelled (λ s. s.step) SpellsEndedStep steps tokens =
+        many_on_lines (λ s. s.step) step_on SpellsEndedStep (λ line s. refl) steps tokens h.spelled in
+        let few : length steps ≤ 4294967294 = h.few in
+        let count : length steps ≡ length said.trees = ap length said.are ∙ length-map said.trees (λ s. s.step) in (
+          map (λ s. s.line) said.trees,
+          record { trees = said.trees; steps_are = said.are; lines_are = refl; spelled = record { few = omega arith; spelled = said.spelled } },
+        )
 
 -- ---- statements
 
@@ -152,9 +181,16 @@ text_statement answers all (statement.Last rel attr row) (a, b, c) =
 text_statement answers all (statement.Answer tuple) h =
     text_then (text_word (codes "answer") (omega arith) refl) (text_values (slice_index_or answers tuple []) (few_values answers tuple all))
 
+abbrev pub statement_on : ℕ → StatementTree → StatementOnLine
+statement_on line t = record { line = line; statement = t }
+
+-- a statement with its word and its semicolon, on some line
+abbrev pub EndedStatement : StatementTree → List Lexeme → Type 0
+EndedStatement t = OnSomeLine (λ line. SpellsEndedStatement (statement_on line t))
+
 pub text_statements : (answers : List (List Value)) → All (AreFew IsValue) answers → (statements : List Statement)
     → AreFew IsWritableStatement statements
-    → IsText (UpTo 4294967294 (λ s. SpellsEndedStatement (tree_of answers s)) statements) (many_pieces (ended_statement_pieces answers) statements)
+    → IsText (UpTo 4294967294 (λ s. EndedStatement (tree_of answers s)) statements) (many_pieces (ended_statement_pieces answers) statements)
 text_statements answers all =
-    text_few (λ s. SpellsEndedStatement (tree_of answers s)) (ended_statement_pieces answers) IsWritableStatement
-    (λ s h. text_then (text_word (codes "statement") (omega arith) refl) (text_then (text_statement answers all s h) semicolon))
+    text_few (λ s. EndedStatement (tree_of answers s)) (ended_statement_pieces answers) IsWritableStatement
+    (λ s h. text_on_line (text_word_on (codes "statement") (omega arith) refl) (text_then (text_statement answers all s h) semicolon))

@@ -1,5 +1,5 @@
 -- What is written spells what it was written from: what keeps that.
-use Rattle.std.proofs.Common.{◌≡◌, ℕ, ◌<◌, true, List, [], ◌∷◌, ◌++◌, length, map, refl, ap, ◌∙◌, Option, Some}
+use Rattle.std.proofs.Common.{◌≡◌, ℕ, ◌<◌, Bool, true, cond, List, [], ◌∷◌, ◌++◌, length, map, refl, ap, ap₂, ◌∙◌, Option, Some, None}
 use Rattle.std.specs.Prelude.{All, Contains}
 use Rattle.std.specs.List.{list_all}
 use Rattle.std.proofs.lemmas.List.Elements.{All-nil, All-cons, All-head, All-tail, All-append}
@@ -12,7 +12,7 @@ use Rattle.text_grammar.specs.Grammar.{◌⋅◌, IsSymbol, IsWord, Many, Nothin
 use Rattle.text_grammar.specs.Words.{is_fixed}
 use Rattle.text_write.specs.Pieces.{Piece, piece_of, symbol_piece, word_piece}
 use Rattle.text_write.specs.Written.{IsPiece, symbols}
-use Rattle.log_syntax.specs.Grammar.{UpTo}
+use Rattle.log_syntax.specs.Grammar.{IsWordOn, UpTo}
 use Rattle.log_write.specs.Pieces.{many_pieces, symbol, word}
 use Rattle.log_write.specs.Writable.{AreFew}
 
@@ -92,6 +92,25 @@ pub text_symbol : (text : List ℕ) → Contains symbols text → IsText (IsSymb
 text_symbol text h = text_one (symbol_piece text) (IsSymbol text) (record { whole = h })
     (λ t e. record { token = t; alone = refl; passes = same_fixed Symbol text t e })
 
+-- a larger language
+pub text_wider : {L M : List Lexeme → Type 0} {ps : List Piece} → IsText L ps → ((tokens : List Lexeme) → L tokens → M tokens) → IsText M ps
+text_wider l goes = record { whole = l.whole; read = λ tokens e. goes tokens (l.read tokens e) }
+
+-- ---- on some line
+
+-- on some line
+abbrev pub OnSomeLine : (ℕ → List Lexeme → Type 0) → List Lexeme → Type 0
+OnSomeLine P tokens = (line : ℕ) × P line tokens
+
+pub text_word_on : (text : List ℕ) → 0 < length text → list_all is_word_byte text ≡ true → IsText (OnSomeLine (IsWordOn text)) (word text)
+text_word_on text some each = text_one (word_piece text) (OnSomeLine (IsWordOn text)) (record { whole = record { some = some; each = each } })
+    (λ t e. (t.line, record { token = t; alone = refl; said = ap (λ (b : Bool). cond b (Some t.line) None) (same_fixed Word text t e) }))
+
+pub text_on_line : {P : ℕ → List Lexeme → Type 0} {M : List Lexeme → Type 0} {ps qs : List Piece} → IsText (OnSomeLine P) ps → IsText M qs
+    → IsText (OnSomeLine (λ line. P line ⋅ M)) (ps ++ qs)
+text_on_line l m = text_wider (text_then l m)
+    (λ tokens h. (h.first.0, record { front = h.front; rest = h.rest; split = h.split; first = h.first.1; second = h.second }))
+
 -- ---- any number of times
 
 pub text_many : {A : Type 0} (P : A → List Lexeme → Type 0) (pieces : A → List Piece) (Q : A → Type 0)
@@ -106,3 +125,21 @@ pub text_few : {A : Type 0} (P : A → List Lexeme → Type 0) (pieces : A → L
 text_few P pieces Q each xs h =
     let many : IsText (Many P xs) (many_pieces pieces xs) = text_many P pieces Q each xs h.each in
     record { whole = many.whole; read = λ tokens e. record { few = h.few; spelled = many.read tokens e } }
+
+-- trees that are spelled, of which these are the parts
+pub record AreSpelled {A B : Type 0} (f : B → A) (P : B → List Lexeme → Type 0) (xs : List A) (tokens : List Lexeme) : Type 0 where
+  pub trees : List B
+  pub are : xs ≡ map f trees
+  pub spelled : Many P trees tokens
+
+-- items on some lines are parts of trees that have their lines
+pub many_on_lines : {A B : Type 0} (f : B → A) (make : ℕ → A → B) (P : B → List Lexeme → Type 0) → ((line : ℕ) (x : A) → x ≡ f (make line x))
+    → (xs : List A) (tokens : List Lexeme) → Many (λ x. OnSomeLine (λ line. P (make line x))) xs tokens → AreSpelled f P xs tokens
+many_on_lines f make P same [] tokens h = record { trees = []; are = refl; spelled = h }
+many_on_lines {A} {B} f make P same (x ∷ xs) tokens h =
+    let more : AreSpelled f P xs h.rest = many_on_lines f make P same xs h.rest h.second in
+    record {
+      trees = make h.first.0 x ∷ more.trees;
+      are = ap₂ (λ (y : A) (ys : List A). y ∷ ys) (same h.first.0 x) more.are;
+      spelled = record { front = h.front; rest = h.rest; split = h.split; first = h.first.1; second = more.spelled };
+    }

@@ -16,4 +16,5 @@ mod values;
 mod write;
 
 pub use laws::written_is_read;
-pub use write::write_log;
+pub use values::write_values;
+pub use write::{write_log, write_log_into};

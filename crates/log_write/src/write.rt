@@ -22,12 +22,12 @@ pub fn write_log(alloc: Global, log: &Log) -> Result<ByteList, NoMemory>
     ensures { IfOk result (λ text. text ≡ text_of (log_pieces log.now)) }
 {
     let mut into = TextWriter::new(alloc);
-    write_clauses_if_any(&mut into, log)?;
+    write_log_into(&mut into, log)?;
     Ok(into.into_text())
 }
 
-/// Writes the clauses of a log that has a statement or a step.
-fn write_clauses_if_any(into: &mut TextWriter, log: &Log) -> Result<(), NoMemory>
+/// Writes a log after what is written; of the empty log nothing is written.
+pub fn write_log_into(into: &mut TextWriter, log: &Log) -> Result<(), NoMemory>
     ensures { OnOk result (into.new ≡ writes_all into.old (log_pieces log.now)) }
 {
     if is_empty(log) {

@@ -1,1 +1,7 @@
-mod Rules
+mod Counts
+mod PassedOver
+mod VerdictRules
+mod CompletionRules
+pub mod Rules
+mod Plain
+pub mod Sizes

@@ -1,290 +1,174 @@
--- The rules of reports are read as they are spelled, and tell where a form isn't built.
-use Rattle.std.proofs.Common.{◌≡◌, ℕ, Bool, true, false, not, ◌||◌, cond, List, [], ◌∷◌, ◌++◌, ◌⊎◌, inl, inr, refl, sym, ap, subst, ◌∙◌, Option, Some, None, codes}
+-- Reports are read as they are spelled.
+use Rattle.std.proofs.Common.{◌≡◌, ℕ, Bool, true, false, ◌||◌, List, [], ◌∷◌, ◌++◌, inl, inr, refl, ap, subst, ◌∙◌, codes}
+use Rattle.std.specs.Str.{bytes_eq}
 use Rattle.text_tokens.specs.Lexeme.{Lexeme}
-use Rattle.text_tokens.specs.declared.token.TokenKind.TheVariants.{Word, Symbol}
-use Rattle.text_grammar.specs.Words.{is_word, is_symbol, named}
-use Rattle.text_grammar.specs.Grammar.{Language, ◌⋅◌, IsWord, IsSymbol, SpellsName, Maybe, Listed}
-use Rattle.text_grammar.specs.Reading.{one, both}
-use Rattle.text_grammar.specs.Laws.{Stopped, IsReader, IsPlain, Tells, AtFirst}
-use Rattle.text_grammar.proofs.Lists.{append_empty}
-use Rattle.text_grammar.proofs.Readers.{always, stopped_always, Begins, Ended, FirstIs, Image, first_then, reads_one, reads_two, reads_then, reads_made}
-use Rattle.text_grammar.proofs.Choices.{maybe_ends, reads_maybe, reads_only}
-use Rattle.text_grammar.proofs.ListReaders.{unless, reads_many_plain}
-use Rattle.text_grammar.proofs.FixedTokens.{a_fixed, a_fixed_is, apart, reads_name, reads_symbol, after_word, after_symbol, before_symbol, listed_symbol, begins_fixed}
-use Rattle.text_grammar.proofs.Tellings.{plain_one, plain_passing, plain_both, plain_after, plain_before, plain_mapped, plain_maybe, plain_many, plain_listed, tells_only, tells_mapped}
-use Rattle.text_grammar.proofs.SequenceTellings.{AfterTree, tells_same, tells_next, tells_second, tells_after, tells_after_word, either_apart}
-use Rattle.report_syntax.specs.declared.tree.VerdictTree.{VerdictTree}
-use Rattle.report_syntax.specs.declared.tree.VerdictTree.TheVariants.{Consistent}
+use Rattle.text_tokens.specs.declared.token.TokenKind.TheVariants.{Word}
+use Rattle.text_grammar.specs.Words.{is_word}
+use Rattle.text_grammar.specs.Grammar.{Language, ◌⋅◌, IsWord, IsSymbol}
+use Rattle.text_grammar.specs.Reading.{both}
+use Rattle.text_grammar.specs.Laws.{IsReader}
+use Rattle.text_grammar.proofs.Readers.{always, Begins, Ended, FirstIs, Image, begins_image, first_passes, reads_made, reads_mapped, reads_same, reads_then, reads_two}
+use Rattle.text_grammar.proofs.Choices.{Either, reads_choose}
+use Rattle.text_grammar.proofs.FixedTokens.{after_symbol, after_word, apart, begins_fixed, reads_symbol, reads_word}
+use Rattle.text_grammar.proofs.SequenceTellings.{either_apart}
+use Rattle.log_syntax.specs.Grammar.{SpellsLogPart}
+use Rattle.log_syntax.specs.Reading.{log_part_at}
+use Rattle.log_syntax.specs.declared.trees.ReadLog.{ReadLog}
+use Rattle.log_syntax.proofs.EndingReaders.{ended_up_to}
+use Rattle.log_syntax.proofs.LogParts.{begins_log_part, end_ends_log, reads_log_part_then}
+use Rattle.log_syntax.proofs.UpToReaders.{ended_at, up_to_begins}
+use Rattle.report_syntax.specs.declared.tree.ClaimTree.TheVariants.{Inconsistent, Consistent, Certain, NotCertain, Same, NotSame, Answers, Undecided}
 use Rattle.report_syntax.specs.declared.tree.CompletionTree.{CompletionTree}
-use Rattle.report_syntax.specs.Spells
-use Rattle.report_syntax.specs.Spells.{word_line, IsWordOn, is_unbuilt_verdict, is_unbuilt_part, OpensVerdict, OpensPart, OpensReport}
-use Rattle.report_syntax.specs.Reading.{consistent_at, verdict_at, rows_at, ranking_at, completion_at, completions_of, completions_at, begins_part, end_at, report_at}
+use Rattle.report_syntax.specs.declared.tree.Version.{Version}
+use Rattle.report_syntax.specs.declared.tree.Version.TheVariants.{First, Second}
+use Rattle.report_syntax.specs.Spells.{SpellsCompletion, SpellsCompletions, SpellsReport, SpellsVersion}
+use Rattle.report_syntax.specs.Reading.{completions_at, ended_word_at, first_at, report_at, second_at, version_at}
+use Rattle.report_syntax.proofs.CompletionRules.{begins_completion, ends_completion, ends_completions, reads_completions}
+use Rattle.report_syntax.proofs.VerdictRules.{Semicolon, ends_claim, reads_verdict}
 
--- ---- words with their lines
+-- ---- the head
 
-reads_word_on : (text : List ℕ) → IsReader (IsWordOn text) always (one (word_line text))
-reads_word_on text = reads_one (word_line text) (a_fixed Word text) (a_fixed Word text).line
-    (ap (λ (b : Bool). cond b (Some (a_fixed Word text).line) None) (a_fixed_is Word text))
+reads_ended_word : (text : List ℕ) → IsReader (λ (u : Unit {0}). IsWord text ⋅ IsSymbol (codes ";")) always (ended_word_at text)
+reads_ended_word text = after_word text (reads_symbol (codes ";"))
 
--- a rule that begins with a word whose line it keeps
-begins_word_on : (text : List ℕ) (line : ℕ) (M : Language) (tokens : List Lexeme) → (IsWordOn text line ⋅ M) tokens → FirstIs (is_word text) true tokens
-begins_word_on text line M tokens h = first_then (is_word text) true first h
-  where
-    passes : (b : Bool) (n m : ℕ) → ◌≡◌ {A = Option ℕ} (cond b (Some n) None) (Some m) → b ≡ true
-    passes true n m e = refl
-    passes false n m e = absurd (cc)
+-- a version, by its word
+abbrev VersionBy : Version → List ℕ → Version → Language
+VersionBy v text = Image (λ (u : Unit {0}). v) (λ u. IsWord text)
 
-    first : (front : List Lexeme) → IsWordOn text line front → FirstIs (is_word text) true front
-    first front h = record { token = h.token; rest = []; is = h.alone; answers = passes (is_word text h.token) h.token.line line h.said }
+begins_version : (v : Version) (text : List ℕ) (test : Lexeme → Bool) (b : Bool) → ((t : Lexeme) → is_word text t ≡ true → test t ≡ b)
+    → Begins test b (VersionBy v text)
+begins_version v text test b goes =
+    begins_image (λ (u : Unit {0}). v) (λ u. IsWord text) test b (λ u tokens h. first_passes (is_word text) test b goes tokens h)
 
--- ---- verdicts
+reads_first : IsReader (VersionBy First (codes "1")) always first_at
+unfolding first_at
+reads_first = reads_mapped (reads_word (codes "1")) (λ u. First) always (λ a t. refl)
 
-abbrev SpellsConsistent : Unit {0} → Language
-SpellsConsistent u = IsWord (codes "consistent") ⋅ IsSymbol (codes ";")
+reads_second : IsReader (VersionBy Second (codes "2")) always second_at
+unfolding second_at
+reads_second = reads_mapped (reads_word (codes "2")) (λ u. Second) always (λ a t. refl)
 
-reads_consistent : IsReader SpellsConsistent always consistent_at
-unfolding consistent_at
-reads_consistent =
-    reads_only (after_word (codes "consistent") (reads_symbol (codes ";"))) (is_word (codes "consistent")) is_unbuilt_verdict
-    (begins_fixed (λ (u : Unit {0}). IsSymbol (codes ";")) Word (codes "consistent") (is_word (codes "consistent")) true (λ t e. e))
+version_spelled : (v : Version) (tokens : List Lexeme) → Either (VersionBy First (codes "1")) (VersionBy Second (codes "2")) v tokens
+    → SpellsVersion v tokens
+version_spelled v tokens (inl h) = subst (λ (v : Version). SpellsVersion v tokens) h.is h.spelled
+version_spelled v tokens (inr h) = subst (λ (v : Version). SpellsVersion v tokens) h.is h.spelled
 
-verdict_of : (v : VerdictTree) (tokens : List Lexeme) → Spells.SpellsVerdict v tokens
-    → Image (λ (x : ℕ × Unit {0}). Consistent x.0) (λ (x : ℕ × Unit {0}). IsWordOn (codes "verdict") x.0 ⋅ SpellsConsistent x.1) v tokens
-verdict_of (Consistent line) tokens h = record { tree = (line, tt); is = refl; spelled = h }
+spelled_version : (v : Version) (tokens : List Lexeme) → SpellsVersion v tokens
+    → Either (VersionBy First (codes "1")) (VersionBy Second (codes "2")) v tokens
+spelled_version First tokens h = inl (record { tree = tt; is = refl; spelled = h })
+spelled_version Second tokens h = inr (record { tree = tt; is = refl; spelled = h })
 
-pub reads_verdict : IsReader Spells.SpellsVerdict always verdict_at
-unfolding verdict_at
-reads_verdict =
-    reads_made (reads_two (reads_word_on (codes "verdict")) reads_consistent) (λ x. Consistent x.0) always
-    (λ a t. refl) (λ x tokens h. h) verdict_of
+reads_version : IsReader SpellsVersion always version_at
+unfolding version_at
+reads_version = reads_same
+    (reads_choose reads_first reads_second (is_word (codes "1")) (begins_version First (codes "1") (is_word (codes "1")) true (λ t e. e))
+    (begins_version Second (codes "2") (is_word (codes "1")) false (apart Word (codes "2") Word (codes "1") refl)))
+    version_spelled spelled_version
 
--- ---- rankings
-
-reads_rows : IsReader (λ rows. Listed (IsSymbol (codes "<")) SpellsName rows ⋅ IsSymbol (codes ";")) always rows_at
-unfolding rows_at
-reads_rows = before_symbol (codes ";") (listed_symbol (codes "<") reads_name) (λ a t e. ap not (apart Symbol (codes ";") Symbol (codes "<") refl t e))
-
-pub reads_ranking : IsReader Spells.SpellsRanking always ranking_at
-unfolding ranking_at
-reads_ranking =
-    reads_made
-    (reads_two (reads_word_on (codes "ranking")) (reads_two reads_name (after_symbol (codes ".") (reads_two reads_name
-    (after_word (codes "of") (reads_two reads_name (after_symbol (codes ":") reads_rows)))))))
-    (λ x. record { line = x.0; relation = x.1.0; attr = x.1.1.0; entity = x.1.1.1.0; rows = x.1.1.1.1 }) always
-    (λ a t. refl) (λ x tokens h. h)
-    (λ r tokens h. record { tree = (r.line, (r.relation, (r.attr, (r.entity, r.rows)))); is = refl; spelled = h })
-
-begins_ranking : Begins (is_word (codes "ranking")) true Spells.SpellsRanking
-begins_ranking r tokens h = begins_word_on (codes "ranking") r.line _ tokens h
-
--- ---- completions
-
--- a completion ends at any token but a further ranking
-pub reads_completion : IsReader Spells.SpellsCompletion (unless (is_word (codes "ranking"))) completion_at
-unfolding completion_at
-reads_completion =
-    reads_made
-    (reads_two (reads_word_on (codes "completion")) (after_symbol (codes ";") (reads_many_plain reads_ranking (is_word (codes "ranking")) begins_ranking)))
-    (λ x. record { line = x.0; rankings = x.1 }) (unless (is_word (codes "ranking")))
-    (λ a t. refl) (λ x tokens h. h) (λ c tokens h. record { tree = (c.line, c.rankings); is = refl; spelled = h })
-
-begins_completion : Begins (is_word (codes "completion")) true Spells.SpellsCompletion
-begins_completion c tokens h = begins_word_on (codes "completion") c.line _ tokens h
-
--- what ends the completions: no completion where there is none, and else no further ranking
-abbrev ends_completions : List CompletionTree → Lexeme → Bool
-ends_completions [] t = not (is_word (codes "completion") t)
-ends_completions (c ∷ more) t = not (is_word (codes "ranking") t)
-
-pub reads_completions : IsReader Spells.SpellsCompletions ends_completions completions_at
-unfolding completions_at
-reads_completions = reads_made (reads_maybe reads_completion (is_word (codes "completion")) begins_completion) completions_of ends_completions same into back
-  where
-    same : (o : Option CompletionTree) (t : Lexeme) → ends_completions (completions_of o) t ≡ maybe_ends (unless (is_word (codes "ranking"))) (is_word (codes "completion")) o t
-    same None t = refl
-    same (Some c) t = refl
-
-    into : (o : Option CompletionTree) (tokens : List Lexeme) → Maybe Spells.SpellsCompletion o tokens → Spells.SpellsCompletions (completions_of o) tokens
-    into None tokens h = h
-    into (Some c) tokens h = h
-
-    back : (cs : List CompletionTree) (tokens : List Lexeme) → Spells.SpellsCompletions cs tokens → Image completions_of (Maybe Spells.SpellsCompletion) cs tokens
-    back [] tokens h = record { tree = None; is = refl; spelled = h }
-    back (c ∷ []) tokens h = record { tree = Some c; is = refl; spelled = h }
-    back (c ∷ d ∷ more) tokens h = absurd h
-
--- ---- reports
+-- ---- what follows the verdict
 
 abbrev SpellsEnd : Unit {0} → Language
 SpellsEnd u = IsWord (codes "end") ⋅ IsSymbol (codes ";")
 
-begins_end : Begins (is_word (codes "end")) true SpellsEnd
-begins_end = begins_fixed (λ (u : Unit {0}). IsSymbol (codes ";")) Word (codes "end") (is_word (codes "end")) true (λ t e. e)
+-- the words that begin what follows the completions
+abbrev after_completions : Lexeme → Bool
+after_completions t = is_word (codes "log") t || is_word (codes "end") t
 
-reads_end : IsReader SpellsEnd always end_at
-unfolding end_at
-reads_end = reads_only (after_word (codes "end") (reads_symbol (codes ";"))) (is_word (codes "end")) begins_part begins_end
+-- the words that begin what follows the verdict
+abbrev after_verdict : Lexeme → Bool
+after_verdict t = is_word (codes "completion") t || after_completions t
 
-ends_at_end : Ended ends_completions (is_word (codes "end"))
-ends_at_end [] t e = ap not (apart Word (codes "end") Word (codes "completion") refl t e)
-ends_at_end (c ∷ more) t e = ap not (apart Word (codes "end") Word (codes "ranking") refl t e)
+or_first : (a b : Bool) → a ≡ true → a || b ≡ true
+or_first true b e = refl
+or_first false b e = absurd (cc)
 
-pub reads_report : IsReader Spells.SpellsReport always report_at
+or_second : (a b : Bool) → b ≡ true → a || b ≡ true
+or_second true b e = refl
+or_second false b e = e
+
+begins_end : (test : Lexeme → Bool) → ((t : Lexeme) → is_word (codes "end") t ≡ true → test t ≡ true) → Begins test true SpellsEnd
+begins_end test goes = begins_fixed Semicolon Word (codes "end") test true goes
+
+-- a log or none, and the end
+abbrev LogAndEnd : ReadLog × Unit {0} → Language
+LogAndEnd x = SpellsLogPart x.0 ⋅ SpellsEnd x.1
+
+reads_log_and_end : IsReader LogAndEnd always (both log_part_at (ended_word_at (codes "end")))
+reads_log_and_end =
+    reads_log_part_then (reads_ended_word (codes "end")) (is_word (codes "end")) (begins_end (is_word (codes "end")) (λ t e. e)) end_ends_log
+
+begins_log_and_end : Begins after_completions true LogAndEnd
+begins_log_and_end =
+    begins_log_part SpellsEnd after_completions true (λ t e. or_first (is_word (codes "log") t) (is_word (codes "end") t) e)
+    (begins_end after_completions (λ t e. or_second (is_word (codes "log") t) (is_word (codes "end") t) e))
+
+-- a word that begins what follows the completions is none of the others
+after_completions_apart : (text : List ℕ) → bytes_eq (codes "log") text ≡ false → bytes_eq (codes "end") text ≡ false
+    → (t : Lexeme) → after_completions t ≡ true → is_word text t ≡ false
+after_completions_apart text log end t =
+    either_apart (is_word (codes "log") t) (is_word (codes "end") t) (is_word text t) (apart Word (codes "log") Word text log t) (apart Word (codes "end") Word text end t)
+
+completions_end : Ended ends_completions after_completions
+completions_end cs t e =
+    ended_up_to 4294967294 ends_completion (is_word (codes "completion")) cs t
+    (λ c. ended_at 4294967294 (is_word (codes "ranking")) c.rankings t (after_completions_apart (codes "ranking") refl refl t e))
+    (after_completions_apart (codes "completion") refl refl t e)
+
+-- completions, a log or none, and the end
+abbrev Body : List CompletionTree × (ReadLog × Unit {0}) → Language
+Body x = SpellsCompletions x.0 ⋅ LogAndEnd x.1
+
+reads_body : IsReader Body always (both completions_at (both log_part_at (ended_word_at (codes "end"))))
+reads_body = reads_then reads_completions reads_log_and_end after_completions begins_log_and_end completions_end
+
+begins_body : Begins after_verdict true Body
+begins_body x tokens h = by x.0 h.first
+  where
+    seen : FirstIs after_completions true h.rest
+    seen = begins_log_and_end x.1 h.rest h.second
+
+    by : (cs : List CompletionTree) → SpellsCompletions cs h.front → FirstIs after_verdict true tokens
+    by [] k = record {
+      token = seen.token;
+      rest = seen.rest;
+      is = h.split ∙ ap (λ (l : List Lexeme). l ++ h.rest) k.spelled ∙ seen.is;
+      answers = or_second (is_word (codes "completion") seen.token) (after_completions seen.token) seen.answers;
+    }
+    by (c ∷ cs) k =
+        let f : FirstIs after_verdict true h.front =
+        up_to_begins 4294967294 SpellsCompletion after_verdict true
+        (begins_completion after_verdict (λ t e. or_first (is_word (codes "completion") t) (after_completions t) e)) c cs h.front k in
+        record {
+          token = f.token;
+          rest = f.rest ++ h.rest;
+          is = h.split ∙ ap (λ (l : List Lexeme). l ++ h.rest) f.is;
+          answers = f.answers;
+        }
+
+after_verdict_apart : (text : List ℕ) → bytes_eq (codes "completion") text ≡ false → bytes_eq (codes "log") text ≡ false → bytes_eq (codes "end") text ≡ false
+    → (t : Lexeme) → after_verdict t ≡ true → is_word text t ≡ false
+after_verdict_apart text completion log end t =
+    either_apart (is_word (codes "completion") t) (after_completions t) (is_word text t)
+    (apart Word (codes "completion") Word text completion t) (after_completions_apart text log end t)
+
+claim_ends : Ended ends_claim after_verdict
+claim_ends Inconsistent t e = refl
+claim_ends Consistent t e = refl
+claim_ends Certain t e = refl
+claim_ends (NotCertain relation attr earlier later) t e = refl
+claim_ends (Same items) t e = ended_at 4294967294 (is_word (codes "current")) items t (after_verdict_apart (codes "current") refl refl refl t e)
+claim_ends (NotSame relation attr entity) t e = refl
+claim_ends (Answers items) t e = ended_at 4294967294 (is_word (codes "answer")) items t (after_verdict_apart (codes "answer") refl refl refl t e)
+claim_ends (Undecided counted) t e = refl
+
+-- ---- reports
+
+pub reads_report : IsReader SpellsReport always report_at
 unfolding report_at
 reads_report =
     reads_made
-    (after_word (codes "currency") (after_word (codes "report") (after_word (codes "1") (after_symbol (codes ";")
-    (reads_two reads_verdict (reads_then reads_completions reads_end (is_word (codes "end")) begins_end ends_at_end))))))
-    (λ x. record { verdict = x.0; completions = x.1.0 }) always
-    (λ a t. refl) (λ x tokens h. h) (λ r tokens h. record { tree = (r.verdict, (r.completions, tt)); is = refl; spelled = h })
-
--- ---- readers without forms that aren't built
-
-plain_rows : IsPlain rows_at
-unfolding rows_at
-plain_rows = plain_before (is_symbol (codes ";")) (plain_listed (is_symbol (codes "<")) (plain_one named))
-
-plain_ranking : IsPlain ranking_at
-unfolding ranking_at
-plain_ranking = plain_mapped (λ x. record { line = x.0; relation = x.1.0; attr = x.1.1.0; entity = x.1.1.1.0; rows = x.1.1.1.1 })
-    (plain_both (plain_one (word_line (codes "ranking"))) (plain_both (plain_one named)
-    (plain_after (is_symbol (codes ".")) (plain_both (plain_one named)
-    (plain_after (is_word (codes "of")) (plain_both (plain_one named)
-    (plain_after (is_symbol (codes ":")) plain_rows)))))))
-
-plain_completion : IsPlain completion_at
-unfolding completion_at
-plain_completion = plain_mapped (λ x. record { line = x.0; rankings = x.1 })
-    (plain_both (plain_one (word_line (codes "completion"))) (plain_after (is_symbol (codes ";")) (plain_many (is_word (codes "ranking")) plain_ranking)))
-
-plain_completions : IsPlain completions_at
-unfolding completions_at
-plain_completions = plain_mapped completions_of (plain_maybe (is_word (codes "completion")) plain_completion)
-
--- ---- verdicts that aren't built
-
--- a word of such a verdict is not the one that is built
-unbuilt_verdict_apart : (t : Lexeme) → is_unbuilt_verdict t ≡ true → is_word (codes "consistent") t ≡ false
-unbuilt_verdict_apart t =
-    either_apart _ (is_word (codes "undecided") t) (is_word (codes "consistent") t)
-    (either_apart _ (is_word (codes "answers") t) (is_word (codes "consistent") t)
-    (either_apart _ (is_word (codes "same") t) (is_word (codes "consistent") t)
-    (either_apart _ (is_word (codes "not") t) (is_word (codes "consistent") t)
-    (either_apart (is_word (codes "inconsistent") t) (is_word (codes "certain") t) (is_word (codes "consistent") t)
-    (apart Word (codes "inconsistent") Word (codes "consistent") refl t) (apart Word (codes "certain") Word (codes "consistent") refl t))
-    (apart Word (codes "not") Word (codes "consistent") refl t))
-    (apart Word (codes "same") Word (codes "consistent") refl t))
-    (apart Word (codes "answers") Word (codes "consistent") refl t))
-    (apart Word (codes "undecided") Word (codes "consistent") refl t)
-
-tells_consistent : Tells (AtFirst is_unbuilt_verdict) consistent_at
-unfolding consistent_at
-tells_consistent = tells_only (is_word (codes "consistent")) is_unbuilt_verdict
-    (plain_after (is_word (codes "consistent")) (plain_passing (is_symbol (codes ";")))) unbuilt_verdict_apart
-
--- such a word stands right after `verdict`
-abbrev AfterVerdict : List Lexeme → Lexeme → Type 0
-AfterVerdict = AfterTree (IsWordOn (codes "verdict")) always (AtFirst is_unbuilt_verdict)
-
-opens_verdict : (front : List Lexeme) (t : Lexeme) → AfterVerdict front t → OpensVerdict front t
-opens_verdict front t o =
-    let same : front ≡ o.begin = o.split ∙ ap (λ (l : List Lexeme). o.begin ++ l) o.opens.first ∙ append_empty o.begin in
-    (o.tree, subst (IsWordOn (codes "verdict") o.tree) (sym same) o.spelled, o.opens.among)
-
-verdict_opens : (front : List Lexeme) (t : Lexeme) → OpensVerdict front t → AfterVerdict front t
-verdict_opens front t o = record {
-  tree = o.0;
-  begin = front;
-  rest = [];
-  split = sym (append_empty front);
-  spelled = o.1;
-  stops = refl;
-  opens = record { first = refl; among = o.2 };
-}
-
-tells_verdict : Tells OpensVerdict verdict_at
-unfolding verdict_at
-tells_verdict = tells_mapped OpensVerdict (λ x. Consistent x.0)
-    (tells_same AfterVerdict OpensVerdict
-    (tells_second (AtFirst is_unbuilt_verdict) (reads_word_on (codes "verdict")) (plain_one (word_line (codes "verdict"))) tells_consistent)
-    opens_verdict verdict_opens)
-
--- ---- parts that aren't built
-
-part_apart : (text : List ℕ) (t : Lexeme) → (is_word (codes "log") t ≡ true → is_word text t ≡ false) → (is_word (codes "completion") t ≡ true → is_word text t ≡ false)
-    → begins_part t ≡ true → is_word text t ≡ false
-part_apart text t = either_apart (is_word (codes "log") t) (is_word (codes "completion") t) (is_word text t)
-
-tells_end : Tells (AtFirst begins_part) end_at
-unfolding end_at
-tells_end = tells_only (is_word (codes "end")) begins_part (plain_after (is_word (codes "end")) (plain_passing (is_symbol (codes ";"))))
-    (λ t. part_apart (codes "end") t (apart Word (codes "log") Word (codes "end") refl t) (apart Word (codes "completion") Word (codes "end") refl t))
-
--- such a word stands where the completions end
-abbrev AfterCompletions : List Lexeme → Lexeme → Type 0
-AfterCompletions = AfterTree Spells.SpellsCompletions ends_completions (AtFirst begins_part)
-
--- a word that begins a part, where the completions end at it, is that of a part that isn't built; and conversely
-unbuilt_part : (cs : List CompletionTree) (t : Lexeme) → begins_part t ≡ true → ends_completions cs t ≡ true → is_unbuilt_part cs t ≡ true
-unbuilt_part [] t e k = no_completion (is_word (codes "log") t) (is_word (codes "completion") t) e k
-  where
-    no_completion : (a b : Bool) → a || b ≡ true → not b ≡ true → a ≡ true
-    no_completion true b e k = refl
-    no_completion false true e k = k
-    no_completion false false e k = e
-unbuilt_part (c ∷ more) t e k = e
-
-part_begins : (cs : List CompletionTree) (t : Lexeme) → is_unbuilt_part cs t ≡ true → begins_part t ≡ true
-part_begins [] t e = ap (λ (b : Bool). b || is_word (codes "completion") t) e
-part_begins (c ∷ more) t e = e
-
-part_ends : (cs : List CompletionTree) (t : Lexeme) → is_unbuilt_part cs t ≡ true → ends_completions cs t ≡ true
-part_ends [] t e = ap not (apart Word (codes "log") Word (codes "completion") refl t e)
-part_ends (c ∷ more) t e =
-    ap not (part_apart (codes "ranking") t (apart Word (codes "log") Word (codes "ranking") refl t) (apart Word (codes "completion") Word (codes "ranking") refl t) e)
-
--- ... after the verdict
-abbrev AfterParts : List Lexeme → Lexeme → Type 0
-AfterParts = AfterTree Spells.SpellsVerdict always AfterCompletions
-
-opens_part : (front : List Lexeme) (t : Lexeme) → AfterParts front t → OpensPart front t
-opens_part front t o =
-    let inner = o.opens in
-    let same : inner.begin ≡ o.rest = sym (inner.split ∙ ap (λ (l : List Lexeme). inner.begin ++ l) inner.opens.first ∙ append_empty inner.begin) in
-    let ends : ends_completions inner.tree t ≡ true = subst (λ (l : List Lexeme). Stopped (ends_completions inner.tree) (l ++ t ∷ [])) inner.opens.first inner.stops in (
-      o.tree,
-      inner.tree,
-      record { front = o.begin; rest = o.rest; split = o.split; first = o.spelled; second = subst (Spells.SpellsCompletions inner.tree) same inner.spelled },
-      unbuilt_part inner.tree t inner.opens.among ends,
-    )
-
-part_opens : (front : List Lexeme) (t : Lexeme) → OpensPart front t → AfterParts front t
-part_opens front t (verdict, completions, h, among) = record {
-  tree = verdict;
-  begin = h.front;
-  rest = h.rest;
-  split = h.split;
-  spelled = h.first;
-  stops = stopped_always (h.rest ++ t ∷ []);
-  opens = record {
-    tree = completions;
-    begin = h.rest;
-    rest = [];
-    split = sym (append_empty h.rest);
-    spelled = h.second;
-    stops = part_ends completions t among;
-    opens = record { first = refl; among = part_begins completions t among };
-  };
-}
-
-tells_body : Tells (λ front t. OpensVerdict front t ⊎ OpensPart front t) (both verdict_at (both completions_at end_at))
-tells_body = tells_same (λ front t. OpensVerdict front t ⊎ AfterParts front t) (λ front t. OpensVerdict front t ⊎ OpensPart front t)
-    (tells_next OpensVerdict AfterCompletions reads_verdict tells_verdict (tells_second (AtFirst begins_part) reads_completions plain_completions tells_end))
-    (λ front t o. elim o [ inl x ↦ inl x | inr x ↦ inr (opens_part front t x) ])
-    (λ front t o. elim o [ inl x ↦ inl x | inr x ↦ inr (part_opens front t x) ])
-
-pub tells_report : Tells OpensReport report_at
-unfolding report_at
-tells_report = tells_mapped OpensReport (λ x. record { verdict = x.0; completions = x.1.0 })
-    (tells_after_word (codes "currency") _ (tells_after_word (codes "report") _ (tells_after_word (codes "1") _
-    (tells_after _ (is_symbol (codes ";")) (a_fixed Symbol (codes ";")) (a_fixed_is Symbol (codes ";")) tells_body))))
+    (after_word (codes "currency") (after_word (codes "report") (reads_two reads_version (after_symbol (codes ";")
+    (reads_then reads_verdict reads_body after_verdict begins_body (λ v t e. claim_ends v.claim t e))))))
+    (λ x. record { version = x.0; verdict = x.1.0; completions = x.1.1.0; log = x.1.1.1.0 }) always
+    (λ a t. refl) (λ x tokens h. h)
+    (λ r tokens h. record { tree = (r.version, (r.verdict, (r.completions, (r.log, tt)))); is = refl; spelled = h })

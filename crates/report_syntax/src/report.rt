@@ -1,12 +1,13 @@
-ghost use Rattle.std.specs.Prelude.{◌≡◌, map};
+ghost use Rattle.std.specs.Prelude.{map};
 ghost use Rattle.text_tokens.specs.Lexeme.{lexeme_of};
 ghost use Rattle.text_grammar.specs.Reading.{Gives};
-ghost use Rattle.report_syntax.specs.Reading;
-ghost use Rattle.report_syntax.specs.Reading.{end_at};
+ghost use Rattle.report_syntax.specs.Reading.{first_at, second_at, version_at};
 
-use crate::ReportTree;
 use crate::completion::completions;
+use crate::ended_word::ended_word;
 use crate::verdict::verdict;
+use crate::{ReportTree, Version};
+use log_syntax::log_part;
 use std::alloc::Global;
 use text_grammar::{Refusal, Rule, is_fixed, symbol, word};
 use text_tokens::{Token, TokenKind};
@@ -28,45 +29,55 @@ impl Rule for ReportRule {
     ) -> Result<(ReportTree, &'a [Token<'a>]), Refusal<'a>> {
         let rest = word(b"currency", tokens)?;
         let rest = word(b"report", rest)?;
-        let rest = word(b"1", rest)?;
+        let (version, rest) = version(rest)?;
         let rest = symbol(b";", rest)?;
-        let (verdict, rest) = verdict(rest)?;
+        let (verdict, rest) = verdict(alloc, rest)?;
         let (completions, rest) = completions(alloc, rest)?;
-        let rest = end(rest)?;
+        let (log, rest) = log_part(alloc, rest)?;
+        let rest = ended_word(b"end", rest)?;
         Ok((
             ReportTree {
+                version,
                 verdict,
                 completions,
+                log,
             },
             rest,
         ))
     }
 }
 
-/// Takes the end of a report from the front of the tokens.
-#[tactic(auto, unfolding(crate::specs::Reading::end_at))]
-fn end<'a>(tokens: &'a [Token<'a>]) -> Result<&'a [Token<'a>], Refusal<'a>>
-    ensures { Gives (λ rest. (tt, map lexeme_of rest.now)) result (end_at (map lexeme_of tokens.now)) }
+/// Takes the version of a report's language from the front of the tokens.
+#[tactic(auto, unfolding(crate::specs::Reading::version_at))]
+fn version<'a>(tokens: &'a [Token<'a>]) -> Result<(Version, &'a [Token<'a>]), Refusal<'a>>
+    ensures { Gives (λ x. (x.0, map lexeme_of x.1.now)) result (version_at (map lexeme_of tokens.now)) }
 {
     match tokens {
-        [] => Err(Refusal::Syntax(tokens)),
-        [first, ..] => {
-            if is_fixed(TokenKind::Word, b"end", first) {
-                let rest = word(b"end", tokens)?;
-                let rest = symbol(b";", rest)?;
-                Ok(rest)
-            } else if begins_part(first) {
-                Err(Refusal::Unbuilt(tokens))
+        [] => second(tokens),
+        [first_token, ..] => {
+            if is_fixed(TokenKind::Word, b"1", first_token) {
+                first(tokens)
             } else {
-                Err(Refusal::Syntax(tokens))
+                second(tokens)
             }
         }
     }
 }
 
-/// Does this word begin a part of a report that is not built yet, where no completion may stand?
-fn begins_part(token: &Token) -> bool
-    ensures { result ≡ Reading.begins_part (lexeme_of token.now) }
+/// The first version.
+#[tactic(auto, unfolding(crate::specs::Reading::first_at))]
+fn first<'a>(tokens: &'a [Token<'a>]) -> Result<(Version, &'a [Token<'a>]), Refusal<'a>>
+    ensures { Gives (λ x. (x.0, map lexeme_of x.1.now)) result (first_at (map lexeme_of tokens.now)) }
 {
-    is_fixed(TokenKind::Word, b"log", token) || is_fixed(TokenKind::Word, b"completion", token)
+    let rest = word(b"1", tokens)?;
+    Ok((Version::First, rest))
+}
+
+/// The second version.
+#[tactic(auto, unfolding(crate::specs::Reading::second_at))]
+fn second<'a>(tokens: &'a [Token<'a>]) -> Result<(Version, &'a [Token<'a>]), Refusal<'a>>
+    ensures { Gives (λ x. (x.0, map lexeme_of x.1.now)) result (second_at (map lexeme_of tokens.now)) }
+{
+    let rest = word(b"2", tokens)?;
+    Ok((Version::Second, rest))
 }

@@ -1,1 +1,6 @@
-pub mod OneUnshown
+mod Claimed
+mod Claims
+mod Counting
+mod FirstUnshown
+mod Firsts
+mod Lacks

@@ -1,8 +1,13 @@
-//! Verification: which reports show their verdict.
+//! Verification: which reports show their verdict, and that a verdict that is shown is right.
 #![tactic(auto)]
 
-mod check;
+mod claim;
+mod completions;
 mod fault;
+mod judge;
+mod laws;
+mod log;
 
-pub use check::{first_unshown_is_not_shown, first_unshown_is_one, shown_is_right, verify};
 pub use fault::{Missing, Unshown, VerifyFault};
+pub use judge::verify;
+pub use laws::{first_unshown_is_not_shown, first_unshown_is_one, shown_is_right};

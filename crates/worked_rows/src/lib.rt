@@ -8,8 +8,6 @@ mod documents;
 #[cfg(test)]
 mod hostile;
 #[cfg(test)]
-mod limits;
-#[cfg(test)]
 mod rules;
 #[cfg(test)]
 mod verify;

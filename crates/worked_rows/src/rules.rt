@@ -1,6 +1,7 @@
-use crate::documents::{ACCEPTED, Documents, expect, first, with, with_line};
+use crate::documents::expect;
 use std::process::Abort;
 use std::test::Fail;
+use worked_documents::{ACCEPTED, Documents, first, with, with_line};
 
 const REFUSED: &str = "refused V1 p 3\n";
 

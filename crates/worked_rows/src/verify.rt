@@ -1,9 +1,8 @@
-use crate::documents::{
-    ACCEPTED, Documents, P, expect, first, shelf_of, with, with_line, words_of,
-};
+use crate::documents::expect;
 use currency_cli::run;
 use currency_edge::MemorySink;
 use std::test::Fail;
+use worked_documents::{ACCEPTED, Documents, P, first, shelf_of, with, with_line, words_of};
 
 #[test]
 fn a_shown_report_is_accepted(rt: HostRuntime) -> Result<(), Fail> {

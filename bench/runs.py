@@ -1,0 +1,35 @@
+"""Runs of the program as built, with their time and their peak memory."""
+import os
+import pathlib
+import subprocess
+import sys
+import time
+
+ROOT = pathlib.Path(__file__).resolve().parent.parent
+PROGRAM = ROOT / "crates" / "currency" / "out" / "currency"
+
+
+def build():
+    """Builds the program, where it is not built."""
+    subprocess.run([ROOT / "currency"], capture_output=True, check=False)
+
+
+def run(folder, wanted):
+    """The seconds and the megabytes of one `verify` over the documents of a folder, which is to accept the report
+    with this text. The megabytes are never below those of this script."""
+    begin = time.perf_counter()
+    child = subprocess.Popen([PROGRAM, "verify", "s", "q", "p"], cwd=folder, stdout=subprocess.PIPE)
+    said = child.stdout.read()
+    _, status, usage = os.wait4(child.pid, 0)
+    spent = time.perf_counter() - begin
+    child.returncode = os.waitstatus_to_exitcode(status)
+    if child.returncode != 0 or said != wanted:
+        sys.exit(f"unexpected end: status {child.returncode}, {said!r}")
+    return spent, usage.ru_maxrss / 1024
+
+
+def end(above):
+    """Tells what is above its mark, and ends with status 1 where something is."""
+    for line in above:
+        print(f"above its mark: {line}")
+    sys.exit(1 if above else 0)

@@ -1,0 +1,3 @@
+pub mod Merged
+mod Steps
+pub mod Shapes

@@ -1,0 +1,7 @@
+mod Found
+mod Unlined
+mod ClaimTrees
+mod Ranked
+mod Later
+mod Told
+mod Reread

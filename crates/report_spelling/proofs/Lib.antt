@@ -1,0 +1,6 @@
+mod Likenesses
+mod Names
+mod Claims
+mod Rankings
+mod Completions
+mod Reports

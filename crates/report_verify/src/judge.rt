@@ -1,0 +1,98 @@
+ghost use Rattle.std.specs.Prelude.{◌≡◌, ◌<◌, ◌^◌, true, All, IfErr, OnOk, length};
+ghost use Rattle.log_checker.specs.Accepted.{IsNumbered};
+ghost use Rattle.report_model.specs.Verdicts.{is_decided, kind_of};
+ghost use Rattle.report_verify.specs.Asked.{IsQuestionOn};
+ghost use Rattle.report_verify.specs.Right.{IsRight};
+ghost use Rattle.report_verify.specs.Shown.{ShowsVerdict, Refuses};
+ghost use Rattle.report_model.specs.declared.report.Part.TheVariants as part;
+ghost use Rattle.report_verify.specs.declared.fault.Unshown.TheVariants as why;
+ghost use Rattle.report_verify.specs.declared.fault.VerifyFault.TheVariants as fault;
+ghost use Rattle.spec_model.specs.Completion.{HasShape};
+ghost use Rattle.spec_model.specs.Facts.{IsSpecification};
+ghost use Rattle.spec_model.specs.declared.question.Question.TheVariants as asked;
+
+use crate::claim::{is_of_question, lacking};
+use crate::completions::check_completions;
+use crate::laws::{first_unshown_is_not_shown, shown_is_right};
+use crate::log::check_log;
+use crate::{Missing, Unshown, VerifyFault};
+use report_model::{Part, Report};
+use spec_model::{Question, Specification};
+use std::alloc::Global;
+
+/// Does the report show its verdict on the specification and the question? Otherwise the first check
+/// that fails, with the part of the report that it is about: that the verdict is one of the question's, that
+/// each listed completion is consistent, that the log is accepted, and then what the verdict asks for. Takes
+/// time in proportion to the specification for each listed completion, and to the log.
+///
+/// Only the question `consistent` is judged so far.
+pub fn verify(
+    alloc: Global,
+    spec: &Specification,
+    question: &Question,
+    report: &Report,
+) -> Result<(), VerifyFault>
+    requires question { IsQuestionOn spec.now.relations question.now }
+    requires consistent { question.now ≡ asked.Consistent }
+    requires shape { All (HasShape spec.now.relations) report.now.completions }
+    requires few { length report.now.completions < 2 ^ 32 }
+    requires numbered { IsNumbered report.now.log.statements report.now.log.steps }
+    ensures shown { OnOk result (ShowsVerdict spec.now question.now report.now) }
+    ensures right { OnOk result (is_decided (kind_of report.now.verdict) ≡ true → IsRight spec.now question.now report.now.verdict) }
+    ensures refused { IfErr result (Refuses spec.now question.now report.now) }
+    ensures exact { ShowsVerdict spec.now question.now report.now → IfErr result (λ e. e ≡ fault.NoMemory) }
+{
+    first_unshown_is_not_shown();
+    shown_is_right();
+    is_specification(spec);
+    judged(alloc, spec, question, report)
+}
+
+// The same, and nothing of what follows from it.
+fn judged(
+    alloc: Global,
+    spec: &Specification,
+    question: &Question,
+    report: &Report,
+) -> Result<(), VerifyFault>
+    requires consistent { question.now ≡ asked.Consistent }
+    requires shape { All (HasShape spec.now.relations) report.now.completions }
+    requires few { length report.now.completions < 2 ^ 32 }
+    requires numbered { IsNumbered report.now.log.statements report.now.log.steps }
+    ensures shown { OnOk result (ShowsVerdict spec.now question.now report.now) }
+    ensures refused { IfErr result (Refuses spec.now question.now report.now) }
+{
+    if !is_of_question(&report.verdict) {
+        return Err(not_shown(Missing::Shape));
+    }
+    if let Err(fault) = check_completions(alloc, spec, &report.completions) {
+        return Err(fault);
+    }
+    let has_empty = match check_log(alloc, spec, &report.log) {
+        Ok(has_empty) => has_empty,
+        Err(fault) => return Err(fault),
+    };
+    match lacking(report, has_empty) {
+        Some(missing) => Err(not_shown(missing)),
+        None => Ok(()),
+    }
+}
+
+// A law: what every specification keeps, as its parts say it.
+fn is_specification(spec: &Specification)
+    ensures { IsSpecification spec.now }
+{
+    let _ = spec.relations();
+    let _ = spec.rules();
+    let _ = spec.copies();
+}
+
+// A refusal for what the verdict lacks.
+fn not_shown(missing: Missing) -> VerifyFault
+    ensures { result ≡ fault.Refused part.Verdict (why.NotShown missing) }
+{
+    VerifyFault::Refused {
+        part: Part::Verdict,
+        why: Unshown::NotShown(missing),
+    }
+}

@@ -1,0 +1,5 @@
+pub mod Pieces
+pub mod Writable
+pub mod Named
+pub mod Clauses
+pub mod Shown

@@ -1,0 +1,128 @@
+//! Documents in memory, and a run of the program over them: what the crates of rows share.
+#![tactic(auto)]
+
+use currency_base::NoMemory;
+use currency_cli::run;
+use currency_edge::{MemoryShelf, MemorySink};
+use std::alloc::Global;
+
+/// A specification of one relation.
+pub const S: &str = "relation R from \"r.csv\" row id entity eid (a: int);\n";
+
+/// Its table: three rows of one entity.
+pub const R: &str = "id,eid,a\nr1,x,1\nr2,x,2\nr3,x,3\n";
+
+/// The question whether there is a consistent completion.
+pub const Q: &str = "consistent;\n";
+
+/// A report that shows that there is one.
+pub const P: &str =
+    "currency report 1;\nverdict consistent;\ncompletion;\nranking R.a of x: r2 < r1 < r3;\nend;\n";
+
+/// What is written where the report shows the verdict `consistent`.
+pub const ACCEPTED: &str = "accepted consistent\n";
+
+/// The four documents of a case, and further tables by their names.
+#[derive(Clone, Copy)]
+pub struct Documents<'a> {
+    pub s: &'a [u8],
+    pub r: &'a [u8],
+    pub q: &'a [u8],
+    pub p: &'a [u8],
+    pub tables: &'a [(&'a str, &'a [u8])],
+}
+
+/// The documents above.
+pub fn first() -> Documents<'static> {
+    Documents {
+        s: S.as_bytes(),
+        r: R.as_bytes(),
+        q: Q.as_bytes(),
+        p: P.as_bytes(),
+        tables: &[],
+    }
+}
+
+/// A shelf with these documents.
+pub fn shelf_of(alloc: Global, documents: Documents<'_>) -> Result<MemoryShelf, NoMemory> {
+    let mut shelf = MemoryShelf::new(alloc);
+    shelf.put("s", documents.s)?;
+    shelf.put("r.csv", documents.r)?;
+    shelf.put("q", documents.q)?;
+    shelf.put("p", documents.p)?;
+    for (name, table) in documents.tables {
+        shelf.put(name, table)?;
+    }
+    Ok(shelf)
+}
+
+/// Words as the program gets them.
+pub fn words_of(alloc: Global, words: &[&str]) -> Result<Vec<String>, NoMemory> {
+    let mut all = Vec::new(alloc);
+    for word in words {
+        all.push(String::from_str(alloc, word)?)?;
+    }
+    Ok(all)
+}
+
+/// The status and the sink of `currency verify s q p` over these documents.
+pub fn verified(alloc: Global, documents: Documents<'_>) -> Result<(u8, MemorySink), NoMemory> {
+    let mut shelf = shelf_of(alloc, documents)?;
+    let mut sink = MemorySink::new(alloc);
+    let words = words_of(alloc, &["currency", "verify", "s", "q", "p"])?;
+    let status = run(alloc, words.as_slice(), &mut shelf, &mut sink);
+    Ok((status, sink))
+}
+
+/// The documents with one of them changed: `s`, `r.csv`, `q` or `p`, by its place.
+pub fn with(place: usize, text: &[u8]) -> Documents<'_> {
+    let documents = first();
+    match place {
+        0 => Documents {
+            s: text,
+            ..documents
+        },
+        1 => Documents {
+            r: text,
+            ..documents
+        },
+        2 => Documents {
+            q: text,
+            ..documents
+        },
+        _ => Documents {
+            p: text,
+            ..documents
+        },
+    }
+}
+
+/// The text with a line more.
+pub fn with_line(alloc: Global, text: &[u8], line: &str) -> Result<Vec<u8>, NoMemory> {
+    let mut all = Vec::from_slice(alloc, text)?;
+    all.extend_from_slice(line.as_bytes())?;
+    Ok(all)
+}
+
+/// A stretch of numbers, both ends in it.
+#[derive(Clone, Copy)]
+pub struct Numbers {
+    pub first: u32,
+    pub last: u32,
+}
+
+/// The text with one piece more for each number, which stands between `before` and `after`.
+pub fn with_each(
+    alloc: Global,
+    text: &str,
+    numbers: Numbers,
+    before: &str,
+    after: &str,
+) -> Result<String, NoMemory> {
+    let mut all = String::from_str(alloc, text)?;
+    for number in numbers.first..=numbers.last {
+        let piece = format!(in alloc; "{before}{number}{after}")?;
+        all.push_str(piece.as_str())?;
+    }
+    Ok(all)
+}

@@ -1,0 +1,16 @@
+use std::process::Abort;
+use std::test::Fail;
+use worked_documents::{Documents, verified};
+
+/// The documents end with this status and text.
+pub fn expect(
+    rt: &(impl Abort + AllocGlobal),
+    documents: Documents<'_>,
+    status: u8,
+    text: &str,
+) -> Result<(), Fail> {
+    let (ended, sink) = verified(rt.alloc(), documents)?;
+    assert_eq!(rt; sink.written(), text.as_bytes(), "{text}");
+    assert_eq!(rt; ended, status, "{text}");
+    Ok(())
+}

@@ -1,0 +1,11 @@
+//! Rows on reports: reports of each verdict, forged ones, and what becomes of them.
+#![tactic(auto)]
+
+#[cfg(test)]
+mod documents;
+#[cfg(test)]
+mod forged;
+#[cfg(test)]
+mod logs;
+#[cfg(test)]
+mod verdicts;
