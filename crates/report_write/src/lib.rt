@@ -9,6 +9,8 @@ mod completions;
 mod names;
 mod ranking;
 mod shown;
+#[cfg(test)]
+mod tests;
 mod verdict;
 mod writing;
 
