@@ -1,0 +1,3 @@
+mod RowTests
+mod OneRow
+mod Listed

@@ -1,0 +1,4 @@
+pub mod Facts
+pub mod Counts
+mod Slots
+mod Made

@@ -1,0 +1,4 @@
+mod Blocks
+mod LaterRows
+pub mod PairFacts
+mod Parted

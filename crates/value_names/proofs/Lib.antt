@@ -1,0 +1,4 @@
+mod Alike
+mod EntityRows
+pub mod NameFacts
+mod SameValues
