@@ -1,0 +1,9 @@
+mod Alike
+mod Among
+mod Chosen
+mod Joined
+mod Listed
+mod Looked
+mod Members
+mod Tested
+mod Whole

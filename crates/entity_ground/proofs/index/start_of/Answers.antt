@@ -1,0 +1,12 @@
+use Rattle.std.proofs.Common.{ltb, rules}
+use Rattle.std.proofs.lemmas.List.Sorted.{IsPartitionedBy-ltb, IsPartitionPoint-from_clause}
+use Rattle.entity_ground.specs.Lookups.{rank_to}
+use Rattle.entity_ground.proofs.Alike.{ranks_rise}
+use Rattle.entity_ground.proofs.index.start_of.Goals as goal
+
+pub returns-clause-at : goal.returns-clause-at
+returns-clause-at c =
+    let rank = rank_to c.args.table.now c.args.attr c.args.value.now in
+    let rows = c.args.by_value.now in
+    IsPartitionPoint-from_clause (λ y. ltb (rank y) 1) rows c.partition_point.result c.partition_point.ensures.partitioned
+    (IsPartitionedBy-ltb rank rows 1 (ranks_rise c.args.table.now c.args.attr c.args.members.now rows c.args.value.now c.requires)) (λ a r q k. search rules)

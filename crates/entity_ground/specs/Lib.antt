@@ -1,0 +1,5 @@
+pub mod Choosing
+pub mod Grounds
+pub mod Lookups
+pub mod Parts
+pub mod Tests
