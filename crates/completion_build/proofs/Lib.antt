@@ -1,0 +1,9 @@
+mod Scores
+mod Decisions
+mod Rounds
+mod Falling
+mod Tables
+mod Leading
+mod Building
+mod Ends
+mod Whole

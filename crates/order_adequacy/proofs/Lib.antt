@@ -1,0 +1,17 @@
+pub mod Adequacy
+mod Assigned
+mod Chosen
+mod Decided
+mod LastAxioms
+mod Lists
+mod Models
+mod Names
+mod OneClause
+pub mod OrderAxioms
+mod Orders
+mod Rows
+pub mod Saids
+mod SameOrders
+mod Sound
+mod Statements
+mod Truths

@@ -1,0 +1,13 @@
+pub mod Adding
+pub mod Saying
+pub mod Reading
+pub mod GivenPairs
+pub mod Columns
+pub mod Members
+pub mod CopyClauses
+pub mod RuleClauses
+pub mod Listed
+pub mod LabelsAre
+pub mod WantedClauses
+pub mod Whole
+pub mod Threes

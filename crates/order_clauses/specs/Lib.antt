@@ -1,0 +1,4 @@
+pub mod Clauses
+pub mod Subject
+pub mod Added
+pub mod Listing
