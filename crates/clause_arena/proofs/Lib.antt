@@ -1,0 +1,8 @@
+mod Cuts
+mod Written
+mod Changed
+mod Halves
+mod Sides
+mod Added
+mod Moved
+mod Dropped

@@ -1,0 +1,34 @@
+use Rattle.std.proofs.Common.{◌∙◌, refl}
+use Rattle.clause_arena.proofs.Dropped.{drop_begins, drop_stands, drop_goes_on, drop_falls, drop_ends}
+use Rattle.clause_arena.proofs.satisfied.drop_from.Goals as goal
+
+pub loop-at-init : goal.loop-at-init
+loop-at-init c =
+    record {
+      dropping = drop_begins _ _ _ _ c.requires.owner c.first-at.ensures;
+      slots = refl;
+      room = refl;
+    }
+
+pub next-at-requires : goal.next-at-requires
+next-at-requires c =
+    c.are_whole.ensures.within c.args.owner c.in-Some.slot (drop_stands _ _ _ _ _ _ c.loop-at.invariant.dropping c.in-Some.is)
+
+pub loop-at-smaller : goal.loop-at-smaller
+loop-at-smaller c =
+    let dropping = c.loop-at.invariant.dropping in
+    let on = c.next-at.ensures c.args.owner (drop_stands _ _ _ _ _ _ dropping c.in-Some.is) in
+    drop_falls _ _ _ _ _ _ _ c.in-Some.slot dropping c.in-Some.is (c.are_whole.ensures.once c.args.owner) on c.drop_slot.ensures.lists
+
+pub loop-at-preserved : goal.loop-at-preserved
+loop-at-preserved c =
+    let dropping = c.loop-at.invariant.dropping in
+    let on = c.next-at.ensures c.args.owner (drop_stands _ _ _ _ _ _ dropping c.in-Some.is) in
+    record {
+      dropping = drop_goes_on _ _ _ _ _ _ _ c.in-Some.slot dropping c.in-Some.is (c.are_whole.ensures.once c.args.owner) on c.drop_slot.ensures.lists;
+      slots = c.drop_slot.ensures.slots ∙ c.loop-at.invariant.slots;
+      room = c.drop_slot.ensures.room ∙ c.loop-at.invariant.room;
+    }
+
+pub returns-clause-lists : goal.returns-clause-lists
+returns-clause-lists c = drop_ends _ _ _ _ _ c.loop-at.invariant.dropping c.in_default.is
