@@ -1,0 +1,14 @@
+//! Rows on the way from a specification to clauses and back, over whole documents: what is numbered, the
+//! grounds, the clauses, and what assignments say of the order of rows.
+#![tactic(auto)]
+
+#[cfg(test)]
+mod grounded;
+#[cfg(test)]
+mod ordered;
+#[cfg(test)]
+mod sources;
+#[cfg(test)]
+mod spelled;
+#[cfg(test)]
+mod stated;
