@@ -1,5 +1,5 @@
--- The laws of adequacy, for whatever are answers. They stand on the laws of literals and of rules, which a crate above has of
--- the functions that state them.
+-- The laws of adequacy, for whatever are answers. They stand on the law of rules, which a crate above has of the
+-- function that states it.
 use Rattle.std.proofs.Common.{◌≡◌, ◌⊎◌, ℕ, Bool, true, false, List, refl, inl, inr}
 use Rattle.std.proofs.lemmas.Bool.{false≢true}
 use Rattle.order_adequacy.specs.Laws.{AxiomsAreTrueOver, TruthsAreModelsOver, TruthsAreThere, ModelsAreCompletions, ModelsAreOneOver, TruthsRankOver, RankingsAreOne, passing}
@@ -9,24 +9,23 @@ use Rattle.spec_model.specs.Completion.{Rankings}
 use Rattle.spec_model.specs.declared.relation.Relation.{Relation}
 use Rattle.order_adequacy.proofs.Assigned as assigned
 use Rattle.order_adequacy.proofs.OrderAxioms.{RulesByInstances}
-use Rattle.order_adequacy.proofs.Saids.{LowerLaws}
 use Rattle.order_adequacy.proofs.Sound.{axiom_true}
 use Rattle.order_adequacy.proofs.Truths as truths
 
 pub axioms_are_true : RulesByInstances → (answers : ℕ → Type 0) → AxiomsAreTrueOver answers
 axioms_are_true by_instances answers = axiom_true by_instances answers
 
-pub truths_are_models : LowerLaws → (answers : ℕ → Type 0) → TruthsAreModelsOver answers
-truths_are_models laws answers = truths.truths_are_models laws answers
+pub truths_are_models : RulesByInstances → (answers : ℕ → Type 0) → TruthsAreModelsOver answers
+truths_are_models by_instances answers = truths.truths_are_models by_instances answers
 
-pub models_are_completions : LowerLaws → ModelsAreCompletions
-models_are_completions laws = assigned.models_are_completions laws
+pub models_are_completions : RulesByInstances → ModelsAreCompletions
+models_are_completions by_instances = assigned.models_are_completions by_instances
 
-pub models_are_one : LowerLaws → (answers others : ℕ → Type 0) → ModelsAreOneOver answers others
-models_are_one laws answers others = truths.models_are_one laws answers others
+pub models_are_one : (answers others : ℕ → Type 0) → ModelsAreOneOver answers others
+models_are_one answers others = truths.models_are_one answers others
 
-pub truths_rank : LowerLaws → (answers : ℕ → Type 0) → TruthsRankOver answers
-truths_rank laws answers = truths.truths_rank laws answers
+pub truths_rank : (answers : ℕ → Type 0) → TruthsRankOver answers
+truths_rank answers = truths.truths_rank answers
 
 pub rankings_are_one : RankingsAreOne
 rankings_are_one = truths.rankings_are_one

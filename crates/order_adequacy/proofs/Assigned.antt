@@ -17,16 +17,17 @@ use Rattle.refutation_log.specs.declared.step.Label.TheVariants as label
 use Rattle.spec_model.specs.Completion.{Rankings, lists_of, Before}
 use Rattle.spec_model.specs.Spec.{Spec}
 use Rattle.spec_model.specs.declared.relation.Relation.{Relation}
+use Rattle.value_names.proofs.NameFacts.{HaveOne, alike_have_one, have_one_alike, same_name}
 use Rattle.value_names.specs.Names.{are_alike, name_of}
 use Rattle.order_adequacy.proofs.Chosen.{stands_if, stands_in, current_in}
 use Rattle.order_adequacy.proofs.LastAxioms.{last_current, alike_last}
 use Rattle.order_adequacy.proofs.Lists.{at_place, in_passed}
 use Rattle.order_adequacy.proofs.Models.{IsAssigned, Put, case_is, first_or_later, second_of_two, mapped_true, contrary, stands_so, not_put, consistent}
-use Rattle.order_adequacy.proofs.Names.{AreAlike, alike_are, names_same}
 use Rattle.order_adequacy.proofs.OneClause.{OneIsTrue, asked_true}
-use Rattle.order_adequacy.proofs.Orders.{one_relation, one_entity, last_there, before_last, last_if}
+use Rattle.order_adequacy.proofs.OrderAxioms.{RulesByInstances}
+use Rattle.order_adequacy.proofs.Orders.{relation_facts, one_relation, one_entity, last_there, before_last, last_if}
 use Rattle.order_adequacy.proofs.Rows.{row_there, in_others}
-use Rattle.order_adequacy.proofs.Saids.{LowerLaws, said, as_assigned}
+use Rattle.order_adequacy.proofs.Saids.{said, as_assigned}
 use Rattle.order_adequacy.proofs.Statements.{IsWantedRow, IsWantedName, top_of_row, last_of_name}
 
 -- ---- last rows
@@ -99,18 +100,18 @@ put_current s wanted truths c rel attr row m n put =
     absurd (contrary s wanted truths c (says.Last rel attr row) m put (subst (λ (x : RowId). Put s wanted truths (not_last rel attr x)) n.named h)))
     (λ (later : OneIsTrue (variables s wanted) truths tops).
     let found = mapped_true s wanted truths (top rel attr) (alike r.rows attr.0 w.ent row) later in
-    by found.0 (alike_are r.rows attr.0 row found.0 (in_passed (are_alike r.rows attr.0 row) (rows_of (entities_of r.rows) w.ent) found.0 found.1).1) found.2)
+    by found.0 (alike_have_one r.rows attr.0 row found.0 (in_passed (are_alike r.rows attr.0 row) (rows_of (entities_of r.rows) w.ent) found.0 found.1).1) found.2)
     (first_or_later s wanted truths (not_last rel attr name) tops one)
   where
-    by : (a : RowId) → AreAlike n.row_is.relation.rows attr.0 row a → Put s wanted truths (top rel attr a) → IsCurrent s.relations c rel.0 attr.0 row
+    by : (a : RowId) → HaveOne n.row_is.relation.rows attr.0 row a → Put s wanted truths (top rel attr a) → IsCurrent s.relations c rel.0 attr.0 row
     by a both h =
         let w = n.row_is in
-        let own = one_entity w.relation.rows row.0 both.ent w.ent both.a_of w.of_entity in
-        let of : entity_of w.relation.rows a.0 ≡ Some w.ent = both.b_of ∙ ap Some own in
+        let own = one_entity w.relation.rows row.0 both.ent w.ent both.entity w.of_entity in
+        let of : entity_of w.relation.rows a.0 ≡ Some w.ent = both.other_entity ∙ ap Some own in
         let stands = put_last s wanted truths c rel attr a m (row_beside s wanted rel.0 attr.0 row a w of) h in
         let l = stands_in s.relations c rel.0 attr.0 w.ent w.relation a w.is_relation of stands in
         last_current s.relations c rel.0 attr.0 w.ent w.relation a row w.is_relation l
-        record { ent = both.ent; value = both.value; a_of = both.b_of; b_of = both.a_of; a_has = both.b_has; b_has = both.a_has }
+        record { ent = both.ent; value = both.value; entity = both.other_entity; other_entity = both.entity; here = both.there; there = both.here }
 
 -- a value that is put not current is not current
 put_not_current : (s : Spec) (wanted : Wanted) (truths : List Bool) (c : Rankings) (rel : RelId) (attr : AttrId) (row : RowId) → IsAssigned s wanted truths c
@@ -128,7 +129,10 @@ put_not_current s wanted truths c rel attr row m n put t =
     let current = second_of_two s wanted truths (not_top rel attr z) (last rel attr name)
     (λ h. put_not_last s wanted truths c rel attr z m (row_beside s wanted rel.0 attr.0 row z w l.of_entity) h
     (stands_if s.relations c rel.0 attr.0 w.ent r z w.is_relation l)) one in
-    let named : name ≡ row = sym (names_same r.rows attr.0 row z (alike_last c rel.0 attr.0 w.ent r row z l has)) ∙ n.named in
+    let facts = relation_facts s.relations rel.0 r (case_is s wanted truths c m).facts w.is_relation in
+    let both = have_one_alike r.rows attr.0 row z (alike_last c rel.0 attr.0 w.ent r row z l has) in
+    let one = same_name r attr.0 facts w.attr_in row z (row_there r.rows row.0 w.ent w.of_entity) both in
+    let named : name ≡ row = sym one ∙ n.named in
     contrary s wanted truths c (says.Last rel attr row) m (subst (λ (x : RowId). Put s wanted truths (last rel attr x)) named current) put
 
 -- ---- the truth of each statement
@@ -148,10 +152,10 @@ statement_holds s wanted truths c (says.Last rel attr row) false m at put =
 statement_holds s wanted truths c (says.Answer tuple) true m at put = put
 statement_holds s wanted truths c (says.Answer tuple) false m at put = λ h. contrary s wanted truths c (says.Answer tuple) m h put
 
-pub models_are_completions : LowerLaws → ModelsAreCompletions
-models_are_completions laws s wanted facts steps are truths long true_clauses c ranked =
+pub models_are_completions : RulesByInstances → ModelsAreCompletions
+models_are_completions by_instances s wanted facts steps are truths long true_clauses c ranked =
     let m : IsAssigned s wanted truths c = record {
-      laws = laws;
+      by_instances = by_instances;
       facts = facts;
       asked = asked_true s wanted.currents (variables s wanted) steps truths are true_clauses;
       ranked = ranked;

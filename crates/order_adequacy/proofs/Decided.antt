@@ -14,8 +14,9 @@ use Rattle.currency_base.specs.declared.ids.RowId.{RowId}
 use Rattle.currency_base.specs.declared.value.Cmp.TheVariants.{Eq}
 use Rattle.currency_base.specs.declared.value.Value.{Value}
 use Rattle.currency_base.specs.declared.value.Value.TheVariants.{Int, Text}
+use Rattle.literal_laws.proofs.Rows.{row_is}
 use Rattle.spec_model.specs.Completion.{Before}
-use Rattle.order_adequacy.proofs.Rows.{one_row, one_number}
+use Rattle.order_adequacy.proofs.Rows.{one_number}
 
 -- it holds, or it does not
 abbrev pub Decided : Type 0 → Type 0
@@ -44,7 +45,7 @@ below_or P (suc bound) each = by (each bound) (below_or P bound each)
 -- ---- rows
 
 pub same_or : (a b : RowId) → Decided (a ≡ b)
-same_or a b = ⊎_elim (λ (e : a.0 ≡ b.0). inl (one_row a b e)) (λ (n : a.0 ≡ b.0 → ⊥). inr (λ e. n (one_number a b e))) (cases_eq a.0 b.0)
+same_or a b = ⊎_elim (λ (e : a.0 ≡ b.0). inl (row_is a b e)) (λ (n : a.0 ≡ b.0 → ⊥). inr (λ e. n (one_number a b e))) (cases_eq a.0 b.0)
 
 pub some_row_or : (o : Option RowId) (row : RowId) → Decided (o ≡ Some row)
 some_row_or None row = inr (λ e. none-some row e)

@@ -5,7 +5,6 @@ mod Decided
 mod LastAxioms
 mod Lists
 mod Models
-mod Names
 mod OneClause
 pub mod OrderAxioms
 mod Orders

@@ -13,6 +13,8 @@ use Rattle.completion_build.specs.Ranked.{IsRankedBy}
 use Rattle.copy_functions.specs.Copies.{CopyFunction, source_at}
 use Rattle.denial_rules.specs.declared.instance.RuleInstance.{RuleInstance}
 use Rattle.denial_rules.specs.declared.rule.Rule.{Rule}
+use Rattle.literal_laws.proofs.Deciding.{said_exclude}
+use Rattle.literal_laws.proofs.Items.{in_contained}
 use Rattle.order_adequacy.specs.Laws.{variables}
 use Rattle.order_clauses.specs.Clauses.{IsAsked}
 use Rattle.order_literals.specs.Axioms.{AreTwo, conclusion_clause, instance_clause, IsCopyAxiom, IsAxiom}
@@ -30,14 +32,15 @@ use Rattle.spec_model.specs.Consistent.{KeepsGiven, SatisfiesRules, IsCompatible
 use Rattle.spec_model.specs.Facts.{IsSpecification}
 use Rattle.spec_model.specs.Spec.{Spec}
 use Rattle.spec_model.specs.declared.relation.Relation.{Relation}
-use Rattle.order_adequacy.proofs.Lists.{none_in, front_or_later, in_mapped}
+use Rattle.order_adequacy.proofs.Lists.{front_or_later, in_mapped}
 use Rattle.order_adequacy.proofs.OneClause.{OneIsTrue}
+use Rattle.order_adequacy.proofs.OrderAxioms.{RulesByInstances}
 use Rattle.order_adequacy.proofs.Orders.{IsCase, pair_before, not_itself}
-use Rattle.order_adequacy.proofs.Saids.{LowerLaws, said, says_paired, never_both}
+use Rattle.order_adequacy.proofs.Saids.{said, says_paired}
 
 -- an assignment of the statements that makes each asked axiom true, and a ranking that it says
 pub record IsAssigned (s : Spec) (wanted : Wanted) (truths : List Bool) (c : Rankings) : Type 0 where
-  pub laws : LowerLaws
+  pub by_instances : RulesByInstances
   pub facts : IsSpecification s
   pub asked : (l : Label) (clause : List Said) → IsAxiom s l clause → IsAsked s wanted.currents l → OneIsTrue (variables s wanted) truths clause
   pub ranked : IsRankedBy s.relations (variables s wanted) truths c
@@ -61,7 +64,7 @@ first_or_later s wanted truths x xs t =
     (front_or_later x t.one xs t.is_in)
 
 pub none_true : (s : Spec) (wanted : Wanted) (truths : List Bool) → OneIsTrue (variables s wanted) truths [] → ⊥
-none_true s wanted truths t = none_in t.one t.is_in
+none_true s wanted truths t = in_contained [] t.one t.is_in
 
 pub only_first : (s : Spec) (wanted : Wanted) (truths : List Bool) (x : Said) → OneIsTrue (variables s wanted) truths (x ∷ []) → Put s wanted truths x
 only_first s wanted truths x t =
@@ -84,7 +87,7 @@ mapped_true s wanted truths f xs t =
 
 pub contrary : (s : Spec) (wanted : Wanted) (truths : List Bool) (c : Rankings) (x : Statement) → IsAssigned s wanted truths c
     → Put s wanted truths (said x false) → Put s wanted truths (said x true) → ⊥
-contrary s wanted truths c x m h n = never_both m.laws (numbers_of s.relations wanted) truths x h n
+contrary s wanted truths c x m h n = said_exclude (numbers_of s.relations wanted) truths (said x false) h n
 
 -- ---- the order of rows
 
@@ -92,7 +95,7 @@ contrary s wanted truths c x m h n = never_both m.laws (numbers_of s.relations w
 pub stands_so : (s : Spec) (wanted : Wanted) (truths : List Bool) (c : Rankings) (rel : RelId) (attr : AttrId) (a b : RowId) → IsAssigned s wanted truths c
     → Put s wanted truths (before rel attr a b) → Before (lists_of c rel.0 attr.0) a b
 stands_so s wanted truths c rel attr a b m put =
-    let pair = says_paired m.laws s wanted put.lit (says.Before rel attr a b) false put.says in
+    let pair = says_paired s wanted put.lit (says.Before rel attr a b) false put.says in
     m.ranked.stands rel attr pair.relation pair.is_relation pair.attr_in a b put
 
 -- rows that stand in an order are put in it
@@ -139,7 +142,7 @@ instance_holds s wanted truths c rel i m t all =
 
 rules_satisfied : (s : Spec) (wanted : Wanted) (truths : List Bool) (c : Rankings) → IsAssigned s wanted truths c → SatisfiesRules s.relations s.rules c
 rules_satisfied s wanted truths c m k rule at r at_r =
-    let both = m.laws.by_instances s c m.facts.rules m.ranked.completion k rule at r at_r in
+    let both = m.by_instances s c m.facts.rules m.ranked.completion k rule at r at_r in
     both.1 (hold k rule at r at_r)
   where
     hold : (k : ℕ) (rule : Rule) → slice_get s.rules k ≡ Some rule → (r : Relation) → slice_get s.relations rule.relation.0 ≡ Some r

@@ -1,6 +1,7 @@
 -- How two rows of one entity stand in a completion.
 use Rattle.std.proofs.Common.{◌≡◌, ◌≢◌, ◌⊎◌, ◌∙◌, ◌-◌, ◌<◌, ◌≤◌, ℕ, List, [], Some, length, get_or, slice_get, slice_index_or, sym, ap, subst, inl, inr, ⊎_elim, arith}
 use Rattle.std.proofs.lemmas.Bool.{cases_eq, cases_lt}
+use Rattle.std.proofs.lemmas.List.Elements.{All-contains}
 use Rattle.std.proofs.lemmas.Option.{same_Some, slice_get-get_or, slice_get_within, slice_get_cases}
 use Rattle.currency_base.specs.declared.ids.RowId.{RowId}
 use Rattle.currency_base.specs.declared.row.Row.{Row}
@@ -11,7 +12,7 @@ use Rattle.spec_model.specs.Current.{last_row}
 use Rattle.spec_model.specs.Facts.{IsRelation, AreRelations}
 use Rattle.spec_model.specs.declared.relation.Relation.{Relation}
 use Rattle.order_adequacy.proofs.Decided.{same_or, list_there}
-use Rattle.order_adequacy.proofs.Lists.{place_of, at_place, each_at}
+use Rattle.order_adequacy.proofs.Lists.{place_of, at_place}
 use Rattle.order_adequacy.proofs.Rows.{entity_below}
 
 -- relations of a specification, and a completion of them
@@ -20,7 +21,7 @@ pub record IsCase (relations : List Relation) (c : Rankings) : Type 0 where
   pub completion : IsCompletion relations c
 
 pub relation_facts : (relations : List Relation) (rel : ℕ) (r : Relation) → AreRelations relations → slice_get relations rel ≡ Some r → IsRelation r
-relation_facts relations rel r facts at = each_at IsRelation relations rel r facts.each at
+relation_facts relations rel r facts at = All-contains IsRelation relations r facts.each (at_place relations rel r at)
 
 -- a relation stands once at its number
 pub one_relation : (relations : List Relation) (rel : ℕ) (a b : Relation) → slice_get relations rel ≡ Some a → slice_get relations rel ≡ Some b → a ≡ b

@@ -5,8 +5,10 @@ use Rattle.std.proofs.lemmas.Option.{same_Some, none-some}
 use Rattle.currency_base.specs.declared.ids.AttrId.{AttrId}
 use Rattle.currency_base.specs.declared.ids.RelId.{RelId}
 use Rattle.currency_base.specs.declared.ids.RowId.{RowId}
+use Rattle.literal_laws.proofs.Deciding.{pair_decided}
 use Rattle.order_adequacy.specs.Laws.{TruthsAreModelsOver, TruthsRankOver, ModelsAreOneOver, RankingsAreOne, variables}
 use Rattle.order_clauses.specs.Clauses.{IsSaidByOne}
+use Rattle.order_literals.proofs.Callers.{pair_of}
 use Rattle.order_literals.specs.Numbers.{numbers_of}
 use Rattle.order_literals.specs.Said.{before, IsSaidTrue}
 use Rattle.order_literals.specs.Truth.{IsTrue, Holds, IsTruth}
@@ -18,48 +20,49 @@ use Rattle.spec_model.specs.Spec.{Spec}
 use Rattle.spec_model.specs.declared.relation.Relation.{Relation}
 use Rattle.order_adequacy.proofs.Chosen.{stands_or, current_or}
 use Rattle.order_adequacy.proofs.Decided.{Decided, before_or}
+use Rattle.order_adequacy.proofs.OrderAxioms.{RulesByInstances}
 use Rattle.order_adequacy.proofs.Orders.{IsCase, not_both, pair_before}
-use Rattle.order_adequacy.proofs.Saids.{LowerLaws, said, said_true, said_holds}
+use Rattle.order_adequacy.proofs.Saids.{said, said_true, said_holds}
 use Rattle.order_adequacy.proofs.SameOrders.{KeepsOrder, same_completion}
 use Rattle.order_adequacy.proofs.Sound.{case_of, axiom_true}
-use Rattle.order_adequacy.proofs.Statements.{numbered_pair}
 
 one_more : (m n : ℕ) → m ≡ n → suc m ≡ suc n
 one_more m n e = ap (λ (k : ℕ). suc k) e
 
-pub truths_are_models : LowerLaws → (answers : ℕ → Type 0) → TruthsAreModelsOver answers
-truths_are_models laws answers s wanted facts c consistent truths truth l lits step is =
-    let one = axiom_true laws.by_instances answers s facts c consistent l is.clause is.is_axiom in
+pub truths_are_models : RulesByInstances → (answers : ℕ → Type 0) → TruthsAreModelsOver answers
+truths_are_models by_instances answers s wanted facts c consistent truths truth l lits step is =
+    let one = axiom_true by_instances answers s facts c consistent l is.clause is.is_axiom in
     let by_one = All-contains (IsSaidByOne (variables s wanted) lits) is.clause one.said is.are_lits.all one.is_in in
     record {
       lit = by_one.lit;
       is_in = by_one.is_in;
       is_true =
-          said_true laws s wanted c answers truths by_one.lit one.said.statement one.said.negative (case_of s c facts consistent) truth by_one.says one.holds;
+          said_true s wanted c answers truths by_one.lit one.said.statement one.said.negative (case_of s c facts consistent) truth by_one.says one.holds;
     }
 
 -- ---- the order that the truths say
 
 -- what stands before a row is put before it
-put_before : LowerLaws → (s : Spec) (wanted : Wanted) (c : Rankings) (answers : ℕ → Type 0) (truths : List Bool) (rel : RelId) (attr : AttrId) (a b : RowId)
+put_before : (s : Spec) (wanted : Wanted) (c : Rankings) (answers : ℕ → Type 0) (truths : List Bool) (rel : RelId) (attr : AttrId) (a b : RowId)
     → IsCase s.relations c → IsTruth s.relations c answers (variables s wanted) truths → Before (lists_of c rel.0 attr.0) a b
     → IsSaidTrue (variables s wanted) truths (before rel attr a b)
-put_before laws s wanted c answers truths rel attr a b is truth h =
-    let pair = numbered_pair s.relations wanted rel.0 attr.0 a b (pair_before s.relations c rel.0 attr.0 a b is.completion h) in
+put_before s wanted c answers truths rel attr a b is truth h =
+    let two = pair_before s.relations c rel.0 attr.0 a b is.completion h in
+    let pair = pair_of s.relations wanted rel.0 attr.0 a b two.relation two.is_relation two.attr_in two.two in
     ⊎_elim
     (λ (put : IsSaidTrue (variables s wanted) truths (before rel attr a b)). put)
     (λ (put : IsSaidTrue (variables s wanted) truths (before rel attr b a)).
     absurd (not_both s.relations c rel.0 attr.0 a b is.completion h
-    (said_holds laws s wanted c answers truths (says.Before rel attr b a) false is truth put)))
-    (laws.pair_is_decided (numbers_of s.relations wanted) truths truth.per_variable rel attr a b pair)
+    (said_holds s wanted c answers truths (says.Before rel attr b a) false is truth put)))
+    (pair_decided (numbers_of s.relations wanted) truths truth.per_variable rel attr a b pair)
 
-pub truths_rank : LowerLaws → (answers : ℕ → Type 0) → TruthsRankOver answers
-truths_rank laws answers s wanted facts c completion truths truth =
+pub truths_rank : (answers : ℕ → Type 0) → TruthsRankOver answers
+truths_rank answers s wanted facts c completion truths truth =
     let is : IsCase s.relations c = record { facts = facts.relations; completion = completion } in
     record {
       completion = completion;
-      said = λ rel attr r at inside a b h. put_before laws s wanted c answers truths rel attr a b is truth h;
-      stands = λ rel attr r at inside a b put. said_holds laws s wanted c answers truths (says.Before rel attr a b) false is truth put;
+      said = λ rel attr r at inside a b h. put_before s wanted c answers truths rel attr a b is truth h;
+      stands = λ rel attr r at inside a b put. said_holds s wanted c answers truths (says.Before rel attr a b) false is truth put;
     }
 
 -- ---- one completion
@@ -73,11 +76,11 @@ rankings_are_one relations statements truths c d is is' = same_completion relati
         let put = is.said (record { 0 = rel }) (record { 0 = attr }) pair.relation pair.is_relation pair.attr_in a b h in
         is'.stands (record { 0 = rel }) (record { 0 = attr }) pair.relation pair.is_relation pair.attr_in a b put
 
-pub models_are_one : LowerLaws → (answers others : ℕ → Type 0) → ModelsAreOneOver answers others
-models_are_one laws answers others s wanted facts truths c d consistent truth consistent' truth' =
+pub models_are_one : (answers others : ℕ → Type 0) → ModelsAreOneOver answers others
+models_are_one answers others s wanted facts truths c d consistent truth consistent' truth' =
     rankings_are_one s.relations (variables s wanted) truths c d
-    (truths_rank laws answers s wanted facts c consistent.completion truths truth)
-    (truths_rank laws others s wanted facts d consistent'.completion truths truth')
+    (truths_rank answers s wanted facts c consistent.completion truths truth)
+    (truths_rank others s wanted facts d consistent'.completion truths truth')
 
 -- ---- there is a truth
 

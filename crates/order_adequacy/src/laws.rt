@@ -1,6 +1,5 @@
 ghost use Rattle.order_adequacy.specs.Laws.{AxiomsAreTrue, TruthsAreModels, TruthsAreThere, ModelsAreCompletions, ModelsAreOne, TruthsRank, RankingsAreOne};
 
-use literal_laws::{literals_are_decided, one_literal, pairs_are_decided};
 use rule_laws::satisfied_by_instances;
 
 /// Laws: every axiom is true in every consistent completion, so the truth of the statements in one makes each
@@ -11,9 +10,6 @@ pub fn axioms_are_true()
     ensures truths { TruthsAreThere }
 {
     satisfied_by_instances();
-    one_literal();
-    literals_are_decided();
-    pairs_are_decided();
 }
 
 /// Laws: each assignment that makes the axioms true and ranks the rows is the truth in a consistent completion,
@@ -25,7 +21,4 @@ pub fn models_are_completions()
     ensures rankings { RankingsAreOne }
 {
     satisfied_by_instances();
-    one_literal();
-    literals_are_decided();
-    pairs_are_decided();
 }
