@@ -1,0 +1,15 @@
+use Rattle.std.proofs.Common.{◌≡◌, ◌≤◌, None, [], replicate, vec_capacity, rules}
+use Rattle.search_trail.proofs.Fits.{fits_new}
+use Rattle.search_trail.proofs.trail.Trail.new.Goals as goal
+
+pub invariant_of-result : goal.invariant_of-result
+invariant_of-result c =
+    let vars = c.args.vars in
+    let values : c.in-Ok.values ≡ replicate vars None = c.in-Ok.ensures in
+    let lits : c.in-Ok-with_capacity.lits.items ≡ [] = search rules in
+    let starts : c.in-Ok-with_capacity-2.starts.items ≡ [] = search rules in
+    let levels : c.in-Ok-from_elem.levels.items ≡ replicate vars 0 = search rules in
+    let reasons : c.in-Ok-from_elem-2.reasons.items ≡ replicate vars 4294967295 = search rules in
+    let lits_fit : vars ≤ vec_capacity c.in-Ok-with_capacity.lits = search rules in
+    let starts_fit : vars ≤ vec_capacity c.in-Ok-with_capacity-2.starts = search rules in
+    rw (values, lits, starts, levels, reasons) (fits_new vars _ _ c.requires lits_fit starts_fit)
