@@ -1,6 +1,7 @@
 pub mod SlotLists
 pub mod ListsChanged
 pub mod ChainFacts
+pub mod LinkViews
 pub mod WalkFacts
 pub mod OffList
 pub mod Seen

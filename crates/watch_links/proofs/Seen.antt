@@ -1,9 +1,10 @@
 -- What the calls on watch lists read and write, in terms of the lists that a caller sees.
 use Rattle.std.proofs.Common.{◌≡◌, ◌⊎◌, ◌+◌, ◌<◌, ◌≤◌, ◌∙◌, ℕ, List, [], ◌∷◌, ◌++◌, length, slice_index, slice_set, ap, subst, inl, inr, arith}
 use Rattle.std.proofs.lemmas.Bool.{cases_lt}
-use Rattle.std.proofs.lemmas.List.{get_or_past}
+use Rattle.std.proofs.lemmas.List.{get_or_past, length-map}
 use Rattle.watch_links.specs.Links.{Links, IsIn, IsFree, HasNoneTwice, following, lists_with, lists_without, list_of, AreWhole}
-use Rattle.watch_links.specs.Chains.{no_slot, slot_at, walks, AreLinked, firsts_off}
+use Rattle.watch_links.specs.Chains.{no_slot, slot_at, nexts, prevs, walks, AreLinked, firsts_off}
+use Rattle.watch_links.specs.declared.writes.Link.{Link}
 use Rattle.watch_links.proofs.SlotLists.{owner_within}
 use Rattle.watch_links.proofs.ChainFacts.{chain_once, chain_following}
 use Rattle.watch_links.proofs.OffList.{slot_below, linked_off, free_off}
@@ -16,22 +17,24 @@ pub record IsSeen (firsts next prev : List ℕ) (links : Links) : Type 0 where
   pub slots_are : length next ≡ links.slots
   pub lists_are : walks next firsts ≡ links.lists
 
-pub seen_of : (firsts next prev : List ℕ) (room : ℕ) (links : Links) → AreLinked firsts next prev (walks next firsts)
-    → ◌≡◌ {A = Links} (record { slots = length next; lists = walks next firsts; room = room }) links → IsSeen firsts next prev links
-seen_of firsts next prev room links linked view =
-    record { linked = linked; slots_are = ap (λ (v : Links). v.slots) view; lists_are = ap (λ (v : Links). v.lists) view }
+pub seen_of : (firsts : List ℕ) (slots : List Link) (room : ℕ) (links : Links) → AreLinked firsts (nexts slots) (prevs slots) (walks (nexts slots) firsts)
+    → ◌≡◌ {A = Links} (record { slots = length slots; lists = walks (nexts slots) firsts; room = room }) links → IsSeen firsts (nexts slots) (prevs slots) links
+seen_of firsts slots room links linked view = record {
+  linked = linked;
+  slots_are = length-map slots (λ l. l.next) ∙ ap (λ (v : Links). v.slots) view;
+  lists_are = ap (λ (v : Links). v.lists) view;
+}
 
 -- the links are those of the lists that a caller sees
 pub linked_seen : (firsts next prev : List ℕ) (links : Links) → IsSeen firsts next prev links → AreLinked firsts next prev links.lists
 linked_seen firsts next prev links s = subst (AreLinked firsts next prev) s.lists_are s.linked
 
--- a slot that stands in a list has a link each way
-pub stands_below : (firsts next prev : List ℕ) (links : Links) (owner slot : ℕ) → IsSeen firsts next prev links → IsIn slot (list_of links.lists owner)
-    → (slot < length next) × (slot < length prev)
-stands_below firsts next prev links owner slot s stands =
-    let linked = linked_seen firsts next prev links s in
-    let below = slot_below firsts next prev links.lists owner slot linked stands in
-    (below, omega (arith, below, linked.both_ways))
+-- a slot that stands in a list has links
+pub stands_below : (firsts : List ℕ) (slots : List Link) (links : Links) (owner slot : ℕ) → IsSeen firsts (nexts slots) (prevs slots) links
+    → IsIn slot (list_of links.lists owner) → slot < length slots
+stands_below firsts slots links owner slot s stands =
+    let below = slot_below firsts (nexts slots) (prevs slots) links.lists owner slot (linked_seen firsts (nexts slots) (prevs slots) links s) stands in
+    omega (arith, below, length-map slots (λ l. l.next))
 
 -- the link of a slot leads to the slot that follows in its list
 pub seen_following : (firsts next prev : List ℕ) (links : Links) (owner slot link : ℕ) → IsSeen firsts next prev links → link ≡ slice_index next slot

@@ -1,6 +1,7 @@
 -- Lists that are linked through their slots, forth and back.
 use Rattle.std.specs.Prelude.{◌≡◌, ◌==◌, ◌<◌, ◌≤◌, ◌-◌, ◌/◌, min, ℕ, zero, suc, cond, List, [], ◌∷◌, Option, Some, None, length, map, slice_set, slice_index}
 use Rattle.watch_links.specs.Links.{IsIn, list_of}
+use Rattle.watch_links.specs.declared.writes.Link.{Link}
 
 -- the link that leads to no slot
 abbrev pub no_slot : ℕ
@@ -9,6 +10,13 @@ no_slot = 4294967295
 -- the slot that a link leads to
 abbrev pub slot_at : ℕ → Option ℕ
 slot_at link = cond (link == no_slot) None (Some link)
+
+-- of each slot, the link to the slot after it, and the link to the slot before it
+abbrev pub nexts : List Link → List ℕ
+nexts links = map (λ l. l.next) links
+
+abbrev pub prevs : List Link → List ℕ
+prevs links = map (λ l. l.prev) links
 
 -- at most so many slots that come one after another, by the links to the next one
 unfoldable pub walk : List ℕ → ℕ → ℕ → List ℕ
@@ -38,6 +46,6 @@ pub record AreLinked (firsts next prev : List ℕ) (lists : List (List ℕ)) : T
 abbrev pub firsts_off : List ℕ → ℕ → ℕ → ℕ → List ℕ
 firsts_off firsts owner before after = cond (before == no_slot) (slice_set firsts owner after) firsts
 
--- for how many more clauses, of two slots each, there is room: in both vectors of links, and in numbers
-abbrev pub room_of : ℕ → ℕ → ℕ → ℕ
-room_of capacity other slots = (min (min capacity other) no_slot - slots) / 2
+-- for how many more clauses, of two slots each, there is room: in the vector of links, and in numbers
+abbrev pub room_of : ℕ → ℕ → ℕ
+room_of capacity slots = (min capacity no_slot - slots) / 2

@@ -1,7 +1,10 @@
 ghost use Rattle.std.specs.Prelude.{◌≡◌, ◌+◌, ◌-◌, ◌*◌, ◌<◌, ◌≤◌, ℕ, ◌∷◌, [], length, replicate, slice_set, slice_index, IsOk, IfOk, OnOk, OnErr};
 ghost use Rattle.watch_links.specs.Links.{list_of, lists_with, lists_without, IsIn, IsFree, head_of, following, without, AreWhole};
 
-use crate::writes::{NO_SLOT, no_links, push_no_links, reserve_both, slot_at, write, write_first};
+use crate::writes::{
+    Link, NO_SLOT, no_links, push_no_links, slot_at, write_first, write_link, write_next,
+    write_prev,
+};
 use currency_base::NoMemory;
 use std::alloc::Global;
 use std::marker::Model;
@@ -12,10 +15,8 @@ use std::marker::Model;
 /// there is room.
 #[derive(Drop)]
 pub struct WatchLinks {
-    // of each slot, the slot after it in its list
-    next: Vec<u32>,
-    // of each slot, the slot before it in its list
-    prev: Vec<u32>,
+    // of each slot, the slots after it and before it in its list
+    links: Vec<Link>,
     // of each owner, the first slot of its list
     first: Vec<u32>,
 }
@@ -26,16 +27,16 @@ impl Model for WatchLinks {
     ghost Value = { Links };
 
     ghost use Rattle.std.specs.Prelude.{length, vec_capacity};
-    ghost use Rattle.watch_links.specs.Chains.{AreLinked, walks, room_of};
+    ghost use Rattle.watch_links.specs.Chains.{AreLinked, nexts, prevs, walks, room_of};
 
     ghost view = { λ w. record {
-      slots = length w.next.items;
-      lists = walks w.next.items w.first.items;
-      room = room_of (vec_capacity w.next) (vec_capacity w.prev) (length w.next.items);
+      slots = length w.links.items;
+      lists = walks (nexts w.links.items) w.first.items;
+      room = room_of (vec_capacity w.links) (length w.links.items);
     } };
 
-    ghost invariant = { λ w. AreLinked w.first.items w.next.items w.prev.items
-        (walks w.next.items w.first.items) };
+    ghost invariant = { λ w. AreLinked w.first.items (nexts w.links.items) (prevs w.links.items)
+        (walks (nexts w.links.items) w.first.items) };
 }
 
 impl WatchLinks {
@@ -48,8 +49,7 @@ impl WatchLinks {
             return Err(NoMemory);
         };
         Ok(WatchLinks {
-            next: Vec::new(alloc),
-            prev: Vec::new(alloc),
+            links: Vec::new(alloc),
             first,
         })
     }
@@ -69,7 +69,7 @@ impl WatchLinks {
         ensures { (owner : ℕ) → IsIn slot (list_of self.now.lists owner)
             → result ≡ following slot (list_of self.now.lists owner) }
     {
-        slot_at(self.next[slot as usize])
+        slot_at(self.links[slot as usize].next)
     }
 
     /// Takes a slot off its owner's list.
@@ -80,11 +80,10 @@ impl WatchLinks {
         ensures slots { self.new.slots ≡ self.old.slots }
         ensures room { self.new.room ≡ self.old.room }
     {
-        let before = self.prev[slot as usize];
-        let after = self.next[slot as usize];
-        write(&mut self.next, before, after);
-        write(&mut self.prev, after, before);
-        write_first(&mut self.first, owner, before, after);
+        let link = self.links[slot as usize];
+        write_next(&mut self.links, link.prev, link.next);
+        write_prev(&mut self.links, link.next, link.prev);
+        write_first(&mut self.first, owner, link.prev, link.next);
     }
 
     /// Puts a slot that stands in no list in front of an owner's list.
@@ -97,10 +96,9 @@ impl WatchLinks {
         ensures room { self.new.room ≡ self.old.room }
     {
         let first = self.first[owner as usize];
-        write(&mut self.next, slot, first);
-        write(&mut self.prev, slot, NO_SLOT);
-        write(&mut self.prev, first, slot);
-        write(&mut self.first, owner, slot);
+        write_link(&mut self.links, slot, first, NO_SLOT);
+        write_prev(&mut self.links, first, slot);
+        write_first(&mut self.first, owner, NO_SLOT, slot);
     }
 
     /// Makes room for so many more clauses, of two slots each. It is refused where memory runs out,
@@ -112,10 +110,13 @@ impl WatchLinks {
         ensures ok { OnOk result (clauses ≤ self.new.room) }
         ensures full { OnErr result (self.new.room < clauses) }
     {
-        if clauses > (NO_SLOT as usize - self.next.len()) / 2 {
+        if clauses > (NO_SLOT as usize - self.links.len()) / 2 {
             return Err(NoMemory);
         }
-        reserve_both(&mut self.next, &mut self.prev, 2 * clauses)
+        match self.links.reserve(2 * clauses) {
+            Ok(()) => Ok(()),
+            Err(_) => Err(NoMemory),
+        }
     }
 
     /// The two slots of one more clause, which stand in no list.
@@ -132,8 +133,7 @@ impl WatchLinks {
         let Ok(()) = self.reserve(1) else {
             return Err(NoMemory);
         };
-        push_no_links(&mut self.next);
-        push_no_links(&mut self.prev);
+        push_no_links(&mut self.links);
         Ok(())
     }
 
@@ -150,7 +150,7 @@ impl WatchLinks {
         ensures left { OnOk result (self.old.room ≤ self.new.room + 1) }
         ensures err { OnErr result (self.new ≡ self.old) }
     {
-        let slot = self.next.len() as u32;
+        let slot = self.links.len() as u32;
         let Ok(()) = self.push_none() else {
             return Err(NoMemory);
         };
@@ -163,7 +163,7 @@ impl WatchLinks {
     pub fn are_whole(&self)
         ensures { AreWhole self.now }
     {
-        let _ = &self.next;
+        let _ = &self.links;
     }
 
     /// The slots of an owner's list, in order.

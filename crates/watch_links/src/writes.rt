@@ -1,11 +1,25 @@
-ghost use Rattle.std.specs.Prelude.{◌≡◌, ◌+◌, ◌<◌, ◌≤◌, ◌∷◌, ◌++◌, [], min, length, replicate, slice_set, vec_len, vec_capacity, IfOk, OnOk, OnErr};
-ghost use Rattle.watch_links.specs.Chains.{no_slot, slot_at, firsts_off};
+ghost use Rattle.std.specs.Prelude.{◌≡◌, ◌+◌, ◌<◌, ◌≤◌, ◌∷◌, ◌++◌, [], replicate, slice_set, vec_len, vec_capacity, IfOk};
+ghost use Rattle.watch_links.specs.Chains.{no_slot, slot_at, nexts, prevs, firsts_off};
 
 use currency_base::NoMemory;
 use std::alloc::Global;
 
 /// The link that leads to no slot.
 pub(crate) const NO_SLOT: u32 = u32::MAX;
+
+/// The links of a slot: to the slot after it in its list, and to the slot before it. They stand side
+/// by side, since a slot that leaves its list needs both.
+#[derive(Clone, Copy)]
+pub(crate) struct Link {
+    pub next: u32,
+    pub prev: u32,
+}
+
+// the links of a slot that stands in no list
+const NO_LINKS: Link = Link {
+    next: NO_SLOT,
+    prev: NO_SLOT,
+};
 
 /// The slot that a link leads to.
 pub(crate) fn slot_at(link: u32) -> Option<u32>
@@ -14,13 +28,36 @@ pub(crate) fn slot_at(link: u32) -> Option<u32>
     if link == NO_SLOT { None } else { Some(link) }
 }
 
-/// Sets the link of a slot; where there is no such slot, nothing is set.
-pub(crate) fn write(links: &mut Vec<u32>, slot: u32, link: u32)
-    ensures items { links.new.items ≡ slice_set links.old.items slot link }
+/// Sets the link of a slot to the slot after it; where there is no such slot, nothing is set.
+pub(crate) fn write_next(links: &mut Vec<Link>, slot: u32, next: u32)
+    ensures next { nexts links.new.items ≡ slice_set (nexts links.old.items) slot next }
+    ensures prev { prevs links.new.items ≡ prevs links.old.items }
     ensures capacity { vec_capacity links.new ≡ vec_capacity links.old }
 {
     if (slot as usize) < links.len() {
-        links[slot as usize] = link;
+        links[slot as usize].next = next;
+    }
+}
+
+/// Sets the link of a slot to the slot before it; where there is no such slot, nothing is set.
+pub(crate) fn write_prev(links: &mut Vec<Link>, slot: u32, prev: u32)
+    ensures next { nexts links.new.items ≡ nexts links.old.items }
+    ensures prev { prevs links.new.items ≡ slice_set (prevs links.old.items) slot prev }
+    ensures capacity { vec_capacity links.new ≡ vec_capacity links.old }
+{
+    if (slot as usize) < links.len() {
+        links[slot as usize].prev = prev;
+    }
+}
+
+/// Sets both links of a slot; where there is no such slot, nothing is set.
+pub(crate) fn write_link(links: &mut Vec<Link>, slot: u32, next: u32, prev: u32)
+    ensures next { nexts links.new.items ≡ slice_set (nexts links.old.items) slot next }
+    ensures prev { prevs links.new.items ≡ slice_set (prevs links.old.items) slot prev }
+    ensures capacity { vec_capacity links.new ≡ vec_capacity links.old }
+{
+    if (slot as usize) < links.len() {
+        links[slot as usize] = Link { next, prev };
     }
 }
 
@@ -35,15 +72,17 @@ pub(crate) fn write_first(firsts: &mut Vec<u32>, owner: u32, before: u32, after:
 }
 
 /// Links of two more slots, which lead to no slot. There has to be room for them.
-pub(crate) fn push_no_links(links: &mut Vec<u32>)
+pub(crate) fn push_no_links(links: &mut Vec<Link>)
     requires { vec_len links.old + 2 ≤ vec_capacity links.old }
-    ensures items { links.new.items ≡ links.old.items ++ no_slot ∷ no_slot ∷ [] }
+    ensures next { nexts links.new.items ≡ nexts links.old.items ++ no_slot ∷ no_slot ∷ [] }
+    ensures prev { prevs links.new.items ≡ prevs links.old.items ++ no_slot ∷ no_slot ∷ [] }
+    ensures length { vec_len links.new ≡ vec_len links.old + 2 }
     ensures capacity { vec_capacity links.old ≤ vec_capacity links.new }
 {
-    let Ok(()) = links.push(NO_SLOT) else {
+    let Ok(()) = links.push(NO_LINKS) else {
         unreachable!();
     };
-    let Ok(()) = links.push(NO_SLOT) else {
+    let Ok(()) = links.push(NO_LINKS) else {
         unreachable!();
     };
 }
@@ -56,29 +95,4 @@ pub(crate) fn no_links(alloc: Global, owners: u32) -> Result<Vec<u32>, NoMemory>
         Ok(links) => Ok(links),
         Err(_) => Err(NoMemory),
     }
-}
-
-/// Makes room for so many more links in both.
-pub(crate) fn reserve_both(
-    next: &mut Vec<u32>,
-    prev: &mut Vec<u32>,
-    more: usize,
-) -> Result<(), NoMemory>
-    requires { vec_len prev.old ≡ vec_len next.old }
-    ensures next_items { next.new.items ≡ next.old.items }
-    ensures prev_items { prev.new.items ≡ prev.old.items }
-    ensures next_capacity { vec_capacity next.old ≤ vec_capacity next.new }
-    ensures prev_capacity { vec_capacity prev.old ≤ vec_capacity prev.new }
-    ensures ok { OnOk result
-        (vec_len next.old + more ≤ min (vec_capacity next.new) (vec_capacity prev.new)) }
-    ensures full { OnErr result
-        (min (vec_capacity next.new) (vec_capacity prev.new) < vec_len next.old + more) }
-{
-    let Ok(()) = next.reserve(more) else {
-        return Err(NoMemory);
-    };
-    let Ok(()) = prev.reserve(more) else {
-        return Err(NoMemory);
-    };
-    Ok(())
 }

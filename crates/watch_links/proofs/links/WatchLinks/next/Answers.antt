@@ -1,12 +1,12 @@
 use Rattle.std.proofs.Common.{◌∙◌}
-use Rattle.std.proofs.lemmas.List.{get_or_read}
+use Rattle.watch_links.proofs.LinkViews.{next_read}
 use Rattle.watch_links.proofs.Seen.{seen_of, stands_below, seen_following}
 use Rattle.watch_links.proofs.links.WatchLinks.next.Goals as goal
 
 pub returns : goal.returns
 returns c owner stands =
     let w = c.self.inside in
-    let seen = seen_of _ _ _ _ _ c.self.invariant c.self.view_is in
-    let below = stands_below _ _ _ _ owner c.args.slot seen stands in
-    let read = get_or_read w.next.items c.args.slot c.index.result.now below.0 c.index.ensures 0 in
-    c.slot_at.ensures ∙ seen_following _ _ _ _ owner c.args.slot c.index.result.now seen read stands
+    let seen = seen_of _ _ _ _ c.self.invariant c.self.view_is in
+    let below = stands_below _ _ _ owner c.args.slot seen stands in
+    let read = next_read w.links.items c.args.slot c.index.result.now below c.index.ensures in
+    c.slot_at.ensures ∙ seen_following _ _ _ _ owner c.args.slot c.index.result.now.next seen read stands
