@@ -1,5 +1,5 @@
 -- Entries that are made of literals and the reasons of their variables.
-use Rattle.std.proofs.Common.{◌≡◌, ◌⊎◌, ◌<◌, ◌∙◌, ℕ, zero, suc, Bool, List, [], ◌∷◌, ◌++◌, Option, Some, None, All, length, map, take, slice_get, slice_set, slice_index_or, option_map, refl, sym, ap, inl, inr}
+use Rattle.std.proofs.Common.{◌≡◌, ◌⊎◌, ◌<◌, ◌∙◌, ℕ, zero, suc, Bool, List, [], ◌∷◌, ◌++◌, Option, Some, None, All, length, map, take, slice_get, slice_set, slice_index_or, option_map, refl, sym, ap, subst, inl, inr}
 use Rattle.std.proofs.lemmas.Bool.{cases_eq, ne_eqb, eq-eqb}
 use Rattle.std.proofs.lemmas.List.{get_or-set_other, get_or-set_same}
 use Rattle.std.proofs.lemmas.List.Elements.{All-nil, All-cons, All-head, All-tail}
@@ -61,6 +61,33 @@ lit_at reasons (x ∷ xs) zero e is = go is
     go : Some (entry_of reasons x) ≡ Some e → Some x ≡ Some e.lit
     go is = let same : entry_of reasons x ≡ e = cc in ap (λ (d : Entry). Some d.lit) same
 lit_at reasons (x ∷ xs) (suc place) e is = lit_at reasons xs place e is
+
+-- and so is its reason
+pub reason_of_entry : (reasons : List ℕ) (lits : List Lit) (place : ℕ) (e : Entry) → slice_get (entries_of reasons lits) place ≡ Some e
+    → e.reason ≡ reason_at (slice_index_or reasons (var_of e.lit) 4294967295)
+reason_of_entry reasons [] place e is = absurd (cc)
+reason_of_entry reasons (x ∷ xs) zero e is = go is
+  where
+    go : Some (entry_of reasons x) ≡ Some e → e.reason ≡ reason_at (slice_index_or reasons (var_of e.lit) 4294967295)
+    go is = let same : entry_of reasons x ≡ e = cc in subst (λ (d : Entry). d.reason ≡ reason_at (slice_index_or reasons (var_of d.lit) 4294967295)) same refl
+reason_of_entry reasons (x ∷ xs) (suc place) e is = reason_of_entry reasons xs place e is
+
+-- the entry at a place is that of the literal there
+pub entry_at : (reasons : List ℕ) (lits : List Lit) (place : ℕ) (l : Lit) → slice_get lits place ≡ Some l → slice_get (entries_of reasons lits) place ≡ Some (entry_of reasons l)
+entry_at reasons [] place l is = absurd (cc)
+entry_at reasons (x ∷ xs) zero l is = go is
+  where
+    go : Some x ≡ Some l → Some (entry_of reasons x) ≡ Some (entry_of reasons l)
+    go is = let same : x ≡ l = cc in ap (λ (m : Lit). Some (entry_of reasons m)) same
+entry_at reasons (x ∷ xs) (suc place) l is = entry_at reasons xs place l is
+
+-- the number of no reason is the greatest
+pub no_reason : (n : ℕ) → reason_at n ≡ None → n ≡ 4294967295
+no_reason n none = go (cases_eq n 4294967295)
+  where
+    go : (n ≡ 4294967295) ⊎ (n ≡ 4294967295 → ⊥) → n ≡ 4294967295
+    go (inl e) = e
+    go (inr d) = let some : reason_at n ≡ Some n = rw (ne_eqb n 4294967295 d) refl in absurd (cc)
 
 -- the reason of a variable that has a value, and of one that has none
 pub reason_there : (reasons : List ℕ) (lits : List Lit) (var : ℕ) (b : Bool) → value_in lits var ≡ Some b → reason_in (entries_of reasons lits) var ≡ reason_at (slice_index_or reasons var 4294967295)

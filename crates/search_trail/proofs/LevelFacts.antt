@@ -1,10 +1,11 @@
 -- Where levels begin, and how many begin up to a place.
-use Rattle.std.proofs.Common.{◌≡◌, ◌⊎◌, ◌<◌, ◌≤◌, ◌+◌, ℕ, zero, suc, true, false, cond, List, [], ◌∷◌, ◌++◌, Option, Some, None, length, take, drop, nat_le, slice_get, refl, ap, subst, inl, inr, arith}
+use Rattle.std.proofs.Common.{◌≡◌, ◌⊎◌, ◌<◌, ◌≤◌, ◌+◌, ℕ, zero, suc, true, false, cond, List, [], ◌∷◌, ◌++◌, Option, Some, None, length, take, drop, nat_le, slice_get, slice_index_or, refl, ap, subst, inl, inr, arith}
 use Rattle.std.specs.List.{count_by}
-use Rattle.std.proofs.lemmas.Bool.{le-leb, lt-leb}
-use Rattle.std.proofs.lemmas.List.{take-append-drop}
+use Rattle.std.proofs.lemmas.Bool.{cases_eq, le-leb, lt-leb, leb-true, leb-false}
+use Rattle.std.specs.List.Sorted.{IsNonDecreasing, IsPartitionPoint}
+use Rattle.std.proofs.lemmas.List.{length-take, take-append-drop}
 use Rattle.std.proofs.lemmas.List.Sums.{sum_by-append, sum_by-cons}
-use Rattle.std.proofs.lemmas.Option.{slice_get_within}
+use Rattle.std.proofs.lemmas.Option.{slice_get_within, slice_get-get_or, get_or_from_slice_get}
 
 -- how many levels begin up to a place
 abbrev pub level_of : List ℕ → ℕ → ℕ
@@ -41,26 +42,6 @@ level_none (s ∷ ss) place above =
     let one : ◌≡◌ {A = ℕ} (cond (nat_le s place) 1 0) 0 = rw here refl in
     omega (arith, level_cons s ss place, more, one)
 
--- a level that begins later makes no difference
-pub level_push_later : (starts : List ℕ) (start place : ℕ) → place < start → level_of (starts ++ start ∷ []) place ≡ level_of starts place
-level_push_later starts start place h =
-    let one : level_of (start ∷ []) place ≡ 0 = level_none (start ∷ []) place (λ i s is. only i s is) in
-    omega (arith, level_append starts (start ∷ []) place, one)
-  where
-    only : (i s : ℕ) → slice_get (start ∷ []) i ≡ Some s → place < s
-    only zero s is = let same : start ≡ s = cc in subst (λ t. place < t) same h
-    only (suc i) s is = absurd (cc)
-
-pub level_push_here : (starts : List ℕ) (place : ℕ) → AreBelow starts place → level_of (starts ++ place ∷ []) place ≡ length starts + 1
-level_push_here starts place below =
-    let all : level_of starts place ≡ length starts = level_all starts place (λ i s is. let h = below i s is in omega (arith, h)) in
-    let one : level_of (place ∷ []) place ≡ 1 = level_all (place ∷ []) place (λ i s is. only i s is) in
-    omega (arith, level_append starts (place ∷ []) place, all, one)
-  where
-    only : (i s : ℕ) → slice_get (place ∷ []) i ≡ Some s → s < place + 1
-    only zero s is = let same : place ≡ s = cc in omega (arith, same)
-    only (suc i) s is = absurd (cc)
-
 -- the items of a list cut in two
 pub get_take : {A : Type 0} (n i : ℕ) (xs : List A) (x : A) → slice_get (take n xs) i ≡ Some x → (i < n) × (slice_get xs i ≡ Some x)
 get_take zero i xs x is = absurd (cc)
@@ -73,7 +54,22 @@ get_drop zero i xs x is = let e : 0 + i ≡ i = omega arith in rw e is
 get_drop (suc n) i [] x is = absurd (cc)
 get_drop (suc n) i (y ∷ ys) x is = let e : suc n + i ≡ suc (n + i) = omega arith in rw e (get_drop n i ys x is)
 
--- the item of a list with one more
+pub get_taken : {A : Type 0} (n i : ℕ) (xs : List A) (x : A) → i < n → slice_get xs i ≡ Some x → slice_get (take n xs) i ≡ Some x
+get_taken zero i xs x h is = absurd (omega (arith, h))
+get_taken (suc n) i [] x h is = absurd (cc)
+get_taken (suc n) zero (y ∷ ys) x h is = is
+get_taken (suc n) (suc i) (y ∷ ys) x h is = get_taken n i ys x (omega (arith, h)) is
+
+-- the items of a list with one more
+pub get_kept : {A : Type 0} (xs : List A) (y : A) (i : ℕ) (x : A) → slice_get xs i ≡ Some x → slice_get (xs ++ y ∷ []) i ≡ Some x
+get_kept [] y i x is = absurd (cc)
+get_kept (z ∷ zs) y zero x is = is
+get_kept (z ∷ zs) y (suc i) x is = get_kept zs y i x is
+
+pub get_last : {A : Type 0} (xs : List A) (y : A) → slice_get (xs ++ y ∷ []) (length xs) ≡ Some y
+get_last [] y = refl
+get_last (z ∷ zs) y = get_last zs y
+
 pub get_push : {A : Type 0} (xs : List A) (y : A) (i : ℕ) (x : A) → slice_get (xs ++ y ∷ []) i ≡ Some x → (slice_get xs i ≡ Some x) ⊎ ((i ≡ length xs) × (y ≡ x))
 get_push [] y zero x is = inr (refl, same is)
   where
@@ -91,21 +87,51 @@ pub length_more : {A : Type 0} (xs : List A) (y : A) → length (xs ++ y ∷ [])
 length_more [] y = refl
 length_more (x ∷ xs) y = let more = length_more xs y in omega (arith, more)
 
--- levels that begin at a place or later make no difference to the places before
-pub level_take : (starts : List ℕ) (level cut place : ℕ) → Ascend starts → slice_get starts level ≡ Some cut → place < cut
-    → level_of (take level starts) place ≡ level_of starts place
-level_take starts level cut place ascend is h =
-    let later : level_of (drop level starts) place ≡ 0 = level_none (drop level starts) place (λ i s at. above i s (get_drop level i starts s at)) in
-    let both : level_of (take level starts ++ drop level starts) place ≡ level_of starts place = ap (λ (ss : List ℕ). level_of ss place) (take-append-drop level starts) in
-    omega (arith, level_append (take level starts) (drop level starts) place, later, both)
+-- starts that ascend, as a search by halves takes them
+pub rising : (starts : List ℕ) → Ascend starts → IsNonDecreasing starts
+rising starts ascend i j d h within = go (cases_eq i j)
   where
-    above : (i s : ℕ) → slice_get starts (level + i) ≡ Some s → place < s
-    above zero s at =
-        let e : level + 0 ≡ level = omega arith in
-        let there : slice_get starts level ≡ Some s = rw e at at in
-        let same : cut ≡ s = cc in
-        subst (λ t. place < t) same h
-    above (suc i) s at = let less = ascend level (level + suc i) cut s (omega arith) is at in omega (arith, less, h)
+    go : (i ≡ j) ⊎ (i ≡ j → ⊥) → slice_index_or starts i d ≤ slice_index_or starts j d
+    go (inl e) = rw e (omega arith)
+    go (inr apart) =
+        let less = ascend i j (slice_index_or starts i d) (slice_index_or starts j d) (omega (arith, h, apart))
+        (slice_get-get_or starts i d (omega (arith, h, within))) (slice_get-get_or starts j d within) in
+        omega (arith, less)
+
+-- up to where the starts are at most the place, there are as many as levels begin
+pub level_from_point : (starts : List ℕ) (place n : ℕ) → n ≤ length starts → IsPartitionPoint (λ y. nat_le y place ≡ true) (λ y. nat_le y place ≡ false) starts n
+    → n ≡ level_of starts place
+level_from_point starts place n within point =
+    let first : level_of (take n starts) place ≡ length (take n starts) = level_all (take n starts) place (λ i s at. before i s (get_take n i starts s at)) in
+    let later : level_of (drop n starts) place ≡ 0 = level_none (drop n starts) place (λ i s at. after i s (get_drop n i starts s at)) in
+    let both : level_of (take n starts ++ drop n starts) place ≡ level_of starts place = ap (λ (ss : List ℕ). level_of ss place) (take-append-drop n starts) in
+    omega (arith, level_append (take n starts) (drop n starts) place, first, later, both, length-take n starts, within)
+  where
+    before : (i s : ℕ) → (i < n) × (slice_get starts i ≡ Some s) → s < place + 1
+    before i s at =
+        let there : slice_index_or starts i s ≡ s = get_or_from_slice_get starts i s s at.1 in
+        let le : nat_le s place ≡ true = subst (λ t. nat_le t place ≡ true) there (point.0 i s (omega arith) at.0) in
+        let h = leb-true s place le in
+        omega (arith, h)
+
+    after : (i s : ℕ) → slice_get starts (n + i) ≡ Some s → place < s
+    after i s at =
+        let there : slice_index_or starts (n + i) s ≡ s = get_or_from_slice_get starts (n + i) s s at in
+        leb-false s place (subst (λ t. nat_le t place ≡ false) there (point.1 (n + i) s (omega arith) (slice_get_within starts (n + i) s at)))
+
+-- a start below that of a level stands before it
+pub opened_below : (starts : List ℕ) (level cut i start : ℕ) → Ascend starts → slice_get starts level ≡ Some cut → slice_get starts i ≡ Some start → start < cut → i < level
+opened_below starts level cut i start ascend at there h = go (cases_eq i level)
+  where
+    later : (level < i → ⊥) → (i ≡ level → ⊥) → i < level
+    later a b = omega (arith, a, b)
+
+    go : (i ≡ level) ⊎ (i ≡ level → ⊥) → i < level
+    go (inl e) =
+        let same : slice_get starts level ≡ Some start = subst (λ j. slice_get starts j ≡ Some start) e there in
+        let equal : cut ≡ start = cc in
+        absurd (omega (arith, equal, h))
+    go (inr apart) = later (λ more. let less = ascend level i cut start more at there in absurd (omega (arith, less, h))) apart
 
 -- there are no more levels than entries
 at_least : (starts : List ℕ) → Ascend starts → (i s : ℕ) → slice_get starts i ≡ Some s → i ≤ s

@@ -80,6 +80,16 @@ has_value (y ∷ ys) zero x is none = none_here y ys (var_of x) none (ap var_of 
     same e = cc
 has_value (y ∷ ys) (suc i) x is none = has_value ys i x is (none_past y ys (var_of x) none)
 
+-- and a variable that has a value stands in a literal
+pub place_of : (xs : List Lit) (var : ℕ) → (value_in xs var ≡ None → ⊥) → (i : ℕ) × (x : Lit) × (slice_get xs i ≡ Some x) × (var_of x ≡ var)
+place_of [] var some = absurd (some refl)
+place_of (x ∷ xs) var some = go (λ h. place_of xs var h) (cases_eq (var_of x) var)
+  where
+    go : ((value_in xs var ≡ None → ⊥) → (i : ℕ) × (y : Lit) × (slice_get xs i ≡ Some y) × (var_of y ≡ var)) → (var_of x ≡ var) ⊎ (var_of x ≡ var → ⊥)
+        → (i : ℕ) × (y : Lit) × (slice_get (x ∷ xs) i ≡ Some y) × (var_of y ≡ var)
+    go more (inl e) = (0, x, refl, e)
+    go more (inr d) = let later = more (λ none. some (value_past x xs var d ∙ none)) in (suc later.0, later.1, later.2, later.3)
+
 pub same_place : (xs : List Lit) (i j : ℕ) (x y : Lit) → Once xs → slice_get xs i ≡ Some x → slice_get xs j ≡ Some y → var_of x ≡ var_of y → i ≡ j
 same_place [] i j x y once a b e = absurd (cc)
 same_place (z ∷ zs) zero zero x y once a b e = refl

@@ -19,8 +19,8 @@ pub same_trail : (vars vars' : ℕ) (entries entries' : List Entry) (starts star
     → ◌≡◌ {A = Trail} (record { vars = vars; entries = entries; starts = starts; gone = gone }) (record { vars = vars'; entries = entries'; starts = starts'; gone = gone' })
 same_trail vars vars' entries entries' starts starts' gone gone' a b c d = rw (a, b, c, d) refl
 
-module _ (values : List (Option Bool)) (lits : List Lit) (levels reasons starts : List ℕ) (gone lits_room starts_room : ℕ)
-    (is : IsTrail values lits levels reasons starts gone lits_room starts_room) (lit : Lit) where
+module _ (values : List (Option Bool)) (lits : List Lit) (places reasons starts : List ℕ) (gone lits_room starts_room : ℕ)
+    (is : IsTrail values lits places reasons starts gone lits_room starts_room) (lit : Lit) where
   -- a variable that is free has no value by the literals
   pub fresh_of : (t : Trail) → seen values lits reasons starts gone ≡ t → IsFree t (var_of lit) → value_in lits (var_of lit) ≡ None
   fresh_of t view_is free =

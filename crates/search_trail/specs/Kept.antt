@@ -1,14 +1,13 @@
 -- Kept: what values and trails keep, and how contracts see it.
 use Rattle.std.specs.Prelude.{◌≡◌, ◌==◌, ◌<◌, ◌≤◌, ⊤, ℕ, Bool, if◌then◌else◌, List, [], ◌∷◌, All, Option, Some, None, length, map, slice_get, slice_set, slice_index_or}
-use Rattle.std.specs.List.{count_by, range_with_len}
-use Rattle.std.specs.Prelude.{nat_le}
+use Rattle.std.specs.List.{range_with_len}
 use Rattle.currency_base.specs.Literals.{var_of}
 use Rattle.currency_base.specs.declared.lit.Lit.{Lit}
 use Rattle.search_trail.specs.Trails.{Entry, value_in}
 
 -- the values by variable, and the mark: the first variable that has none, or the end
 pub record AreGiven (given : List (Option Bool)) (low : ℕ) : Type 0 where
-  pub few : length given ≤ 4294967295
+  pub few : length given ≤ 2147483648
   pub low_within : low ≤ length given
   pub free : low < length given → slice_get given low ≡ Some None
   pub below : (i : ℕ) → i < low → slice_get given i ≡ Some None → ⊥
@@ -33,16 +32,17 @@ freed values [] = values
 freed values (lit ∷ lits) = freed (slice_set values (var_of lit) None) lits
 
 -- the parts of a trail fit each other; the last two numbers are the room for literals and for levels
-pub record IsTrail (values : List (Option Bool)) (lits : List Lit) (levels reasons starts : List ℕ) (gone lits_room starts_room : ℕ) : Type 0 where
+pub record IsTrail (values : List (Option Bool)) (lits : List Lit) (places reasons starts : List ℕ) (gone lits_room starts_room : ℕ) : Type 0 where
   pub values_are : values ≡ map (value_in lits) (range_with_len 0 (length values))
   pub few : length values ≤ 2147483648
-  pub levels_length : length levels ≡ length values
+  pub places_length : length places ≡ length values
   pub reasons_length : length reasons ≡ length values
-  pub levels_are : (place : ℕ) (lit : Lit) → slice_get lits place ≡ Some lit → slice_index_or levels (var_of lit) 0 ≡ count_by (λ start. nat_le start place) starts
+  pub places_are : (place : ℕ) (lit : Lit) → slice_get lits place ≡ Some lit → slice_index_or places (var_of lit) 0 ≡ place
   pub within : All (λ lit. var_of lit < length values) lits
   pub once : Once lits
   pub ascend : (i j low high : ℕ) → i < j → slice_get starts i ≡ Some low → slice_get starts j ≡ Some high → low < high
   pub begun : (i start : ℕ) → slice_get starts i ≡ Some start → start < length lits
+  pub assumed : (place : ℕ) (lit : Lit) → slice_get lits place ≡ Some lit → slice_index_or reasons (var_of lit) 4294967295 ≡ 4294967295 → (i : ℕ) × (slice_get starts i ≡ Some place)
   pub gone_within : gone ≤ length lits
   pub lits_fit : length values ≤ lits_room
   pub starts_fit : length values ≤ starts_room

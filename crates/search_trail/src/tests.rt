@@ -6,8 +6,9 @@ use clause_arena::{Arena, ClauseNo};
 use currency_base::{Lit, NoMemory};
 use std::test::Fail;
 
-// Assumes a literal where there is none, and makes the other literal of a clause true that has its negation.
-fn imply_other(trail: &mut Trail, arena: &Arena, clause: ClauseNo, first: Lit, other: Lit)
+// Assumes a literal where there is none, and makes the other literal of a clause true that has its negation; tells
+// whether the trail shows where both stand.
+fn imply_other(trail: &mut Trail, arena: &Arena, clause: ClauseNo, first: Lit, other: Lit) -> bool
     requires clause { slice_get arena.now.clauses clause.0 ≡ Some (negation first ∷ other ∷ []) }
     requires there { clause.0 < length arena.now.clauses }
     requires first { var_of first < trail.old.vars }
@@ -18,6 +19,7 @@ fn imply_other(trail: &mut Trail, arena: &Arena, clause: ClauseNo, first: Lit, o
 {
     trail.assume(first);
     trail.imply(arena, other, clause);
+    trail.place(first.var()) == 0 && trail.place(other.var()) == 1 && trail.level(other.var()) == 1
 }
 
 // Adds a clause of two literals, and makes the second true by it; tells whether the trail shows that.
@@ -30,8 +32,8 @@ fn comes(trail: &mut Trail, arena: &mut Arena) -> Result<bool, NoMemory>
     let first = Lit::new(0, false);
     let other = Lit::new(1, true);
     let clause = arena.add(&[first.negated(), other])?;
-    imply_other(trail, arena, clause, first, other);
-    Ok(trail.values().first_free() == Some(2) && trail.pending() == Some(first))
+    let shown = imply_other(trail, arena, clause, first, other);
+    Ok(shown && trail.values().first_free() == Some(2) && trail.pending() == Some(first))
 }
 
 // Takes all levels away; tells whether the trail shows that.

@@ -1,6 +1,8 @@
-ghost use Rattle.std.specs.Prelude.{◌≡◌, ◌<◌, ◌≤◌, ◌^◌, ◌∷◌, ◌++◌, ℕ, [], All, Some, not, length, option_map, slice_get, slice_set, vec_len, vec_capacity, IfOk, IfSome};
+ghost use Rattle.std.specs.Prelude.{◌≡◌, ◌<◌, ◌≤◌, ◌^◌, ◌∷◌, ◌++◌, ℕ, [], All, Some, nat_le, not, length, option_map, slice_get, slice_set, slice_index_or, vec_len, vec_capacity, drop, IfOk, IfSome};
+ghost use Rattle.std.specs.List.{count_by};
+ghost use Rattle.std.specs.List.Sorted.{IsNonDecreasing};
 ghost use Rattle.currency_base.specs.Literals.{var_of, is_negative};
-ghost use Rattle.search_trail.specs.Trails.{AreEntries, IsFree, IsReason, StandsAt, assumed, implied, level_at, lits_of, reason_in, undone, values_of, passed};
+ghost use Rattle.search_trail.specs.Trails.{AreEntries, IsFree, IsReason, StandsAt, assumed, entries_up_to, implied, level_at, lits_of, reason_in, undone, values_of, passed};
 ghost use Rattle.search_trail.specs.Kept.{freed, reason_at};
 
 use crate::Values;
@@ -16,8 +18,8 @@ use std::marker::Model;
 pub struct Trail {
     values: Values,
     lits: Vec<Lit>,
-    // the level of each variable that has a value
-    levels: Vec<u32>,
+    // where the literal of each variable that has a value stands
+    places: Vec<u32>,
     // the clause that implied the value of each variable that has one
     reasons: Vec<u32>,
     // by level, from the first on, how many literals there were before it
@@ -40,7 +42,7 @@ impl Model for Trail {
       gone = t.gone;
     } };
 
-    ghost invariant = { λ t. IsTrail t.values t.lits.items t.levels.items t.reasons.items t.starts.items t.gone
+    ghost invariant = { λ t. IsTrail t.values t.lits.items t.places.items t.reasons.items t.starts.items t.gone
         (vec_capacity t.lits) (vec_capacity t.starts) };
 }
 
@@ -56,7 +58,7 @@ impl Trail {
         let Ok(lits) = Vec::with_capacity(alloc, vars as usize) else {
             return Err(NoMemory);
         };
-        let Ok(levels) = Vec::from_elem(alloc, 0, vars as usize) else {
+        let Ok(places) = Vec::from_elem(alloc, 0, vars as usize) else {
             return Err(NoMemory);
         };
         let Ok(reasons) = Vec::from_elem(alloc, NO_REASON, vars as usize) else {
@@ -68,7 +70,7 @@ impl Trail {
         Ok(Trail {
             values,
             lits,
-            levels,
+            places,
             reasons,
             starts,
             gone: 0,
@@ -89,6 +91,15 @@ impl Trail {
         &self.lits
     }
 
+    /// The true literals of the levels above one, in the order in which they came.
+    pub fn above(&self, level: u32) -> &[Lit]
+        requires { level ≤ length self.now.starts }
+        ensures { result.now ≡ drop (entries_up_to self.now level) (lits_of self.now) }
+    {
+        let cut = cut_at(&self.starts, level as usize, self.lits.len());
+        &self.lits[cut..]
+    }
+
     /// The current level; 0 where nothing is assumed.
     pub fn depth(&self) -> u32
         ensures { result ≡ length self.now.starts }
@@ -96,13 +107,22 @@ impl Trail {
         self.starts.len() as u32
     }
 
-    /// The level at which a variable got its value.
+    /// The place in the order of literals at which a variable got its value. Takes constant time.
+    pub fn place(&self, var: u32) -> u32
+        requires within { var < self.now.vars }
+        requires given { IsFree self.now var → ⊥ }
+        ensures { StandsAt self.now var result }
+    {
+        self.places[var as usize]
+    }
+
+    /// The level at which a variable got its value. Takes the logarithm of the levels' number.
     pub fn level(&self, var: u32) -> u32
         requires within { var < self.now.vars }
         requires given { IsFree self.now var → ⊥ }
         ensures { (place : ℕ) → StandsAt self.now var place → result ≡ level_at self.now place }
     {
-        self.levels[var as usize]
+        count_up_to(&self.starts, self.places[var as usize]) as u32
     }
 
     /// The clause that implied a variable's literal. There is none where the variable is free or was assumed.
@@ -123,9 +143,10 @@ impl Trail {
         ensures { self.new ≡ assumed self.old lit }
     {
         let var = lit.var();
-        self.levels[var as usize] = self.starts.len() as u32 + 1;
+        let place = self.lits.len() as u32;
+        self.places[var as usize] = place;
         self.reasons[var as usize] = NO_REASON;
-        push_start(&mut self.starts, self.lits.len() as u32);
+        push_start(&mut self.starts, place);
         put_lit(&mut self.values, &mut self.lits, lit);
     }
 
@@ -141,7 +162,7 @@ impl Trail {
         // clauses are fewer than u32::MAX, which stands for none
         let _count = arena.count();
         let var = lit.var();
-        self.levels[var as usize] = self.starts.len() as u32;
+        self.places[var as usize] = self.lits.len() as u32;
         self.reasons[var as usize] = clause.0;
         put_lit(&mut self.values, &mut self.lits, lit);
     }
@@ -194,6 +215,28 @@ fn reason_at(number: u32) -> Option<ClauseNo>
         None
     } else {
         Some(ClauseNo(number))
+    }
+}
+
+// How many levels begin up to a place.
+fn count_up_to(starts: &[u32], place: u32) -> usize
+    requires { IsNonDecreasing starts.now }
+    ensures count { result ≡ count_by (λ start. nat_le start place) starts.now }
+    ensures bound { result ≤ length starts.now }
+{
+    starts.partition_point(|start| *start <= place)
+}
+
+// Where the levels above one begin, of so many literals.
+fn cut_at(starts: &[u32], level: usize, lits: usize) -> usize
+    requires { (i start : ℕ) → slice_get starts.now i ≡ Some start → start < lits }
+    ensures cut { result ≡ slice_index_or starts.now level lits }
+    ensures within { result ≤ lits }
+{
+    if level < starts.len() {
+        starts[level] as usize
+    } else {
+        lits
     }
 }
 

@@ -1,4 +1,4 @@
-ghost use Rattle.std.specs.Prelude.{◌≡◌, ◌<◌, ◌≤◌, ℕ, Some, None, length, replicate, slice_get, slice_set, IfOk, IfSome, IfNone};
+ghost use Rattle.std.specs.Prelude.{◌≡◌, ◌<◌, ◌≤◌, ◌^◌, ℕ, Some, None, length, replicate, slice_get, slice_set, IfOk, IfSome, IfNone};
 ghost use Rattle.search_trail.specs.Trails.{IsFirstFree};
 
 use currency_base::NoMemory;
@@ -28,6 +28,7 @@ impl Model for Values {
 impl Values {
     /// No variable has a value. No other call takes memory.
     pub(crate) fn new(alloc: Global, vars: u32) -> Result<Values, NoMemory>
+        requires { vars ≤ 2 ^ 31 }
         ensures { IfOk result (λ v. v ≡ replicate vars None) }
     {
         match Vec::from_elem(alloc, None, vars as usize) {
@@ -38,7 +39,8 @@ impl Values {
 
     /// How many variables there are.
     pub fn len(&self) -> u32
-        ensures { result ≡ length self.now }
+        ensures count { result ≡ length self.now }
+        ensures few { result ≤ 2 ^ 31 }
     {
         self.given.len() as u32
     }

@@ -1,24 +1,14 @@
-use Rattle.std.proofs.Common.{◌≡◌, ◌∙◌, ◌+◌, ◌++◌, ◌∷◌, [], ℕ, length, ap, arith}
+use Rattle.std.proofs.Common.{◌≡◌, ◌∙◌, ◌++◌, ◌∷◌, [], ℕ, length, ap, arith}
 use Rattle.search_trail.specs.Trails.{Trail, assumed}
 use Rattle.search_trail.proofs.Fits.{fits_assumed, has_room, levels_few, lits_few}
 use Rattle.search_trail.proofs.Steps.{fresh_of, inside_of, seen_assumed}
 use Rattle.search_trail.proofs.trail.Trail.assume.Goals as goal
 use Rattle.search_trail.proofs.trail.Trail.assume.Goals.{After-put_lit}
 
-pub overflow_cast-len : goal.overflow_cast-len
-overflow_cast-len c =
+pub overflow_cast-place : goal.overflow_cast-place
+overflow_cast-place c =
     let is = c.self.invariant in
-    omega (arith, is.few, levels_few _ _ _ _ _ _ _ _ is, lits_few _ _ _ _ _ _ _ _ is, c.len.ensures, c.self.inside.starts.ok.0)
-
-pub overflow_add-len : goal.overflow_add-len
-overflow_add-len c =
-    let is = c.self.invariant in
-    omega (arith, is.few, levels_few _ _ _ _ _ _ _ _ is, lits_few _ _ _ _ _ _ _ _ is, c.len.ensures, c.self.inside.starts.ok.0)
-
-pub overflow_cast-len-2 : goal.overflow_cast-len-2
-overflow_cast-len-2 c =
-    let is = c.self.invariant in
-    omega (arith, is.few, lits_few _ _ _ _ _ _ _ _ is, c.len-2.ensures, c.self.inside.lits.ok.0)
+    omega (arith, is.few, lits_few _ _ _ _ _ _ _ _ is, c.len-place.ensures, c.self.inside.lits.ok.0)
 
 pub push_start-requires : goal.push_start-requires
 push_start-requires c =
@@ -36,19 +26,17 @@ put_lit-requires-clause-room c =
     let room = has_room _ _ _ _ _ _ _ _ c.self.invariant c.args.lit inside fresh in
     omega (arith, room, is.lits_fit, c.self.inside.lits.ok.0)
 
-starts_now : (c : After-put_lit) → c.push_start.new.starts.items ≡ c.self.inside.starts.items ++ length c.self.inside.lits.items ∷ []
-starts_now c =
-    let long : c.len-2.result ≡ length c.self.inside.lits.items = omega (arith, c.len-2.ensures, c.self.inside.lits.ok.0) in
-    c.push_start.ensures.items ∙ ap (λ (n : ℕ). c.self.inside.starts.items ++ n ∷ []) long
+place_now : (c : After-put_lit) → c.len-place.result ≡ length c.self.inside.lits.items
+place_now c = omega (arith, c.len-place.ensures, c.self.inside.lits.ok.0)
 
-level_now : (c : After-put_lit) → c.len.result + 1 ≡ length c.self.inside.starts.items + 1
-level_now c = omega (arith, c.len.ensures, c.self.inside.starts.ok.0)
+starts_now : (c : After-put_lit) → c.push_start.new.starts.items ≡ c.self.inside.starts.items ++ length c.self.inside.lits.items ∷ []
+starts_now c = c.push_start.ensures.items ∙ ap (λ (n : ℕ). c.self.inside.starts.items ++ n ∷ []) (place_now c)
 
 pub invariant_of-self : goal.invariant_of-self
 invariant_of-self c =
     let fresh = fresh_of _ _ _ _ _ _ _ _ c.self.invariant c.args.lit _ c.self.view_is c.requires.free in
     let inside = inside_of _ _ _ _ _ _ _ _ c.self.invariant c.args.lit _ c.self.view_is c.requires.within in
-    rw (c.put_lit.ensures.values, c.put_lit.ensures.items, starts_now c, level_now c, c.var-var.ensures.value)
+    rw (c.put_lit.ensures.values, c.put_lit.ensures.items, starts_now c, place_now c, c.var-var.ensures.value)
     (fits_assumed _ _ _ _ _ _ _ _ c.self.invariant c.args.lit inside fresh 4294967295 _ _ c.put_lit.ensures.capacity c.push_start.ensures.capacity)
 
 pub returns : goal.returns

@@ -8,8 +8,8 @@ invariant_of-result c =
     let values : c.in-Ok.values ≡ replicate vars None = c.in-Ok.ensures in
     let lits : c.in-Ok-with_capacity.lits.items ≡ [] = search rules in
     let starts : c.in-Ok-with_capacity-2.starts.items ≡ [] = search rules in
-    let levels : c.in-Ok-from_elem.levels.items ≡ replicate vars 0 = search rules in
+    let places : c.in-Ok-from_elem.places.items ≡ replicate vars 0 = search rules in
     let reasons : c.in-Ok-from_elem-2.reasons.items ≡ replicate vars 4294967295 = search rules in
     let lits_fit : vars ≤ vec_capacity c.in-Ok-with_capacity.lits = search rules in
     let starts_fit : vars ≤ vec_capacity c.in-Ok-with_capacity-2.starts = search rules in
-    rw (values, lits, starts, levels, reasons) (fits_new vars _ _ c.requires lits_fit starts_fit)
+    rw (values, lits, starts, places, reasons) (fits_new vars _ _ c.requires lits_fit starts_fit)
