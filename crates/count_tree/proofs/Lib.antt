@@ -1,0 +1,4 @@
+pub mod Orders
+pub mod Paths
+pub mod Written
+pub mod Changed

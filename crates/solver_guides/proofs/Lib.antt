@@ -1,0 +1,3 @@
+pub mod FirstFrees
+pub mod Taken
+pub mod Turns

@@ -1,0 +1,34 @@
+-- Rings: guides that take turns.
+use Rattle.std.specs.Prelude.{◌≡◌, ◌<◌, ◌+◌, ℕ, Bool, true, List, Option, Some, option_and_then, if◌then◌else◌, nat_lt, slice_get, vec_len}
+use Rattle.std.specs.declared.alloc.Global.{Global}
+use Rattle.std.specs.declared.dyn_box.DynBox.{DynBox}
+use Rattle.currency_base.specs.declared.lit.Lit.{Lit}
+use Rattle.solver_guides.specs.declared.ring.Guides.{Guides}
+
+-- how many guides there are
+abbrev pub count_of : {X : Type 0} {P : X → Type 0} → Guides X P → ℕ
+count_of ring = vec_len ring.guides
+
+-- whose turn it is
+abbrev pub place_of : {X : Type 0} {P : X → Type 0} → Guides X P → ℕ
+place_of ring = ring.at
+
+-- the guides, in their order
+abbrev pub guides_of : {X : Type 0} {P : X → Type 0} → Guides X P → List (DynBox X Global P)
+guides_of ring = ring.guides.items
+
+-- the place after one, in a ring of so many
+abbrev pub next_place : ℕ → ℕ → ℕ
+next_place count place = if nat_lt (place + 1) count then place + 1 else 0
+
+-- what the guide at a place chooses, where there is one
+abbrev pub choice_at : {B : Type 0} → (B → List (Option Bool) → Option Lit) → List B → ℕ → List (Option Bool) → Option Lit
+choice_at choice guides place values = option_and_then (λ guide. choice guide values) (slice_get guides place)
+
+-- what the guide chooses whose turn it is; none where there is no guide
+abbrev pub current_choice : {X : Type 0} {P : X → Type 0} → (DynBox X Global P → List (Option Bool) → Option Lit) → Guides X P → List (Option Bool) → Option Lit
+current_choice choice ring values = choice_at choice (guides_of ring) (place_of ring) values
+
+-- each of so many guides has made room for so many variables
+abbrev pub HaveRoom : {B : Type 0} → (B → ℕ → Bool) → ℕ → List B → ℕ → Type 0
+HaveRoom has_room vars guides count = (place : ℕ) (guide : _) → place < count → slice_get guides place ≡ Some guide → has_room guide vars ≡ true

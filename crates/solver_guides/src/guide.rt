@@ -1,0 +1,34 @@
+ghost use Rattle.std.specs.Prelude.{◌≡◌, ℕ, Bool, true, List, Option, length, OnOk};
+ghost use Rattle.currency_base.specs.declared.lit.Lit.{Lit};
+
+use currency_base::{Assignment, Lit, NoMemory};
+use search_trail::Values;
+use std::alloc::Global;
+
+/// What picks the literals that a search assumes. A guide may be wrong: it may pick nothing, a variable that has a
+/// value, or one that is none of the search's.
+pub trait Guide: Drop {
+    /// What it picks for the values of the variables.
+    ghost choice: { Self → List (Option Bool) → Option Lit };
+
+    /// Has it made room for so many variables?
+    ghost has_room: { Self → ℕ → Bool };
+
+    /// Makes room for the variables of `start`, a first guess at a model. A guide that is refused memory is dropped by
+    /// the ring.
+    fn fit(&mut self, alloc: Global, start: &Assignment) -> Result<(), NoMemory>
+        ensures { OnOk result (has_room self.new (length start.now) ≡ true) };
+
+    /// A literal to assume, for these values.
+    fn pick(&mut self, values: &Values) -> Option<Lit>
+        ensures { result ≡ choice self.old values.now };
+
+    /// A variable of a conflict.
+    fn saw(&mut self, var: u32);
+
+    /// A literal that was true is free again.
+    fn freed(&mut self, lit: Lit);
+
+    /// The search begins again from the goal.
+    fn restarted(&mut self);
+}
