@@ -1,0 +1,17 @@
+pub mod Members
+pub mod Following
+pub mod Rounds
+pub mod Meeting
+pub mod Entries
+pub mod Literals
+pub mod Passing
+pub mod Settling
+pub mod Closing
+pub mod Sorting
+pub mod Completing
+pub mod Starts
+pub mod Beginnings
+pub mod Spelled
+pub mod Deriving
+pub mod Clause
+pub mod Learned

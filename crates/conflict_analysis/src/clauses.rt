@@ -1,0 +1,68 @@
+ghost use Rattle.std.specs.Prelude.{◌≡◌, ◌≤◌, ◌++◌, ◌∷◌, [], true, List, length, All, OnOk};
+ghost use Rattle.currency_base.specs.declared.lit.Lit.{Lit};
+ghost use Rattle.conflict_analysis.specs.Steps.{AreSeen, IsAssigned, MeetsAll, State};
+
+use crate::reasons::place_of;
+use crate::resolution::{Bounds, Resolution};
+use currency_base::{Lit, NoMemory};
+use search_trail::Trail;
+
+// Meets the place of a literal.
+fn meet_lit(found: &mut Resolution, trail: &Trail, bounds: Bounds, lit: Lit) -> Result<(), NoMemory>
+    requires long { length trail.now.entries ≤ length found.old.seen }
+    requires assigned { IsAssigned trail.now lit }
+    ensures long { length found.new.seen ≡ length found.old.seen }
+    ensures ok { OnOk result ((front : List Lit) (old : State) → MeetsAll trail.now.entries bounds.base bounds.level front old found.old
+        → MeetsAll trail.now.entries bounds.base bounds.level (front ++ lit ∷ []) old found.new) }
+{
+    trail.are_entries();
+    let place = place_of(trail, lit);
+    found.meet(trail, bounds, place)
+}
+
+/// Meets the places of a clause's literals.
+pub(crate) fn meet_all(
+    found: &mut Resolution,
+    trail: &Trail,
+    bounds: Bounds,
+    lits: &[Lit],
+) -> Result<(), NoMemory>
+    requires long { length trail.now.entries ≤ length found.old.seen }
+    requires assigned { All (IsAssigned trail.now) lits.now }
+    ensures long { length found.new.seen ≡ length found.old.seen }
+    ensures ok { OnOk result (MeetsAll trail.now.entries bounds.base bounds.level lits.now found.old found.new) }
+{
+    for lit in lits {
+        match meet_lit(found, trail, bounds, *lit) {
+            Ok(()) => {}
+            Err(error) => return Err(error),
+        }
+    }
+    Ok(())
+}
+
+// Was the place of a literal met, or is it below the base?
+fn is_met(found: &Resolution, trail: &Trail, base: u32, lit: Lit) -> bool
+    requires long { length trail.now.entries ≤ length found.now.seen }
+    requires assigned { IsAssigned trail.now lit }
+    ensures { (front : List Lit) → AreSeen trail.now.entries found.now.seen base front
+        → result ≡ true → AreSeen trail.now.entries found.now.seen base (front ++ lit ∷ []) }
+{
+    trail.are_entries();
+    let place = place_of(trail, lit);
+    place < base || found.is_met(place)
+}
+
+/// Were the places of a clause's literals all met, or are below the base?
+pub(crate) fn all_met(found: &Resolution, trail: &Trail, base: u32, lits: &[Lit]) -> bool
+    requires long { length trail.now.entries ≤ length found.now.seen }
+    requires assigned { All (IsAssigned trail.now) lits.now }
+    ensures { result ≡ true → AreSeen trail.now.entries found.now.seen base lits.now }
+{
+    for lit in lits {
+        if !is_met(found, trail, base, *lit) {
+            return false;
+        }
+    }
+    true
+}

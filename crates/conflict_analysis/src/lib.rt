@@ -1,0 +1,18 @@
+//! Conflict analysis: from a clause whose literals are all false, a clause that follows by the reasons of the trail.
+#![tactic(auto)]
+
+mod analysis;
+mod clauses;
+mod conflicts;
+mod learning;
+mod levels;
+mod marks;
+mod reasons;
+mod resolution;
+mod resolving;
+mod writing;
+
+pub use analysis::Analysis;
+
+#[cfg(test)]
+mod tests;
