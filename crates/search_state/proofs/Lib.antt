@@ -1,0 +1,11 @@
+mod Grounds
+mod Following
+mod Fresh
+mod Holding
+mod Swaps
+mod Standings
+mod Units
+mod Filling
+mod Showing
+mod Keeping
+mod Concluding

@@ -1,0 +1,14 @@
+//! The state of a search: a log, its clauses in a watched arena, and a trail. What is done to it keeps what makes its
+//! answers right.
+#![tactic(auto)]
+
+mod learning;
+mod orders;
+mod search;
+mod state;
+mod steps;
+
+pub use state::State;
+
+#[cfg(test)]
+mod tests;

@@ -1,0 +1,7 @@
+mod LitParts
+mod TrueLits
+mod UnderGoal
+mod GoalValue
+mod Truths
+mod Grown
+mod Shown

@@ -1,0 +1,28 @@
+use Rattle.std.proofs.Common.{ℕ, List, [], refl, sym, subst}
+use Rattle.refutation_log.specs.declared.step.Step.{Step}
+use Rattle.watch_solver.specs.Decided.{IsStepOf}
+use Rattle.watch_solver.proofs.Grown.{grown_concluded, grown_none}
+use Rattle.watch_solver.proofs.Shown.{answer_empty, answer_refuted}
+use Rattle.watch_solver.proofs.decision.refute.Goals as goal
+
+pub returns-then-is_empty-clause-grown : goal.returns-then-is_empty-clause-grown
+returns-then-is_empty-clause-grown g c = grown_none _ _ _ refl
+
+pub returns-then-is_empty-clause-found : goal.returns-then-is_empty-clause-found
+returns-then-is_empty-clause-found g c = λ (left : ℕ).
+    answer_empty c.args.state.now c.args.goal c.args.conflict left
+    (subst (λ (steps : List Step). IsStepOf steps c.args.conflict []) c.log.ensures.steps (c.is_empty.ensures.empty c.if-is_empty.true))
+
+pub returns-in-Err-clause-grown : goal.returns-in-Err-clause-grown
+returns-in-Err-clause-grown g c = grown_none _ _ _ c.in-Err.ensures.err
+
+pub returns-then-is_empty-2-clause-grown : goal.returns-then-is_empty-2-clause-grown
+returns-then-is_empty-2-clause-grown g c = grown_concluded c.args.state.now c.refute.new.self _ c.in-Ok.ensures.ok.concluded
+
+pub returns-else-is_empty-2-clause-grown : goal.returns-else-is_empty-2-clause-grown
+returns-else-is_empty-2-clause-grown g c = grown_concluded c.args.state.now c.refute.new.self _ c.in-Ok.ensures.ok.concluded
+
+pub returns-else-is_empty-2-clause-found : goal.returns-else-is_empty-2-clause-found
+returns-else-is_empty-2-clause-found g c = λ (left : ℕ).
+    answer_refuted c.args.state.now c.refute.new.self c.args.goal c.in-Ok.place left c.in-Ok.ensures.ok c.in-Ok.ensures.place c.requires.last
+    (λ empty. c.is_empty-2.ensures.other c.if-is_empty-2.false (subst (λ (steps : List Step). IsStepOf steps c.in-Ok.place []) (sym c.log-2.ensures.steps) empty))

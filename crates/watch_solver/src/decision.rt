@@ -1,0 +1,224 @@
+ghost use Rattle.std.specs.Prelude.{◌≡◌, ◌+◌, ◌<◌, ℕ, [], true, false, length, IfOk, IfSome, IfNone, OnOk, OnErr};
+ghost use Rattle.refutation_log.specs.Counted.{counted_steps};
+ghost use Rattle.search_state.specs.States.{IsFalse, vars_of};
+ghost use Rattle.watch_solver.specs.Decided.{HasGrown, IsStepOf};
+ghost use Rattle.watch_solver.specs.Underway.{HasCounted, IsAnswer, IsComplete, IsConflict, IsFinal, IsGoalBelow, IsGoalTrue, IsGoalWithin, IsOfGoal};
+
+use crate::goal::goal_level;
+use crate::model::truths_of;
+use crate::restarts::Restarts;
+use crate::search::{Stop, search};
+use crate::{Budget, Found};
+use currency_base::{Lit, NoMemory};
+use refutation_log::Log;
+use search_state::State;
+use solver_guides::Guides;
+use std::alloc::Global;
+
+/// Decides, by one turn after another, until there is an answer.
+pub(crate) fn decided(
+    state: &mut State,
+    alloc: Global,
+    goal: Option<Lit>,
+    budget: &mut Budget,
+    guides: &mut Guides,
+) -> Result<Found, NoMemory>
+    requires within { IsGoalWithin (vars_of state.old) goal }
+    ensures frame { state.new.frame ≡ state.old.frame }
+    ensures grown { HasGrown (vars_of state.old) state.old.steps state.new.steps }
+    ensures units { counted_steps state.new.steps + budget.new ≡ counted_steps state.old.steps + budget.old }
+    ensures found { IfOk result (IsAnswer state.new goal budget.new) }
+{
+    state.undo_to(0, guides);
+    let mut restarts = Restarts::new();
+    loop {
+        match turn(state, alloc, goal, budget, guides, &mut restarts) {
+            Ok(None) => {}
+            Ok(Some(found)) => return Ok(found),
+            Err(error) => return Err(error),
+        }
+    }
+}
+
+// One search, and what is due where it stops: an answer, or a clause that is learned.
+fn turn(
+    state: &mut State,
+    alloc: Global,
+    goal: Option<Lit>,
+    budget: &mut Budget,
+    guides: &mut Guides,
+    restarts: &mut Restarts,
+) -> Result<Option<Found>, NoMemory>
+    requires within { IsGoalWithin (vars_of state.old) goal }
+    requires kept { IsOfGoal state.old.trail goal }
+    ensures frame { state.new.frame ≡ state.old.frame }
+    ensures grown { HasGrown (vars_of state.old) state.old.steps state.new.steps }
+    ensures units { counted_steps state.new.steps + budget.new ≡ counted_steps state.old.steps + budget.old }
+    ensures found { IfOk result (λ found. IfSome found (IsAnswer state.new goal budget.new)) }
+    ensures counted { IfOk result (λ found. IfNone found (HasCounted (vars_of state.old) state.old.steps state.new.steps)) }
+    ensures kept { IfOk result (λ found. IfNone found (IsOfGoal state.new.trail goal)) }
+    ensures fewer { IfOk result (λ found. IfNone found (budget.new < budget.old)) }
+{
+    match search(state, goal, guides) {
+        Stop::Complete => match found_model(state, alloc, goal) {
+            Ok(found) => Ok(Some(found)),
+            Err(error) => Err(error),
+        },
+        Stop::Holds(lit) => match prove(state, goal, lit) {
+            Ok(found) => Ok(Some(found)),
+            Err(error) => Err(error),
+        },
+        Stop::Conflict(place) => resolve(state, place, goal, budget, guides, restarts),
+    }
+}
+
+// Each variable has a value: these are a model.
+fn found_model(state: &State, alloc: Global, goal: Option<Lit>) -> Result<Found, NoMemory>
+    requires { IsComplete state.now goal }
+    ensures { (left : ℕ) → IfOk result (IsAnswer state.now goal left) }
+{
+    state.is_state();
+    state.trail().are_entries();
+    match truths_of(alloc, state.trail().values()) {
+        Ok(truths) => Ok(Found::Model(truths)),
+        Err(error) => Err(error),
+    }
+}
+
+// The goal is true where nothing is assumed: its clause is derived.
+fn prove(state: &mut State, goal: Option<Lit>, lit: Lit) -> Result<Found, NoMemory>
+    requires { IsGoalTrue state.old.trail goal lit }
+    ensures frame { state.new.frame ≡ state.old.frame }
+    ensures grown { HasGrown (vars_of state.old) state.old.steps state.new.steps }
+    ensures units { counted_steps state.new.steps ≡ counted_steps state.old.steps }
+    ensures found { (left : ℕ) → IfOk result (IsAnswer state.new goal left) }
+{
+    match state.derive(lit) {
+        Ok(place) => Ok(Found::Proved(place)),
+        Err(error) => Err(error),
+    }
+}
+
+// A conflict: where nothing is assumed but the goal's negation it refutes that, else a clause is learned.
+fn resolve(
+    state: &mut State,
+    conflict: u32,
+    goal: Option<Lit>,
+    budget: &mut Budget,
+    guides: &mut Guides,
+    restarts: &mut Restarts,
+) -> Result<Option<Found>, NoMemory>
+    requires within { IsGoalWithin (vars_of state.old) goal }
+    requires kept { IsOfGoal state.old.trail goal }
+    requires conflict { IsConflict state.old conflict }
+    ensures frame { state.new.frame ≡ state.old.frame }
+    ensures grown { HasGrown (vars_of state.old) state.old.steps state.new.steps }
+    ensures units { counted_steps state.new.steps + budget.new ≡ counted_steps state.old.steps + budget.old }
+    ensures found { IfOk result (λ found. IfSome found (IsAnswer state.new goal budget.new)) }
+    ensures counted { IfOk result (λ found. IfNone found (HasCounted (vars_of state.old) state.old.steps state.new.steps)) }
+    ensures kept { IfOk result (λ found. IfNone found (IsOfGoal state.new.trail goal)) }
+    ensures fewer { IfOk result (λ found. IfNone found (budget.new < budget.old)) }
+{
+    state.is_state();
+    if state.trail().depth() <= goal_level(state.trail(), goal) {
+        return match refute(state, conflict, goal, guides) {
+            Ok(found) => Ok(Some(found)),
+            Err(error) => Err(error),
+        };
+    }
+    if budget.is_spent() {
+        return Ok(Some(Found::Spent));
+    }
+    match learn(state, conflict, goal, budget, guides, restarts) {
+        Ok(()) => Ok(None),
+        Err(error) => Err(error),
+    }
+}
+
+// A conflict where nothing is assumed but the goal's negation: the empty clause is there or is derived, or the goal's is.
+fn refute(
+    state: &mut State,
+    conflict: u32,
+    goal: Option<Lit>,
+    guides: &mut Guides,
+) -> Result<Found, NoMemory>
+    requires conflict { IsFalse state.old conflict }
+    requires last { IsFinal state.old.trail goal }
+    ensures frame { state.new.frame ≡ state.old.frame }
+    ensures grown { HasGrown (vars_of state.old) state.old.steps state.new.steps }
+    ensures units { counted_steps state.new.steps ≡ counted_steps state.old.steps }
+    ensures found { (left : ℕ) → IfOk result (IsAnswer state.new goal left) }
+{
+    if is_empty(state.log(), conflict) {
+        return Ok(Found::Empty(conflict));
+    }
+    let place = match state.refute(conflict, guides) {
+        Ok(place) => place,
+        Err(error) => return Err(error),
+    };
+    if is_empty(state.log(), place) {
+        Ok(Found::Empty(place))
+    } else {
+        Ok(Found::Proved(place))
+    }
+}
+
+// Is the clause of a step empty?
+fn is_empty(log: &Log, place: u32) -> bool
+    requires { place < length log.now.steps }
+    ensures empty { result ≡ true → IsStepOf log.now.steps place [] }
+    ensures other { result ≡ false → IsStepOf log.now.steps place [] → ⊥ }
+{
+    log.steps.lits(place as usize).is_empty()
+}
+
+// A conflict above the goal's level: a counted clause is learned, which takes a unit.
+fn learn(
+    state: &mut State,
+    conflict: u32,
+    goal: Option<Lit>,
+    budget: &mut Budget,
+    guides: &mut Guides,
+    restarts: &mut Restarts,
+) -> Result<(), NoMemory>
+    requires within { IsGoalWithin (vars_of state.old) goal }
+    requires kept { IsOfGoal state.old.trail goal }
+    requires conflict { IsConflict state.old conflict }
+    requires deep { 0 < length state.old.trail.starts }
+    requires left { 0 < budget.old }
+    ensures frame { state.new.frame ≡ state.old.frame }
+    ensures counted { OnOk result (HasCounted (vars_of state.old) state.old.steps state.new.steps) }
+    ensures units { counted_steps state.new.steps + budget.new ≡ counted_steps state.old.steps + budget.old }
+    ensures kept { OnOk result (IsOfGoal state.new.trail goal) }
+    ensures fewer { OnOk result (budget.new < budget.old) }
+    ensures err { OnErr result (state.new.steps ≡ state.old.steps) }
+{
+    state.is_state();
+    state.trail().are_entries();
+    match state.learn(conflict, guides) {
+        Ok(()) => {}
+        Err(error) => return Err(error),
+    }
+    budget.take();
+    start_over(state, goal, guides, restarts);
+    Ok(())
+}
+
+// Goes back to the goal's level where a run is over, and tells the ring whether the next guide leads.
+fn start_over(state: &mut State, goal: Option<Lit>, guides: &mut Guides, restarts: &mut Restarts)
+    requires within { IsGoalWithin (vars_of state.old) goal }
+    requires kept { IsOfGoal state.old.trail goal }
+    ensures frame { state.new.frame ≡ state.old.frame }
+    ensures steps { state.new.steps ≡ state.old.steps }
+    ensures kept { IsOfGoal state.new.trail goal }
+{
+    if !restarts.is_over() {
+        return;
+    }
+    state.is_state();
+    state.trail().are_entries();
+    let level = goal_level(state.trail(), goal);
+    state.undo_to(level, guides);
+    let moves = restarts.ends_turn(guides.place());
+    guides.begin_again(moves);
+}
