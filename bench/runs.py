@@ -29,7 +29,7 @@ def run(folder, wanted):
 
 
 def end(above):
-    """Tells what is above its mark, and ends with status 1 where something is."""
+    """Tells what is beyond its mark, and ends with status 1 where something is."""
     for line in above:
-        print(f"above its mark: {line}")
+        print(f"beyond its mark: {line}")
     sys.exit(1 if above else 0)

@@ -1,0 +1,11 @@
+//! Rows over the solver: small cases against truth tables, budgets, and guides of every kind.
+#![tactic(auto)]
+
+#[cfg(test)]
+mod cases;
+#[cfg(test)]
+mod guides;
+#[cfg(test)]
+mod rows;
+#[cfg(test)]
+mod tables;
