@@ -1,0 +1,51 @@
+-- Both sides of a log say the same of labels: those who make axioms, and the one that judges them.
+use Rattle.std.specs.Prelude.{◌≡◌, true, List, Contains, Some}
+use Rattle.currency_base.specs.declared.ids.RelId.{RelId}
+use Rattle.currency_base.specs.declared.lit.Lit.{Lit}
+use Rattle.spec_model.specs.Facts.{IsSpecification}
+use Rattle.spec_model.specs.Spec.{Spec}
+use Rattle.refutation_log.specs.declared.statement.Statement.{Statement}
+use Rattle.log_axioms.specs.declared.signed.Signed.{Signed}
+use Rattle.refutation_log.specs.declared.step.Label.{Label}
+use Rattle.refutation_log.specs.declared.step.Label.TheVariants as label
+use Rattle.refutation_log.specs.declared.step.Step.{Step}
+use Rattle.refutation_log.specs.declared.step.Step.TheVariants as step
+use Rattle.log_axioms.specs.Axioms.{axiom_of, is_axiom}
+use Rattle.order_literals.specs.Numbers.{numbers_of}
+use Rattle.order_literals.specs.Said.{Said}
+use Rattle.order_literals.specs.Statements.{statements_of}
+use Rattle.order_literals.specs.Axioms.{IsAxiom}
+use Rattle.order_literals.specs.declared.wanted.Wanted.{Wanted}
+use Rattle.order_clauses.specs.Clauses.{IsAxiomStep, AreAxioms}
+
+-- a step that is made as the axiom of a label has, for the judge, the clause of its label
+abbrev pub StepsAreAxioms : Type 0
+StepsAreAxioms =
+    (s : Spec) (wanted : Wanted) (l : Label) (lits : List Lit) (taken : Step) → IsSpecification s
+    → IsAxiomStep s (statements_of (numbers_of s.relations wanted)) l lits taken
+    → is_axiom s (statements_of (numbers_of s.relations wanted)) l lits ≡ true
+
+-- a label that has a clause for the judge has one for those who make axioms
+abbrev pub ClausesAreAxioms : Type 0
+ClausesAreAxioms =
+    (s : Spec) (l : Label) (clause : List Signed) → IsSpecification s → axiom_of s l ≡ Some clause → (said : List Said) × IsAxiom s l said
+
+-- a label of a given pair, of a rule or of a copy function
+abbrev pub IsOfSpecification : Label → Type 0
+IsOfSpecification (label.Given rel attr earlier later) = Unit {0}
+IsOfSpecification (label.Rule rule rows) = Unit {0}
+IsOfSpecification (label.Copy copy place first second) = Unit {0}
+IsOfSpecification other = ⊥
+
+-- of each given pair, each choice for which a rule has an instance, and each two rows that were copied together, the axiom
+-- stands among the steps
+abbrev pub HasAxioms : Spec → List Step → Type 0
+HasAxioms s steps =
+    (l : Label) (clause : List Signed) → IsOfSpecification l → axiom_of s l ≡ Some clause
+    → (lits : List Lit) × Contains steps (step.Axiom l lits)
+
+-- so it is with the axioms that are brought in from the start
+abbrev pub AxiomsAreWhole : Type 0
+AxiomsAreWhole =
+    (s : Spec) (currents : List RelId) (statements : List Statement) (steps : List Step) → IsSpecification s
+    → AreAxioms s currents statements steps → HasAxioms s steps
