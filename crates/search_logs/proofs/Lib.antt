@@ -1,0 +1,12 @@
+mod OnceLists
+mod Bounds
+mod Numbered
+mod Canonical
+mod Forms
+mod Instances
+mod Labels
+mod Plain
+mod Searched
+mod Trimmed
+mod Completions
+mod Whole

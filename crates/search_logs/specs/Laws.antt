@@ -1,0 +1,47 @@
+-- What holds of the log of a search: it is accepted, and can be trimmed and written.
+use Rattle.std.specs.Prelude.{◌≡◌, ◌<◌, ℕ, List, None, All, length}
+use Rattle.spec_model.specs.Completion.{Rankings, IsCompletion}
+use Rattle.spec_model.specs.Spec.{Spec}
+use Rattle.refutation_log.specs.declared.log.Log.{Log}
+use Rattle.log_checker.specs.Accepted.{IsAccepted, IsNumbered}
+use Rattle.log_form.specs.Form.{first_fault}
+use Rattle.log_trim.specs.Trimmed.{IsTrimmed, AreInPlace, Reaches}
+use Rattle.log_trim.specs.declared.trimming.Trimmed.{Trimmed}
+use Rattle.log_write.specs.Writable.{IsWritable}
+use Rattle.report_write.specs.Writable.{IsWritableCompletion}
+use Rattle.order_literals.specs.declared.wanted.Wanted.{Wanted}
+use Rattle.search_logs.specs.SearchLogs.{IsSearchLog, IsWithin, HasFewSteps}
+
+-- it is accepted
+abbrev pub LogsAreAccepted : Type 0
+LogsAreAccepted =
+    (s : Spec) (wanted : Wanted) (log : Log) → IsWithin s → IsSearchLog s wanted log → IsAccepted s log.statements log.steps
+
+-- it can be checked, and trimmed to any steps of it
+abbrev pub LogsAreInPlace : Type 0
+LogsAreInPlace =
+    (s : Spec) (wanted : Wanted) (log : Log) (goals : List ℕ) → IsWithin s → IsSearchLog s wanted log → HasFewSteps log
+    → All (λ goal. goal < length log.steps) goals → IsNumbered log.statements log.steps × AreInPlace log goals
+
+-- it can be written, and is well formed
+abbrev pub LogsAreWritable : Type 0
+LogsAreWritable =
+    (s : Spec) (wanted : Wanted) (log : Log) → IsWithin s → IsSearchLog s wanted log → HasFewSteps log
+    → IsWritable log × (first_fault s.relations log ≡ None)
+
+-- and so can what it is trimmed to
+abbrev pub TrimmedAreWritable : Type 0
+TrimmedAreWritable =
+    (s : Spec) (wanted : Wanted) (log : Log) (goals : List ℕ) (trimmed : Trimmed) → IsWithin s → IsSearchLog s wanted log → HasFewSteps log
+    → All (λ goal. goal < length log.steps) goals → IsTrimmed log goals trimmed
+    → IsWritable trimmed.log × (first_fault s.relations trimmed.log ≡ None)
+
+-- each step of what a log is trimmed to is reached from its goals
+abbrev pub TrimmedAreReached : Type 0
+TrimmedAreReached =
+    (log : Log) (goals : List ℕ) (trimmed : Trimmed) → AreInPlace log goals → IsTrimmed log goals trimmed
+    → (place : ℕ) → place < length trimmed.log.steps → Reaches trimmed.log.steps trimmed.goals place
+
+-- a completion of a specification within its limits can be written
+abbrev pub CompletionsAreWritable : Type 0
+CompletionsAreWritable = (s : Spec) (c : Rankings) → IsWithin s → IsCompletion s.relations c → IsWritableCompletion s.relations c

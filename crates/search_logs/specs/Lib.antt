@@ -1,0 +1,2 @@
+pub mod SearchLogs
+pub mod Laws

@@ -1,0 +1,60 @@
+-- The log of a search over the statements of a specification.
+use Rattle.std.specs.Prelude.{◌≡◌, ◌<◌, ◌≤◌, ℕ, List, [], length, take, All, None, Some, slice_get}
+use Rattle.currency_base.specs.Lists.{OnlyOnce}
+use Rattle.currency_base.specs.Literals.{var_of}
+use Rattle.currency_base.specs.declared.lit.Lit.{Lit}
+use Rattle.spec_limits.specs.Instances.{too_many_instances}
+use Rattle.spec_limits.specs.Limits.{exceeded, too_many_variables}
+use Rattle.spec_model.specs.Facts.{IsSpecification}
+use Rattle.spec_model.specs.Spec.{Spec}
+use Rattle.refutation_log.specs.Follows.{FollowsFrom}
+use Rattle.refutation_log.specs.Steps.{clauses_of}
+use Rattle.refutation_log.specs.declared.log.Log.{Log}
+use Rattle.refutation_log.specs.declared.statement.Statement.{Statement}
+use Rattle.refutation_log.specs.declared.step.Step.{Step}
+use Rattle.refutation_log.specs.declared.step.Step.TheVariants as step
+use Rattle.order_literals.specs.Numbers.{numbers_of}
+use Rattle.order_literals.specs.Statements.{statements_of}
+use Rattle.order_literals.specs.declared.wanted.Wanted.{Wanted}
+use Rattle.order_clauses.specs.Clauses.{IsAxiomStep}
+
+-- the statements that are numbered of a specification
+abbrev pub variables : Spec → Wanted → List Statement
+variables s wanted = statements_of (numbers_of s.relations wanted)
+
+-- a clause that is derived: it follows from the clauses before it with its hints, its literals are of the statements, and
+-- no literal and no hint stands twice
+pub record IsDerivedStep (statements : List Statement) (earlier : List (List Lit)) (lits : List Lit) (hints : List ℕ) : Type 0 where
+  pub follows : FollowsFrom earlier lits hints
+  pub within : All (λ lit. var_of lit < length statements) lits
+  pub lits_once : OnlyOnce lits
+  pub hints_once : OnlyOnce hints
+
+-- a step that a search adds after these clauses: the axiom of a label, or a clause that is derived
+abbrev pub IsSearchStep : Spec → List Statement → List (List Lit) → Step → Type 0
+IsSearchStep s statements earlier (step.Axiom l lits) = IsAxiomStep s statements l lits (step.Axiom l lits)
+IsSearchStep s statements earlier (step.OnDemand l lits) = IsAxiomStep s statements l lits (step.Axiom l lits)
+IsSearchStep s statements earlier (step.Learn lits hints counted) = IsDerivedStep statements earlier lits hints
+
+-- each step is one that a search adds after the steps before it
+abbrev pub AreSearchSteps : Spec → List Statement → List Step → Type 0
+AreSearchSteps s statements steps =
+    (place : ℕ) (taken : Step) → slice_get steps place ≡ Some taken → IsSearchStep s statements (clauses_of (take place steps)) taken
+
+-- the log of a search in which no answers are numbered
+pub record IsSearchLog (s : Spec) (wanted : Wanted) (log : Log) : Type 0 where
+  pub none_wanted : wanted.answers ≡ 0
+  pub answers : log.answers ≡ []
+  pub statements : log.statements ≡ variables s wanted
+  pub steps : AreSearchSteps s (variables s wanted) log.steps
+
+-- a specification within its limits
+pub record IsWithin (s : Spec) : Type 0 where
+  pub specification : IsSpecification s
+  pub parts : exceeded s ≡ None
+  pub variables_few : too_many_variables s ≡ None
+  pub instances_few : too_many_instances s ≡ None
+
+-- a log with no more steps than places in a text have numbers
+abbrev pub HasFewSteps : Log → Type 0
+HasFewSteps log = length log.steps ≤ 4294967294

@@ -1,0 +1,34 @@
+ghost use Rattle.search_logs.specs.Laws.{LogsAreAccepted, LogsAreInPlace, LogsAreWritable, TrimmedAreWritable, TrimmedAreReached, CompletionsAreWritable};
+
+use axiom_agreement::axioms_agree;
+use order_limits::statements_are_few;
+
+/// Laws: the log of a search is accepted; and it can be checked, and trimmed to any steps of it.
+pub fn search_logs_are_accepted()
+    ensures accepted { LogsAreAccepted }
+    ensures in_place { LogsAreInPlace }
+{
+    axioms_agree();
+    statements_are_few();
+}
+
+/// A law: the log of a search can be written, and is well formed.
+pub fn search_logs_are_writable()
+    ensures { LogsAreWritable }
+{
+    statements_are_few();
+}
+
+/// Laws: what the log of a search is trimmed to can be written, and is well formed; each step of it is reached
+/// from its goals.
+pub fn trimmed_logs_are_writable()
+    ensures writable { TrimmedAreWritable }
+    ensures reached { TrimmedAreReached }
+{
+    statements_are_few();
+}
+
+/// A law: a completion of a specification within its limits can be written.
+pub fn completions_are_writable()
+    ensures { CompletionsAreWritable }
+{}
