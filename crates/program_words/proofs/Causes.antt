@@ -1,0 +1,156 @@
+-- Words say no command only where clap sees a fault or a number is wrong.
+use Rattle.std.proofs.Common.{ℕ, ◌≡◌, Bool, true, false, cond, List, [], ◌∷◌, codes, get_or, Option, Some, None, is_some, arith, refl, inl, inr}
+use Rattle.std.specs.Prelude.{◌&&◌, ◌||◌, find, not, option_and_then, option_map}
+use Rattle.std.specs.List.{AllByRecursion}
+use Rattle.std.specs.Option.{option_map_or}
+use Rattle.std.specs.Str.{bytes_eq}
+use Rattle.clap.specs.Faults.{entered_fault, fault_of, level_fault}
+use Rattle.clap.specs.Kinds.{Kinds}
+use Rattle.clap.specs.Simple.{Shape, argument_words, built, entered, label_of, names_of, rows_at, subcommand_of}
+use Rattle.clap.specs.Walk.{Row, Text, answers_to, first_of, nothing_held, rows_after, stop_after}
+use Rattle.program_words.specs.Line.{ask_shape, bare_line, forced_shape, line, verify_shape}
+use Rattle.program_words.specs.Numbers.{number_if_given, number_or}
+use Rattle.program_words.specs.Words.{AskFor, CommandSaid, ForcedOf, IsRefused, VerifyOf, ask_in, command_in, command_of, has_wrong_number, is_set, unless_fault}
+use Rattle.program_words.proofs.TextRows.{found_holds}
+use Rattle.program_words.proofs.TextWalks.{AreValued, level_texts}
+use Rattle.program_words.proofs.RequiredTexts.{none_wanted, required_text}
+
+-- the k-th command, as it is built
+abbrev sub : ℕ → Shape
+sub k = get_or (built line).subs k line.top
+
+-- where nothing is found in the rows of this command, a number is wrong
+abbrev IsCaused : Shape → Type 0
+IsCaused s = (words : List Text) → level_fault s [] nothing_held words false [] ≡ [] → command_in (rows_at s words) ≡ None
+    → has_wrong_number (rows_at s words) ≡ true
+
+ask_number : (spec question : Option Text) (budget : Option ℕ) (guide : Option (Option ℕ)) (brief : Bool)
+    → is_some spec ≡ true → is_some question ≡ true
+    → option_and_then (λ s. option_and_then (λ q. option_and_then (λ b. option_map (λ g. AskFor (record { spec = s; question = q; budget = b; brief = brief; guide = g })) guide) budget) question) spec ≡ None
+    → (not (is_some budget) || not (is_some guide)) ≡ true
+ask_number None question budget guide brief s q e = cc
+ask_number (Some spec) None budget guide brief s q e = cc
+ask_number (Some spec) (Some question) None guide brief s q e = refl
+ask_number (Some spec) (Some question) (Some budget) None brief s q e = refl
+ask_number (Some spec) (Some question) (Some budget) (Some guide) brief s q e = cc
+
+verify_whole : (spec question report : Option Text) → is_some spec ≡ true → is_some question ≡ true → is_some report ≡ true
+    → option_and_then (λ s. option_and_then (λ q. option_map (λ r. VerifyOf (record { spec = s; question = q; report = r })) report) question) spec ≡ None → ⊥
+verify_whole None question report s q r e = cc
+verify_whole (Some spec) None report s q r e = cc
+verify_whole (Some spec) (Some question) None s q r e = cc
+verify_whole (Some spec) (Some question) (Some report) s q r e = cc
+
+forced_whole : (spec : Option Text) → is_some spec ≡ true → option_map (λ s. ForcedOf s) spec ≡ None → ⊥
+forced_whole None s e = cc
+forced_whole (Some spec) s e = cc
+
+-- each argument of a command has a text where it is used
+ask_valued : AreValued (sub 0).rules
+unfolding line bare_line ask_shape verify_shape forced_shape
+ask_valued = (record { acts = λ values rows. refl; stands = λ e. cc }, (record { acts = λ values rows. refl; stands = λ e. cc }, (record { acts = λ values rows. refl; stands = λ e. cc }, (record { acts = λ values rows. refl; stands = λ e. omega arith }, (record { acts = λ values rows. refl; stands = λ e. cc }, tt)))))
+
+verify_valued : AreValued (sub 1).rules
+unfolding line bare_line ask_shape verify_shape forced_shape
+verify_valued = (record { acts = λ values rows. refl; stands = λ e. cc }, (record { acts = λ values rows. refl; stands = λ e. cc }, (record { acts = λ values rows. refl; stands = λ e. cc }, tt)))
+
+forced_valued : AreValued (sub 2).rules
+unfolding line bare_line ask_shape verify_shape forced_shape
+forced_valued = (record { acts = λ values rows. refl; stands = λ e. cc }, tt)
+
+ask_caused : IsCaused (sub 0)
+unfolding line bare_line ask_shape verify_shape forced_shape
+ask_caused words free none =
+    let rows = rows_after (sub 0).rules [] words in
+    ask_number (first_of (codes "SPEC") rows) (first_of (codes "QUESTION") rows) (number_or 100000 10000000 (first_of (codes "budget") rows))
+    (number_if_given 4 (first_of (codes "guide") rows)) (is_set (first_of (codes "brief") rows))
+    (required_text (sub 0) words (codes "SPEC") ask_valued (inl (refl, refl)) free)
+    (required_text (sub 0) words (codes "QUESTION") ask_valued (inr (inl (refl, refl))) free) none
+
+verify_caused : IsCaused (sub 1)
+unfolding line bare_line ask_shape verify_shape forced_shape
+verify_caused words free none =
+    let rows = rows_after (sub 1).rules [] words in
+    absurd (verify_whole (first_of (codes "SPEC") rows) (first_of (codes "QUESTION") rows) (first_of (codes "REPORT") rows)
+    (required_text (sub 1) words (codes "SPEC") verify_valued (inl (refl, refl)) free)
+    (required_text (sub 1) words (codes "QUESTION") verify_valued (inr (inl (refl, refl))) free)
+    (required_text (sub 1) words (codes "REPORT") verify_valued (inr (inr (inl (refl, refl)))) free) none)
+
+forced_caused : IsCaused (sub 2)
+unfolding line bare_line ask_shape verify_shape forced_shape
+forced_caused words free none =
+    let rows = rows_after (sub 2).rules [] words in
+    absurd (forced_whole (first_of (codes "SPEC") rows) (required_text (sub 2) words (codes "SPEC") forced_valued (inl (refl, refl)) free) none)
+
+all_caused : AllByRecursion IsCaused (built line).subs
+unfolding line bare_line
+all_caused = (ask_caused, (verify_caused, (forced_caused, tt)))
+
+-- the same of the command that was entered
+entered_caused : (stop : Option (Text × List Text)) → is_some (entered (built line) stop) ≡ true → entered_fault (built line) stop ≡ []
+    → option_and_then command_in (entered (built line) stop) ≡ None → option_map_or has_wrong_number (entered (built line) stop) false ≡ true
+entered_caused None some free none = cc
+entered_caused (Some p) some free none = by (find (λ s. answers_to p.0 (label_of s)) (built line).subs) refl some free none
+  where
+    by : (o : Option Shape) → find (λ s. answers_to p.0 (label_of s)) (built line).subs ≡ o → is_some (option_map (λ s. rows_at s p.1) o) ≡ true
+        → option_map_or (λ s. level_fault s [] nothing_held p.1 false []) o [] ≡ []
+        → option_and_then command_in (option_map (λ s. rows_at s p.1) o) ≡ None
+        → option_map_or has_wrong_number (option_map (λ s. rows_at s p.1) o) false ≡ true
+    by None e s f n = cc
+    by (Some s) e some f n = found_holds IsCaused _ (built line).subs s all_caused e p.1 f n
+
+wanted_and_met : (met : Bool) → (not met && true) ≡ false → met ≡ true
+wanted_and_met true e = refl
+wanted_and_met false e = cc
+
+top_valued : AreValued (built line).top.rules
+unfolding line bare_line
+top_valued = tt
+
+top_wants_one : (met : Bool) → (not met && (built line).top.subcommand_required) ≡ false → met ≡ true
+unfolding line bare_line
+top_wants_one met e = wanted_and_met met e
+
+number_wrong : (words : List Text) → fault_of line words ≡ [] → option_and_then command_in (subcommand_of line words) ≡ None
+    → option_map_or has_wrong_number (subcommand_of line words) false ≡ true
+number_wrong words free none =
+    let app = built line in
+    let stop = stop_after app.top.rules (names_of app) (argument_words line words) in
+    let end = level_texts app.top (names_of app) top_valued nothing_held (argument_words line words) (is_some (entered app stop)) (entered_fault app stop) free tt in
+    entered_caused stop (top_wants_one _ (none_wanted _ _ _ end.1).0) end.2 none
+
+pub caused : (words : List Text) → command_of words ≡ None → IsRefused words
+unfolding command_of
+caused words none = by (fault_of line words) refl none
+  where
+    by : (kinds : Kinds) → fault_of line words ≡ kinds → unless_fault kinds (option_and_then command_in (subcommand_of line words)) ≡ None → IsRefused words
+    by [] e n = inr (number_wrong words e n)
+    by (k ∷ ks) e n = inl (λ free. cc)
+
+ask_none : (spec question : Option Text) (budget : Option ℕ) (guide : Option (Option ℕ)) (brief : Bool)
+    → (not (is_some budget) || not (is_some guide)) ≡ true
+    → option_and_then (λ s. option_and_then (λ q. option_and_then (λ b. option_map (λ g. AskFor (record { spec = s; question = q; budget = b; brief = brief; guide = g })) guide) budget) question) spec ≡ None
+ask_none None question budget guide brief e = refl
+ask_none (Some spec) None budget guide brief e = refl
+ask_none (Some spec) (Some question) None guide brief e = refl
+ask_none (Some spec) (Some question) (Some budget) None brief e = refl
+ask_none (Some spec) (Some question) (Some budget) (Some guide) brief e = cc
+
+wrong_is_none : (found : Option (Text × List Row)) → option_map_or has_wrong_number found false ≡ true → option_and_then command_in found ≡ None
+wrong_is_none None wrong = refl
+wrong_is_none (Some p) wrong = by (bytes_eq p.0 (codes "ask")) _ wrong
+  where
+    by : (b : Bool) (other : Option CommandSaid)
+        → (b && (not (is_some (number_or 100000 10000000 (first_of (codes "budget") p.1))) || not (is_some (number_if_given 4 (first_of (codes "guide") p.1))))) ≡ true
+        → cond b (ask_in p.1) other ≡ None
+    by true other w = ask_none (first_of (codes "SPEC") p.1) (first_of (codes "QUESTION") p.1) _ _ _ w
+    by false other w = cc
+
+pub refused : (words : List Text) → IsRefused words → command_of words ≡ None
+unfolding command_of
+refused words h = by (fault_of line words) refl h
+  where
+    by : (kinds : Kinds) → fault_of line words ≡ kinds → IsRefused words → unless_fault kinds (option_and_then command_in (subcommand_of line words)) ≡ None
+    by [] e (inl fault) = absurd (fault e)
+    by [] e (inr wrong) = wrong_is_none (subcommand_of line words) wrong
+    by (k ∷ ks) e r = refl

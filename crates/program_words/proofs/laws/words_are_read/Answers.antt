@@ -1,0 +1,40 @@
+use Rattle.std.proofs.Common.{refl}
+use Rattle.program_words.proofs.OnWords.{command_on_literals}
+use Rattle.program_words.proofs.laws.words_are_read.Goals as goal
+
+pub returns : goal.returns
+unfolding command_on_literals
+returns c = record {
+  ask = refl;
+  options = refl;
+  joined = refl;
+  first = refl;
+  most = refl;
+  verify = refl;
+  forced = refl;
+  no_name = refl;
+  no_word = refl;
+  unknown = refl;
+  help = refl;
+  help_option = refl;
+  short_help = refl;
+  version = refl;
+  help_of_ask = refl;
+  missing = refl;
+  excess = refl;
+  missing_report = refl;
+  no_spec = refl;
+  no_options = refl;
+  budget_zero = refl;
+  budget_past = refl;
+  budget_letter = refl;
+  budget_plus = refl;
+  budget_zeros = refl;
+  budget_empty = refl;
+  budget_alone = refl;
+  budget_twice = refl;
+  guide_twice = refl;
+  brief_twice = refl;
+  guide_zero = refl;
+  guide_past = refl;
+}

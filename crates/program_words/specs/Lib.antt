@@ -1,0 +1,5 @@
+pub mod Numbers
+pub mod Line
+pub mod Words
+pub mod Examples
+pub mod Said

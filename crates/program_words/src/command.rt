@@ -1,0 +1,29 @@
+/// What the program is asked to do. Documents are told by their names.
+#[derive(Clone, Copy, Debug, PartialEq)]
+pub enum Command<'a> {
+    Ask(Ask<'a>),
+    Verify(Verify<'a>),
+    /// The forced pairs of the specification of this name.
+    Forced(&'a str),
+}
+
+/// `ask SPEC QUESTION [--budget N] [--brief] [--guide K]`.
+#[derive(Clone, Copy, Debug, PartialEq)]
+pub struct Ask<'a> {
+    pub spec: &'a str,
+    pub question: &'a str,
+    /// How many clauses may be learned: 1 to 10,000,000.
+    pub budget: u64,
+    /// Is the log left out?
+    pub brief: bool,
+    /// The one guide that is kept, 1 to 4; where there is none, all are.
+    pub guide: Option<u64>,
+}
+
+/// `verify SPEC QUESTION REPORT`.
+#[derive(Clone, Copy, Debug, PartialEq)]
+pub struct Verify<'a> {
+    pub spec: &'a str,
+    pub question: &'a str,
+    pub report: &'a str,
+}

@@ -1,0 +1,54 @@
+ghost use Rattle.std.specs.Prelude.{◌≡◌, ◌≤◌, IfSome, ℕ, List, [], ◌∷◌, None, Some, codes, false, true};
+ghost use Rattle.program_words.specs.Examples.{ask_for, said, said_after_ask};
+ghost use Rattle.program_words.specs.Words.{AskFor, AskSaid, ForcedOf, IsRefused, VerifyOf, command_of};
+
+/// Examples of words: what they say, and which are refused.
+pub fn words_are_read()
+    ensures ask { said_after_ask [] ≡ ask_for 100000 false None }
+    ensures options { said_after_ask (codes "--budget" ∷ codes "1" ∷ codes "--brief" ∷ codes "--guide" ∷ codes "4" ∷ []) ≡ ask_for 1 true (Some 4) }
+    ensures joined { said_after_ask (codes "--budget=5" ∷ []) ≡ ask_for 5 false None }
+    ensures first { said (codes "ask" ∷ codes "--guide=1" ∷ codes "s" ∷ codes "--brief" ∷ codes "q" ∷ []) ≡ ask_for 100000 true (Some 1) }
+    ensures most { said_after_ask (codes "--budget" ∷ codes "10000000" ∷ []) ≡ ask_for 10000000 false None }
+    ensures verify { said (codes "verify" ∷ codes "s" ∷ codes "q" ∷ codes "r" ∷ [])
+        ≡ Some (VerifyOf (record { spec = codes "s"; question = codes "q"; report = codes "r" })) }
+    ensures forced { said (codes "forced" ∷ codes "s" ∷ []) ≡ Some (ForcedOf (codes "s")) }
+    ensures no_name { command_of [] ≡ None }
+    ensures no_word { said [] ≡ None }
+    ensures unknown { said (codes "explain" ∷ codes "s" ∷ codes "q" ∷ codes "1" ∷ []) ≡ None }
+    ensures help { said (codes "help" ∷ []) ≡ None }
+    ensures help_option { said (codes "--help" ∷ []) ≡ None }
+    ensures short_help { said (codes "-h" ∷ []) ≡ None }
+    ensures version { said (codes "--version" ∷ []) ≡ None }
+    ensures help_of_ask { said_after_ask (codes "--help" ∷ []) ≡ None }
+    ensures missing { said (codes "ask" ∷ codes "s" ∷ []) ≡ None }
+    ensures excess { said_after_ask (codes "r" ∷ []) ≡ None }
+    ensures missing_report { said (codes "verify" ∷ codes "s" ∷ codes "q" ∷ []) ≡ None }
+    ensures no_spec { said (codes "forced" ∷ []) ≡ None }
+    ensures no_options { said (codes "forced" ∷ codes "s" ∷ codes "--brief" ∷ []) ≡ None }
+    ensures budget_zero { said_after_ask (codes "--budget" ∷ codes "0" ∷ []) ≡ None }
+    ensures budget_past { said_after_ask (codes "--budget" ∷ codes "10000001" ∷ []) ≡ None }
+    ensures budget_letter { said_after_ask (codes "--budget" ∷ codes "x" ∷ []) ≡ None }
+    ensures budget_plus { said_after_ask (codes "--budget" ∷ codes "+5" ∷ []) ≡ None }
+    ensures budget_zeros { said_after_ask (codes "--budget" ∷ codes "007" ∷ []) ≡ None }
+    ensures budget_empty { said_after_ask (codes "--budget=" ∷ []) ≡ None }
+    ensures budget_alone { said_after_ask (codes "--budget" ∷ []) ≡ None }
+    ensures budget_twice { said_after_ask (codes "--budget" ∷ codes "1" ∷ codes "--budget" ∷ codes "2" ∷ []) ≡ None }
+    ensures guide_twice { said_after_ask (codes "--guide" ∷ codes "1" ∷ codes "--guide=1" ∷ []) ≡ None }
+    ensures brief_twice { said_after_ask (codes "--brief" ∷ codes "--brief" ∷ []) ≡ None }
+    ensures guide_zero { said_after_ask (codes "--guide" ∷ codes "0" ∷ []) ≡ None }
+    ensures guide_past { said_after_ask (codes "--guide" ∷ codes "5" ∷ []) ≡ None }
+{}
+
+/// Words say no command exactly where `clap` sees a fault in them or a number is wrong: no text that has to be there is
+/// missing from words that it takes.
+pub fn refusals_have_causes()
+    ensures caused { (words : List (List ℕ)) → command_of words ≡ None → IsRefused words }
+    ensures refused { (words : List (List ℕ)) → IsRefused words → command_of words ≡ None }
+{}
+
+/// The numbers of an `ask` that words say are in their ranges: a budget of 1 to 10,000,000 and, where one guide is kept, its
+/// number of 1 to 4.
+pub fn numbers_are_in_range()
+    ensures budget { (words : List (List ℕ)) (a : AskSaid) → command_of words ≡ Some (AskFor a) → (1 ≤ a.budget) × (a.budget ≤ 10000000) }
+    ensures guide { (words : List (List ℕ)) (a : AskSaid) → command_of words ≡ Some (AskFor a) → IfSome a.guide (λ k. (1 ≤ k) × (k ≤ 4)) }
+{}

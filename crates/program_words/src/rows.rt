@@ -1,0 +1,74 @@
+ghost use Rattle.std.specs.Prelude.{◌≡◌, codes, option_and_then, option_map};
+ghost use Rattle.clap.specs.Words.{found_of, first_of, rows_of, subcommand_rows_of};
+ghost use Rattle.program_words.specs.Said.{said_of};
+ghost use Rattle.program_words.specs.Words.{ask_in, command_in, forced_in, is_set, verify_in};
+
+use crate::number::{number_if_given, number_or};
+use crate::{Ask, Command, Verify};
+use clap::ArgMatches;
+
+/// The first text of an argument.
+fn text_of<'a>(matches: &ArgMatches<'a>, id: &str) -> Option<&'a str>
+    ensures { option_map (λ s. s.now) result ≡ first_of id.now (rows_of (found_of matches.now)) }
+{
+    matches.get_str(id)
+}
+
+fn is_set(text: Option<&str>) -> bool
+    ensures { result ≡ is_set (option_map (λ s. s.now) text.entry) }
+{
+    match text {
+        Some(text) => text == "true",
+        None => false,
+    }
+}
+
+fn ask_in<'a>(given: &ArgMatches<'a>) -> Option<Command<'a>>
+    ensures { option_map said_of result ≡ ask_in (rows_of (found_of given.now)) }
+{
+    let spec = text_of(given, "SPEC")?;
+    let question = text_of(given, "QUESTION")?;
+    let budget = number_or(100_000, 10_000_000, text_of(given, "budget"))?;
+    let guide = number_if_given(4, text_of(given, "guide"))?;
+    let brief = is_set(text_of(given, "brief"));
+    Some(Command::Ask(Ask {
+        spec,
+        question,
+        budget,
+        brief,
+        guide,
+    }))
+}
+
+fn verify_in<'a>(given: &ArgMatches<'a>) -> Option<Command<'a>>
+    ensures { option_map said_of result ≡ verify_in (rows_of (found_of given.now)) }
+{
+    let spec = text_of(given, "SPEC")?;
+    let question = text_of(given, "QUESTION")?;
+    let report = text_of(given, "REPORT")?;
+    Some(Command::Verify(Verify {
+        spec,
+        question,
+        report,
+    }))
+}
+
+fn forced_in<'a>(given: &ArgMatches<'a>) -> Option<Command<'a>>
+    ensures { option_map said_of result ≡ forced_in (rows_of (found_of given.now)) }
+{
+    let spec = text_of(given, "SPEC")?;
+    Some(Command::Forced(spec))
+}
+
+/// The command that was found, with what was given to it.
+pub(crate) fn command_in<'a>(matches: &ArgMatches<'a>) -> Option<Command<'a>>
+    ensures { option_map said_of result ≡ option_and_then command_in (subcommand_rows_of matches.now) }
+{
+    let (name, given) = matches.subcommand()?;
+    match name {
+        "ask" => ask_in(given),
+        "verify" => verify_in(given),
+        "forced" => forced_in(given),
+        _ => None,
+    }
+}
