@@ -73,6 +73,25 @@ impl Solver {
         self.state.trail()
     }
 
+    /// No work: the caller learns what holds at any moment.
+    pub fn is_solver(&self)
+        ensures vars { self.now.trail.vars ≡ length self.now.frame.statements }
+        ensures fit { All (λ step. IsFit (length self.now.frame.statements) (clause_of step)) self.now.steps }
+    {
+        self.state.is_state();
+    }
+
+    /// Goes back to where nothing is assumed, and makes true there what unit propagation finds. Steps stay, and no memory
+    /// is taken.
+    pub fn settle(&mut self, guides: &mut Guides)
+        ensures frame { self.new.frame ≡ self.old.frame }
+        ensures steps { self.new.steps ≡ self.old.steps }
+        ensures failed { self.new.failed ≡ self.old.failed }
+    {
+        self.state.undo_to(0, guides);
+        self.state.propagate();
+    }
+
     /// The log, which is all that is left.
     pub fn into_log(self) -> Log
         ensures answers { result.answers ≡ self.frame.answers }

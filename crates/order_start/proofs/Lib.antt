@@ -1,0 +1,2 @@
+mod Subjects
+mod Pairing
