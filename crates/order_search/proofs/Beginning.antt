@@ -1,0 +1,39 @@
+-- The start of a search.
+use Rattle.std.proofs.Common.{◌≡◌, ◌∙◌, false, [], length, replicate, refl, sym, arith}
+use Rattle.std.proofs.lemmas.List.{append-nil, length-map, length-replicate}
+use Rattle.std.proofs.lemmas.List.FromFn.{length-range_with_len}
+use Rattle.std.specs.List.{range_with_len}
+use Rattle.order_clauses.specs.Clauses.{AreAxioms}
+use Rattle.order_clauses.specs.Subject.{Subject}
+use Rattle.search_trail.specs.Trails.{Trail, lits_of, value_in, values_of}
+use Rattle.watch_solver.specs.Decided.{Solver}
+use Rattle.search_logs.specs.SearchLogs.{IsWithin}
+use Rattle.order_search.specs.Kept.{IsHeld, vars_of}
+use Rattle.order_search.proofs.Growing.{asked_axioms, axioms_next}
+use Rattle.order_search.proofs.Marking.{none_marked}
+
+pub held_begun : (s : Subject) (solver : Solver) → IsWithin s.spec → s.wanted.answers ≡ 0 → solver.frame.answers ≡ [] → solver.frame.statements ≡ vars_of s
+    → AreAxioms s.spec s.wanted.currents (vars_of s) solver.steps → IsHeld s solver (replicate (length (vars_of s)) false)
+held_begun s solver within none answers statements are =
+    let next = axioms_next s [] solver.steps solver.steps refl (asked_axioms s solver.steps are) in
+    record {
+      search = record {
+        within = within;
+        log = record {
+          none_wanted = none;
+          answers = answers;
+          statements = statements;
+          steps = λ place taken at. (next.each place taken (omega arith) at).0;
+        };
+        begins = record { axioms = solver.steps; later = []; steps_are = sym (append-nil solver.steps); are_axioms = are };
+        counted_new = λ place taken at counted. (next.each place taken (omega arith) at).1 counted;
+      };
+      lists = record {
+        per_variable = length-replicate (length (vars_of s)) false;
+        marked = λ var mark. absurd (none_marked (length (vars_of s)) var mark);
+      };
+    }
+
+-- each variable has a value or none
+pub as_many_values : (t : Trail) → length (values_of t) ≡ t.vars
+as_many_values t = length-map (range_with_len 0 t.vars) (value_in (lits_of t)) ∙ length-range_with_len 0 t.vars

@@ -1,0 +1,5 @@
+mod Growing
+mod Marking
+mod Cycles
+mod Models
+mod Beginning

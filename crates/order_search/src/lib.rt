@@ -1,0 +1,16 @@
+//! A search over the statements of a specification, in which the axioms on three rows come in list by list, where
+//! a list goes round.
+#![tactic(auto)]
+
+mod bringing;
+mod outcome;
+mod progress;
+mod rounds;
+mod search;
+mod subject;
+
+pub use outcome::Outcome;
+pub use search::Search;
+
+#[cfg(test)]
+mod tests;

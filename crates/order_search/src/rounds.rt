@@ -1,0 +1,110 @@
+ghost use Rattle.std.specs.Prelude.{◌≡◌, ◌+◌, ◌<◌, length, IfOk, IfSome, IfNone};
+ghost use Rattle.currency_base.specs.Literals.{var_of};
+ghost use Rattle.refutation_log.specs.Counted.{counted_steps};
+ghost use Rattle.order_adequacy.specs.Laws.{IsModelOf};
+ghost use Rattle.order_search.specs.Kept.{AreTrue, HasAdded, IsHeld, search_of, unmarked, vars_of};
+ghost use Rattle.order_search.specs.Searches.{Tells};
+
+use crate::Outcome;
+use crate::bringing::bring_all;
+use crate::progress::Progress;
+use crate::subject::Subject;
+use completion_build::Built;
+use currency_base::{Assignment, Lit, NoMemory, laws_of_literals};
+use literal_laws::{one_literal, pairs_are_decided};
+use order_adequacy::models_are_completions;
+use solver_guides::Guides;
+use spec_model::Completion;
+use std::alloc::Global;
+use watch_solver::{Budget, Found, counted_stay_new};
+
+/// Decides, by one round after another, until there is an answer.
+pub(crate) fn decided(
+    subject: &Subject<'_>,
+    progress: &mut Progress,
+    alloc: Global,
+    goal: Option<Lit>,
+    budget: &mut Budget,
+    guides: &mut Guides,
+) -> Result<Outcome, NoMemory>
+    requires held { IsHeld subject.now progress.old.solver progress.old.brought.items }
+    requires goal { IfSome goal (λ lit. var_of lit < length (vars_of subject.now)) }
+    ensures held { IsHeld subject.now progress.new.solver progress.new.brought.items }
+    ensures added { HasAdded progress.old.solver.steps progress.new.solver.steps }
+    ensures units { counted_steps progress.new.solver.steps + budget.new ≡ counted_steps progress.old.solver.steps + budget.old }
+    ensures found { IfOk result (Tells (search_of subject.now progress.new.solver) goal budget.new) }
+{
+    loop {
+        match round(subject, progress, alloc, goal, budget, guides) {
+            Ok(None) => {}
+            Ok(Some(outcome)) => return Ok(outcome),
+            Err(error) => return Err(error),
+        }
+    }
+}
+
+// What the solver decides; a model that is no completion has a list that goes round, and this is brought in.
+fn round(
+    subject: &Subject<'_>,
+    progress: &mut Progress,
+    alloc: Global,
+    goal: Option<Lit>,
+    budget: &mut Budget,
+    guides: &mut Guides,
+) -> Result<Option<Outcome>, NoMemory>
+    requires held { IsHeld subject.now progress.old.solver progress.old.brought.items }
+    requires goal { IfSome goal (λ lit. var_of lit < length (vars_of subject.now)) }
+    ensures held { IsHeld subject.now progress.new.solver progress.new.brought.items }
+    ensures added { HasAdded progress.old.solver.steps progress.new.solver.steps }
+    ensures units { counted_steps progress.new.solver.steps + budget.new ≡ counted_steps progress.old.solver.steps + budget.old }
+    ensures some { IfOk result (λ outcome. IfSome outcome (Tells (search_of subject.now progress.new.solver) goal budget.new)) }
+    ensures none { IfOk result (λ outcome. IfNone outcome (unmarked progress.new.brought.items < unmarked progress.old.brought.items)) }
+{
+    counted_stay_new();
+    laws_of_literals();
+    let found = progress.solver.decide(alloc, goal, budget, guides);
+    progress.solver.is_solver();
+    match found {
+        Ok(Found::Model(truths)) => match completed(subject, progress, alloc, &truths, guides) {
+            Ok(Some(completion)) => Ok(Some(Outcome::Model { truths, completion })),
+            Ok(None) => Ok(None),
+            Err(error) => Err(error),
+        },
+        Ok(Found::Proved(place)) => Ok(Some(Outcome::Proved(place))),
+        Ok(Found::Empty(place)) => Ok(Some(Outcome::Empty(place))),
+        Ok(Found::Spent) => {
+            progress.solver.trail().are_entries();
+            Ok(Some(Outcome::Spent))
+        }
+        Err(error) => Err(error),
+    }
+}
+
+// The completion that a model says; if there is none, each list that goes round is brought in.
+fn completed(
+    subject: &Subject<'_>,
+    progress: &mut Progress,
+    alloc: Global,
+    truths: &Assignment,
+    guides: &mut Guides,
+) -> Result<Option<Completion>, NoMemory>
+    requires held { IsHeld subject.now progress.old.solver progress.old.brought.items }
+    requires whole { length truths.now ≡ length (vars_of subject.now) }
+    requires holds { AreTrue truths.now progress.old.solver.steps }
+    ensures held { IsHeld subject.now progress.new.solver progress.new.brought.items }
+    ensures added { HasAdded progress.old.solver.steps progress.new.solver.steps }
+    ensures units { counted_steps progress.new.solver.steps ≡ counted_steps progress.old.solver.steps }
+    ensures some { IfOk result (λ completion. IfSome completion (IsModelOf subject.now.spec subject.now.wanted truths.now)) }
+    ensures none { IfOk result (λ completion. IfNone completion (unmarked progress.new.brought.items < unmarked progress.old.brought.items)) }
+{
+    models_are_completions();
+    pairs_are_decided();
+    match subject.rank(alloc, truths) {
+        Ok(Built::Whole(completion)) => Ok(Some(completion)),
+        Ok(Built::Cyclic(cycles)) => match bring_all(subject, progress, alloc, &cycles, guides) {
+            Ok(()) => Ok(None),
+            Err(error) => Err(error),
+        },
+        Err(error) => Err(error),
+    }
+}

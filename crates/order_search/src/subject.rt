@@ -1,0 +1,156 @@
+ghost use Rattle.std.specs.Prelude.{◌≡◌, ◌<◌, ◌^◌, [], length, take, Some, slice_get, IfOk};
+ghost use Rattle.spec_model.specs.declared.relation.Relation.{Relation};
+ghost use Rattle.order_literals.specs.Numbers.{IsPairOf, numbers_of};
+ghost use Rattle.order_literals.specs.Said.{Says, before};
+ghost use Rattle.order_literals.specs.Statements.{statements_of};
+ghost use Rattle.order_clauses.specs.Clauses.{AreAxioms, AreTransitive};
+ghost use Rattle.completion_build.specs.Ranked.{IsBuilt};
+ghost use Rattle.order_start.specs.Guess.{IsGuess};
+ghost use Rattle.search_logs.specs.SearchLogs.{IsWithin};
+ghost use Rattle.order_search.specs.Kept.{vars_of};
+
+use completion_build::{Built, rank};
+use currency_base::{Assignment, AttrId, EntId, Lit, NoMemory, RelId, RowId, TupleList};
+use order_clauses::{clauses, transitive};
+use order_limits::number;
+use order_literals::{Numbering, Wanted};
+use order_start::start;
+use refutation_log::{Log, StatementList, Steps};
+use search_trail::Values;
+use spec_model::Specification;
+use std::alloc::Global;
+use std::marker::Model;
+
+/// A specification, and the numbers of the statements on it. Contracts see the specification and what is wanted.
+#[derive(Drop)]
+pub(crate) struct Subject<'a> {
+    spec: &'a Specification,
+    wanted: Wanted,
+    numbering: Numbering,
+}
+
+impl<'a> Model for Subject<'a> {
+    ghost use Rattle.std.specs.Prelude.{◌≡◌};
+    ghost use Rattle.order_literals.specs.Numbers.{numbers_of};
+    ghost use Rattle.order_clauses.specs.Subject.{Subject as Subjects};
+
+    ghost Value = { Subjects };
+
+    ghost view = { λ s. record { spec = s.spec.now; wanted = s.wanted } };
+
+    ghost invariant = { λ s. s.numbering ≡ numbers_of s.spec.now.relations s.wanted };
+}
+
+impl<'a> Subject<'a> {
+    /// Numbers the statements.
+    pub(crate) fn new(
+        alloc: Global,
+        spec: &'a Specification,
+        wanted: Wanted,
+    ) -> Result<Subject<'a>, NoMemory>
+        requires within { IsWithin spec.now }
+        requires answers { wanted.answers ≡ 0 }
+        ensures spec { IfOk result (λ s. s.spec ≡ spec.now) }
+        ensures wanted { IfOk result (λ s. s.wanted ≡ wanted) }
+    {
+        match number(alloc, spec, &wanted) {
+            Ok(numbering) => Ok(Subject {
+                spec,
+                wanted,
+                numbering,
+            }),
+            Err(error) => Err(error),
+        }
+    }
+
+    /// How many statements are numbered.
+    pub(crate) fn vars(&self) -> u32
+        ensures value { result ≡ length (vars_of self.now) }
+        ensures few { result < 2 ^ 31 }
+    {
+        self.numbering.vars()
+    }
+
+    /// A log with the axioms that are brought in from the start.
+    pub(crate) fn log(&self, alloc: Global) -> Result<Log, NoMemory>
+        ensures answers { IfOk result (λ log. log.answers ≡ []) }
+        ensures statements { IfOk result (λ log. log.statements ≡ vars_of self.now) }
+        ensures steps { IfOk result (λ log. AreAxioms self.now.spec self.now.wanted.currents (vars_of self.now) log.steps) }
+    {
+        let statements = match statements(alloc, &self.numbering) {
+            Ok(statements) => statements,
+            Err(error) => return Err(error),
+        };
+        let steps = match clauses(alloc, self.spec, &self.numbering, &self.wanted) {
+            Ok(steps) => steps,
+            Err(error) => return Err(error),
+        };
+        Ok(Log {
+            answers: TupleList::new(alloc),
+            statements,
+            steps,
+        })
+    }
+
+    /// A first guess at a model.
+    pub(crate) fn start(&self, alloc: Global, known: &Values) -> Result<Assignment, NoMemory>
+        requires { length known.now ≡ length (vars_of self.now) }
+        ensures { IfOk result (IsGuess (vars_of self.now)) }
+    {
+        start(alloc, self.spec, &self.numbering, &self.wanted, known)
+    }
+
+    /// What an assignment says of the order of the rows.
+    pub(crate) fn rank(&self, alloc: Global, truths: &Assignment) -> Result<Built, NoMemory>
+        requires { length truths.now ≡ length (vars_of self.now) }
+        ensures { IfOk result (IsBuilt self.now.spec.relations (vars_of self.now) truths.now) }
+    {
+        rank(alloc, self.spec, &self.numbering, &self.wanted, truths)
+    }
+
+    /// The axioms on three rows of a list.
+    pub(crate) fn transitive(
+        &self,
+        alloc: Global,
+        rel: RelId,
+        attr: AttrId,
+        ent: EntId,
+    ) -> Result<Steps, NoMemory>
+        requires rel { rel.0 < length self.now.spec.relations }
+        requires attr { (r : Relation) → slice_get self.now.spec.relations rel.0 ≡ Some r → attr.0 < length r.attrs }
+        requires ent { (r : Relation) → slice_get self.now.spec.relations rel.0 ≡ Some r → ent.0 < length r.entities }
+        ensures { IfOk result (AreTransitive self.now.spec (vars_of self.now) rel attr ent.0) }
+    {
+        transitive(
+            alloc,
+            self.spec,
+            &self.numbering,
+            &self.wanted,
+            rel,
+            attr,
+            ent,
+        )
+    }
+
+    /// The literal that says that of two rows of one entity the first stands before the second.
+    pub(crate) fn before(&self, rel: RelId, attr: AttrId, first: RowId, second: RowId) -> Lit
+        requires { IsPairOf (numbers_of self.now.spec.relations self.now.wanted) rel.0 attr.0 first second }
+        ensures { Says (vars_of self.now) result (before rel attr first second) }
+    {
+        self.numbering.before(rel, attr, first, second)
+    }
+}
+
+// The statements, in the order of their numbers.
+fn statements(alloc: Global, numbering: &Numbering) -> Result<StatementList, NoMemory>
+    ensures { IfOk result (λ list. list ≡ statements_of numbering.now) }
+{
+    let mut statements = StatementList::new(alloc);
+    for var in 0..numbering.vars() {
+        match statements.push(numbering.meaning_of(var)) {
+            Ok(()) => {}
+            Err(error) => return Err(error),
+        }
+    }
+    Ok(statements)
+}
