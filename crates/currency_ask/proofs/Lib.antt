@@ -1,0 +1,3 @@
+mod NoCompletions
+mod FoundEmpty
+mod FoundSpent

@@ -1,0 +1,37 @@
+use Rattle.currency_ask.proofs.FoundEmpty.{EmptyLaws, HasEmptyStep, can_trim, empty_reported}
+use Rattle.currency_ask.proofs.reporting.inconsistent.Goals as goal
+
+pub trim-requires : goal.trim-requires
+trim-requires c =
+    let laws : EmptyLaws = record {
+      accepted = c.search_logs_are_accepted.ensures.accepted;
+      in_place = c.search_logs_are_accepted.ensures.in_place;
+      trimmed_accepted = c.trimmed_logs_are_accepted.ensures.accepted;
+      clauses = c.trimmed_logs_are_accepted.ensures.clauses;
+      writable = c.trimmed_logs_are_writable.ensures.writable;
+      reached = c.trimmed_logs_are_writable.ensures.reached;
+    } in
+    can_trim laws c.args.search c.into_log-log.result c.args.place record {
+      search_is = c.is_search.ensures;
+      log_is = c.into_log-log.ensures;
+      few = c.requires.few;
+      empty = c.requires.empty;
+    }
+
+pub returns : goal.returns
+returns c = λ budget.
+    let laws : EmptyLaws = record {
+      accepted = c.search_logs_are_accepted.ensures.accepted;
+      in_place = c.search_logs_are_accepted.ensures.in_place;
+      trimmed_accepted = c.trimmed_logs_are_accepted.ensures.accepted;
+      clauses = c.trimmed_logs_are_accepted.ensures.clauses;
+      writable = c.trimmed_logs_are_writable.ensures.writable;
+      reached = c.trimmed_logs_are_writable.ensures.reached;
+    } in
+    let has : HasEmptyStep c.args.search c.into_log-log.result c.args.place = record {
+      search_is = c.is_search.ensures;
+      log_is = c.into_log-log.ensures;
+      few = c.requires.few;
+      empty = c.requires.empty;
+    } in
+    empty_reported laws c.args.search c.into_log-log.result c.args.place c.in-Ok.trimmed budget c.new.result has c.in-Ok.ensures c.new.ensures

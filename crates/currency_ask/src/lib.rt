@@ -1,0 +1,8 @@
+//! The answer to a question about a specification: a report that shows its verdict, or says that the budget is
+//! spent.
+#![tactic(auto)]
+
+mod ask;
+mod reporting;
+
+pub use ask::answer;
