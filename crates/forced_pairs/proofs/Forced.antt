@@ -166,7 +166,7 @@ forced_holds s c is _ _ _ _ (ruled rule i atom earlier later n premises) =
     ruled_holds s c rule i atom earlier later is n
     (all_of (PairHolds (slice_index_or c rule.relation.0 [])) i.premises
     (λ p is_in. forced_holds s c is rule.relation.0 p.attr.0 p.earlier p.later (premises p is_in)))
-forced_holds s c is _ _ _ _ (copied copy place first second m sources) =
+forced_holds s c is _ _ _ _ (copied copy place first second m apart differ sources) =
     copied_holds s c copy place first second is.consistent m
     (forced_holds s c is copy.source.0 place.source.0 m.rows.first_source m.rows.second_source sources)
 forced_holds s c is _ _ _ _ (back copy place first second m apart differ targets) =

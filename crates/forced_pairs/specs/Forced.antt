@@ -56,11 +56,12 @@ pub data IsForced (s : Spec) : ℕ → ℕ → RowId → RowId → Type 0 where
   ruled : (rule : Rule) (i : RuleInstance) (atom : OrderAtom) (earlier later : RowId) → IsInstance s rule i atom earlier later
       → ((p : Pair) → Contains i.premises p → IsForced s rule.relation.0 p.attr.0 p.earlier p.later)
       → IsForced s rule.relation.0 atom.attr.0 earlier later
-  -- a pair of mapped rows is forced, where the pair of their sources is
+  -- a pair of mapped rows is forced, where the pair of their sources is, and both are pairs of different rows
   copied : (copy : CopyFunction) (place : Place) (first second : RowId) (m : AreCopiedAt s copy place first second)
+      → first ≢ second → m.rows.first_source ≢ m.rows.second_source
       → IsForced s copy.source.0 place.source.0 m.rows.first_source m.rows.second_source
       → IsForced s copy.target.0 place.target.0 first second
-  -- the pair of the sources is forced, where the pair of the mapped rows is, and both are pairs of different rows
+  -- the pair of the sources is forced, where the pair of the mapped rows is, and both are such
   back : (copy : CopyFunction) (place : Place) (first second : RowId) (m : AreCopiedAt s copy place first second)
       → first ≢ second → m.rows.first_source ≢ m.rows.second_source
       → IsForced s copy.target.0 place.target.0 first second

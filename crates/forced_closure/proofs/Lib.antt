@@ -1,0 +1,7 @@
+mod Adding
+mod Agree
+mod Horns
+mod Nothing
+mod Standing
+mod Tables
+mod Whole

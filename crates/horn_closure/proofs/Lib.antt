@@ -1,0 +1,10 @@
+mod CellFacts
+mod ClosedFacts
+mod Derivations
+mod JoinFacts
+mod KnownFacts
+mod LeastFacts
+mod LookFacts
+mod Parted
+mod SmallHorns
+mod UseFacts

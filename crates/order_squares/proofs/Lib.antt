@@ -1,0 +1,7 @@
+pub mod Places
+mod Columns
+mod Layouts
+pub mod Cells
+pub mod Slots
+mod Parted
+mod Grouped
