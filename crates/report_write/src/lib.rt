@@ -15,4 +15,5 @@ mod verdict;
 mod writing;
 
 pub use completion::write_completion;
+pub use names::{write_attribute, write_row};
 pub use writing::{write_brief, write_report};

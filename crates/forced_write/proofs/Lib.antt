@@ -1,0 +1,3 @@
+mod Within
+mod Sorting
+mod Growing

@@ -1,0 +1,2 @@
+pub mod ForcedText
+pub mod Listing
