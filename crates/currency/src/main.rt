@@ -1,8 +1,10 @@
 //! The program `currency`: real files and standard output around `currency_cli::run`.
 #![tactic(auto)]
 
+use currency_base::NoMemory;
 use currency_cli::run;
 use currency_edge::{FileShelf, StdSink};
+use solver_guides::{Activity, FirstFree, Guide, Guides, KeepPhase, Seeded};
 use std::alloc::Global;
 use std::process::ExitCode;
 use std::rt::Env;
@@ -23,12 +25,32 @@ fn words<R: Env + AllocGlobal>(rt: &R) -> Result<Vec<String>, u8> {
     }
 }
 
-fn main(rt: HostRuntime) -> ExitCode {
+// Puts a guide after the others.
+fn put(boxes: &mut Vec<Box<dyn Guide>>, guide: Box<dyn Guide>) -> Result<(), NoMemory> {
+    match boxes.push(guide) {
+        Ok(()) => Ok(()),
+        Err(_) => Err(NoMemory),
+    }
+}
+
+// The status of a run over files and standard output, with one guide of each kind. The boxes are made here and not
+// handed out, so that nothing that is proved hangs on what is in them.
+fn status(rt: &HostRuntime, words: &[String]) -> Result<u8, NoMemory> {
     let alloc: Global = rt.alloc();
-    let mut shelf = FileShelf::new(&rt);
-    let mut sink = StdSink::new(io::writer(&rt));
+    let mut boxes: Vec<Box<dyn Guide>> = Vec::new(alloc);
+    put(&mut boxes, Box::new(alloc, FirstFree::new(alloc))?)?;
+    put(&mut boxes, Box::new(alloc, Activity::new(alloc))?)?;
+    put(&mut boxes, Box::new(alloc, KeepPhase::new(alloc))?)?;
+    put(&mut boxes, Box::new(alloc, Seeded::new(1))?)?;
+    let mut guides = Guides::new(boxes);
+    let mut shelf = FileShelf::new(rt);
+    let mut sink = StdSink::new(io::writer(rt));
+    Ok(run(alloc, words, &mut shelf, &mut sink, &mut guides))
+}
+
+fn main(rt: HostRuntime) -> ExitCode {
     let status = match words(&rt) {
-        Ok(words) => run(alloc, words.as_slice(), &mut shelf, &mut sink),
+        Ok(words) => status(&rt, words.as_slice()).unwrap_or(NO_MEMORY),
         Err(status) => status,
     };
     ExitCode::from(status)

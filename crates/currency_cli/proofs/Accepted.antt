@@ -1,69 +1,35 @@
--- Where the job is done, the sink got its text, and the verdict is right.
-use Rattle.std.proofs.Common.{◌≡◌, ℕ, true, List, Option, Some, None, IfOk, IfSome, OnOk, Result, Ok, Err, inl, inr, arith}
-use Rattle.std.specs.Io.KnownBytes.{Appends}
-use Rattle.currency_edge.specs.Sink.{AppendsPrefix}
+-- What a command comes to, stage by stage: what is told is shown by the documents.
+use Rattle.std.proofs.Common.{◌≡◌, ℕ, Bool, true, false, not, if◌then◌else◌, List, [], Option, Some, None, IfOk, IfErr, IfSome, OnOk, All, Result, Ok, Err, inl, refl, sym, ap, subst}
+use Rattle.currency_ask.specs.Answered.{IsAnswerWithin, IsDecidedBy}
+use Rattle.currency_report.specs.declared.report.Lines.{Lines}
 use Rattle.currency_report.specs.declared.report.ReadReport.{ReadReport}
+use Rattle.currency_report.specs.Reads.{ReadsReport}
+use Rattle.program_words.specs.Words.{AskSaid, VerifySaid, AskFor, VerifyOf, ForcedOf}
 use Rattle.report_model.specs.Verdicts.{is_decided, kind_of}
+use Rattle.report_model.specs.declared.report.Report.{Report}
 use Rattle.report_model.specs.declared.verdict.Kind.{Kind}
 use Rattle.report_verify.specs.Right.{IsRight}
 use Rattle.report_verify.specs.Shown.{ShowsVerdict}
+use Rattle.report_write.specs.Pieces.{report_pieces}
+use Rattle.report_write.specs.Writable.{HasTextNames, IsWritableReport}
+use Rattle.spec_model.specs.Facts.{AreRelations}
 use Rattle.spec_model.specs.Spec.{Spec}
 use Rattle.spec_model.specs.declared.question.Question.{Question}
-use Rattle.currency_cli.specs.Due.{IsSpecRead, IsQuestionRead, IsReportRead}
-use Rattle.currency_cli.specs.Ends.{EndsWith, IsReportShown, IsShownRight, NamesShown}
-use Rattle.currency_cli.specs.Texts.{accepted_text, trouble_status}
-use Rattle.currency_cli.specs.Words.{Documents, documents_in}
+use Rattle.spec_model.specs.declared.relation.Relation.{Relation}
+use Rattle.text_write.specs.Pieces.{text_of}
+use Rattle.currency_cli.specs.Due.{IsSpecRead, IsQuestionRead, IsReportRead, IsVerifyDue, IsAnswer, IsAnswered, IsAskDue, IsForcedTold, IsForcedDue, IsDueFor, accepted, answer_text}
+use Rattle.currency_cli.specs.Ends.{IsReportShown, IsShownRight, IsAnswerTold}
+use Rattle.currency_cli.specs.Named.{IsSettled, IsDetermined}
+use Rattle.currency_cli.specs.Told.{IsTold, IsOutcomeOf}
+use Rattle.currency_cli.specs.declared.done.Done.{Done}
+use Rattle.currency_cli.specs.declared.done.Done.TheVariants as done
 use Rattle.currency_cli.specs.declared.trouble.Trouble.{Trouble}
 use Rattle.currency_cli.specs.declared.trouble.Trouble.TheVariants as trouble
 
--- ---- the text
+same_done : (a b : Done) → ◌≡◌ {A = Result Done Trouble} (Ok a) (Ok b) → a ≡ b
+same_done a b e = cc
 
--- the whole text where the status is 0
-pub text_written : (old new : Option (List ℕ)) (wb wn : ℕ) (kind : Kind) (status : ℕ) → EndsWith old new wb wn (Ok kind) status
-    → status ≡ 0 → Appends old new (accepted_text kind)
-text_written old new wb wn kind status (inl h) zero = h.1
-text_written old new wb wn kind status (inr (inl h)) zero = absurd (omega (arith, h.0, zero))
-text_written old new wb wn kind status (inr (inr h)) zero = absurd (omega (arith, h.0, zero))
-
--- a prefix of it where the status is 8
-pub prefix_written : (old new : Option (List ℕ)) (wb wn : ℕ) (kind : Kind) (status : ℕ) → EndsWith old new wb wn (Ok kind) status
-    → status ≡ 8 → AppendsPrefix old new (accepted_text kind)
-prefix_written old new wb wn kind status (inl h) eight = absurd (omega (arith, h.0, eight))
-prefix_written old new wb wn kind status (inr (inl h)) eight = h.2
-prefix_written old new wb wn kind status (inr (inr h)) eight = absurd (omega (arith, h.0, eight))
-
--- a refusal has another status than 0 and 8
-no_zero : (e : Trouble) → trouble_status e ≡ 0 → ⊥
-no_zero trouble.Words h = omega (arith, h)
-no_zero (trouble.Unshown c d l) h = omega (arith, h)
-no_zero (trouble.Refused c d l) h = omega (arith, h)
-no_zero (trouble.CopyDiffers d l t s) h = omega (arith, h)
-no_zero (trouble.Limit k) h = omega (arith, h)
-no_zero (trouble.ReadFault name) h = omega (arith, h)
-no_zero trouble.NoMemory h = omega (arith, h)
-
-no_eight : (e : Trouble) → trouble_status e ≡ 8 → ⊥
-no_eight trouble.Words h = omega (arith, h)
-no_eight (trouble.Unshown c d l) h = omega (arith, h)
-no_eight (trouble.Refused c d l) h = omega (arith, h)
-no_eight (trouble.CopyDiffers d l t s) h = omega (arith, h)
-no_eight (trouble.Limit k) h = omega (arith, h)
-no_eight (trouble.ReadFault name) h = omega (arith, h)
-no_eight trouble.NoMemory h = omega (arith, h)
-
-pub refusal_not_zero : (old new : Option (List ℕ)) (wb wn : ℕ) (e : Trouble) (status : ℕ) → EndsWith old new wb wn (Err e) status
-    → status ≡ 0 → ⊥
-refusal_not_zero old new wb wn e status (inl h) zero = no_zero e (let is = h.0 in omega arith)
-refusal_not_zero old new wb wn e status (inr (inl h)) zero = no_zero e (let is = h.0 in omega arith)
-refusal_not_zero old new wb wn e status (inr (inr h)) zero = omega (arith, h.0, zero)
-
-pub refusal_not_eight : (old new : Option (List ℕ)) (wb wn : ℕ) (e : Trouble) (status : ℕ) → EndsWith old new wb wn (Err e) status
-    → status ≡ 8 → ⊥
-refusal_not_eight old new wb wn e status (inl h) eight = no_eight e (let is = h.0 in omega arith)
-refusal_not_eight old new wb wn e status (inr (inl h)) eight = no_eight e (let is = h.0 in omega arith)
-refusal_not_eight old new wb wn e status (inr (inr h)) eight = omega (arith, h.0, eight)
-
--- ---- the documents
+-- ---- verify
 
 -- the report and the job together
 pub report_shown : (texts : Option (List (List ℕ × List ℕ))) (s : Spec) (q : Question) (name : List ℕ) (read : ReadReport) (r : Result Kind Trouble)
@@ -77,19 +43,116 @@ report_shown (Some told) s q name read (Ok kind) is_read shown of_kind right =
 report_shown texts s q name read (Err e) is_read shown of_kind right = tt
 
 -- the stages together
-pub shown_right : (texts : Option (List (List ℕ × List ℕ))) (d : Documents) (s : Spec) (q : Question) (r : Result Kind Trouble)
-    → IfSome texts (λ told. IsSpecRead told d.spec (Ok s)) → IfSome texts (λ told. IsQuestionRead told d.question (Ok q))
-    → IfOk r (λ kind. IfSome texts (λ told. IsReportShown told s q d.report kind))
-    → IfOk r (λ kind. IfSome texts (λ told. IsShownRight told d kind))
-shown_right None d s q (Ok kind) spec question report = tt
-shown_right (Some told) d s q (Ok kind) spec question report =
+pub shown_right : (texts : Option (List (List ℕ × List ℕ))) (v : VerifySaid) (s : Spec) (q : Question) (r : Result Kind Trouble)
+    → IfSome texts (λ told. IsSpecRead told v.spec (Ok s)) → IfSome texts (λ told. IsQuestionRead told v.question (Ok q))
+    → IfOk r (λ kind. IfSome texts (λ told. IsReportShown told s q v.report kind))
+    → IfOk r (λ kind. IfSome texts (λ told. IsShownRight told v kind))
+shown_right None v s q (Ok kind) spec question report = tt
+shown_right (Some told) v s q (Ok kind) spec question report =
     record { spec = s; question = q; spec_read = spec; question_read = question; report = report }
-shown_right texts d s q (Err e) spec question report = tt
+shown_right texts v s q (Err e) spec question report = tt
 
--- the words name the documents
-pub names_shown : (texts : Option (List (List ℕ × List ℕ))) (words : List (List ℕ)) (d : Documents) (r : Result Kind Trouble)
-    → documents_in words ≡ Some d → IfOk r (λ kind. IfSome texts (λ told. IsShownRight told d kind))
-    → IfOk r (λ kind. IfSome texts (λ told. NamesShown told words kind))
-names_shown None words d (Ok kind) named shown = tt
-names_shown (Some told) words d (Ok kind) named shown = record { documents = d; named = named; shown = shown }
-names_shown texts words d (Err e) named shown = tt
+-- what a report is judged to show is due
+pub judged_due : (texts : Option (List (List ℕ × List ℕ))) (v : VerifySaid) (judged : Result Kind Trouble)
+    → (IsSettled judged → IfSome texts (λ told. IsVerifyDue told v judged))
+    → IsSettled (accepted judged) → IfSome texts (λ told. IsDueFor told (VerifyOf v) (accepted judged))
+judged_due None v judged due settled = tt
+judged_due (Some told) v (Ok kind) due settled = (Ok kind, due tt, refl)
+judged_due (Some told) v (Err e) due settled = (Err e, due settled, refl)
+
+-- ---- ask
+
+decided_or_not : (decided : Bool) → decided ≡ (if not decided then false else true)
+decided_or_not true = refl
+decided_or_not false = refl
+
+-- reading what was written of a report that can be written gives the report again
+abbrev pub WrittenIsRead : Type 0
+WrittenIsRead = (relations : List Relation) (r : Report) → AreRelations relations → All HasTextNames relations → IsWritableReport relations r
+    → (lines : Lines) × ReadsReport relations (text_of (report_pieces relations r)) (record { report = r; lines = lines })
+
+-- what an answer has
+pub record Answer (s : Spec) (q : Question) (budget : ℕ) (r : Report) : Type 0 where
+  pub shown : ShowsVerdict s q r
+  pub right : is_decided (kind_of r.verdict) ≡ true → IsRight s q r.verdict
+  pub writable : IsWritableReport s.relations r
+  pub within : IsAnswerWithin s budget r
+  pub enough : IsDecidedBy s budget r
+
+is_answer : WrittenIsRead → (s : Spec) (q : Question) (budget : ℕ) (r : Report) → AreRelations s.relations → All HasTextNames s.relations
+    → Answer s q budget r → IsAnswer s q budget r
+is_answer law s q budget r relations names a =
+    let read : (lines : Lines) × ReadsReport s.relations (text_of (report_pieces s.relations r)) (record { report = r; lines = lines }) =
+    law s.relations r relations names a.writable in
+    record { shown = a.shown; right = a.right; lines = read.0; reread = read.1; within = a.within; enough = a.enough }
+
+-- a report that is told is an answer
+pub answered : WrittenIsRead → (s : Spec) (a : AskSaid) (q : Question) (r : Report) (outcome : Result Done Trouble)
+    → AreRelations s.relations → All HasTextNames s.relations → Answer s q a.budget r
+    → IfOk outcome (λ d. d ≡ done.Answered (answer_text s.relations a.brief r) (not (is_decided (kind_of r.verdict))))
+    → IfErr outcome (λ e. e ≡ trouble.NoMemory) → IsSettled outcome → IsAnswered s a q outcome
+answered law s a q r (Ok d) relations names answer told memory settled = (r, is_answer law s q a.budget r relations names answer, ap Ok told)
+answered law s a q r (Err e) relations names answer told memory settled = absurd (subst IsDetermined memory settled)
+
+-- an answer is what `ask` comes to
+pub of_ask : (a : AskSaid) (text : List ℕ) (undecided : Bool) (outcome : Result Done Trouble) → IfOk outcome (λ d. d ≡ done.Answered text undecided)
+    → IfOk outcome (IsOutcomeOf (AskFor a))
+of_ask a text undecided (Ok d) is = subst (IsOutcomeOf (AskFor a)) (sym is) tt
+of_ask a text undecided (Err e) is = tt
+
+answer_told : (told : List (List ℕ × List ℕ)) (a : AskSaid) (s : Spec) (q : Question) (r : Report) → IsSpecRead told a.spec (Ok s)
+    → IsQuestionRead told a.question (Ok q) → IsAnswer s q a.budget r
+    → IsAnswerTold told a (answer_text s.relations a.brief r) (not (is_decided (kind_of r.verdict)))
+answer_told told a s q r spec question answer = record {
+  spec = s;
+  question = q;
+  spec_read = spec;
+  question_read = question;
+  report = r;
+  answer = answer;
+  is_text = refl;
+  decided = decided_or_not (is_decided (kind_of r.verdict));
+  verified = λ name. (Ok (record { report = r; lines = answer.lines }), inl (record { report = r; lines = answer.lines }, answer.reread, refl), inl (answer.shown, refl));
+}
+
+-- the stages together
+pub ask_told : (texts : Option (List (List ℕ × List ℕ))) (a : AskSaid) (s : Spec) (q : Question) (outcome : Result Done Trouble)
+    → IfSome texts (λ told. IsSpecRead told a.spec (Ok s)) → IfSome texts (λ told. IsQuestionRead told a.question (Ok q))
+    → (IsSettled outcome → IsAnswered s a q outcome) → IfOk outcome (λ d. IfSome texts (λ told. IsTold told (AskFor a) d))
+ask_told None a s q (Ok d) spec question job = tt
+ask_told (Some told) a s q (Ok d) spec question job =
+    let h = job tt in
+    subst (λ (d : Done). IsTold told (AskFor a) d) (sym (same_done d _ h.2)) (answer_told told a s q h.0 spec question h.1)
+ask_told texts a s q (Err e) spec question job = tt
+
+-- an answer is due
+pub ask_due : (texts : Option (List (List ℕ × List ℕ))) (a : AskSaid) (s : Spec) (q : Question) (outcome : Result Done Trouble)
+    → IfSome texts (λ told. IsSpecRead told a.spec (Ok s)) → IfSome texts (λ told. IsQuestionRead told a.question (Ok q))
+    → (IsSettled outcome → IsAnswered s a q outcome) → IsSettled outcome → IfSome texts (λ told. IsAskDue told a outcome)
+ask_due None a s q outcome spec question job settled = tt
+ask_due (Some told) a s q outcome spec question job settled = (Ok s, spec, (Ok q, question, job settled))
+
+-- ---- forced
+
+-- a text of forced pairs is what `forced` comes to
+pub of_forced : (name : List ℕ) (outcome : Result Done Trouble) → IfOk outcome (IsOutcomeOf (ForcedOf [])) → IfOk outcome (IsOutcomeOf (ForcedOf name))
+of_forced name (Ok (done.Accepted kind)) h = h
+of_forced name (Ok (done.Answered text undecided)) h = h
+of_forced name (Ok (done.Forced text)) h = h
+of_forced name (Err e) h = h
+
+pub forced_told : (texts : Option (List (List ℕ × List ℕ))) (name : List ℕ) (s : Spec) (outcome : Result Done Trouble)
+    → IfSome texts (λ told. IsSpecRead told name (Ok s)) → (IsSettled outcome → IsForcedTold s outcome)
+    → IfOk outcome (λ d. IfSome texts (λ told. IsTold told (ForcedOf name) d))
+forced_told None name s (Ok d) spec job = tt
+forced_told (Some told) name s (Ok d) spec job =
+    let h = job tt in
+    subst (λ (d : Done). IsTold told (ForcedOf name) d) (sym (same_done d _ h.2)) (record { spec = s; spec_read = spec; forced = h.1 })
+forced_told texts name s (Err e) spec job = tt
+
+-- a text of forced pairs is due
+pub forced_due : (texts : Option (List (List ℕ × List ℕ))) (name : List ℕ) (s : Spec) (outcome : Result Done Trouble)
+    → IfSome texts (λ told. IsSpecRead told name (Ok s)) → (IsSettled outcome → IsForcedTold s outcome)
+    → IsSettled outcome → IfSome texts (λ told. IsForcedDue told name outcome)
+forced_due None name s outcome spec job settled = tt
+forced_due (Some told) name s outcome spec job settled = (Ok s, spec, job settled)

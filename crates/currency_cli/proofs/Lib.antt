@@ -1,6 +1,10 @@
 pub mod Accepted
 pub mod Exact
+pub mod ForWords
+pub mod JobsDone
+pub mod NameTexts
 pub mod OneDue
 pub mod Refusals
+pub mod Replies
 pub mod WholeTexts
 pub mod StageLemmas

@@ -1,5 +1,5 @@
 -- What is due is determined: words and told documents have one outcome.
-use Rattle.std.proofs.Common.{◌≡◌, ◌∙◌, ℕ, List, Option, Some, None, MatchOption, MatchResult, Result, Ok, Err, sym, subst, ap, inl, inr, arith}
+use Rattle.std.proofs.Common.{◌≡◌, ◌∙◌, ℕ, Bool, List, Option, Some, None, MatchOption, MatchResult, Result, Ok, Err, sym, subst, ap, inl, inr, arith}
 use Rattle.currency_edge.specs.Shelf.{document}
 use Rattle.text_tokens.specs.declared.token.TextFault.{TextFault}
 use Rattle.spec_syntax.specs.Texts.{ReadsSpec, RefusesSpec, ReadsQuestion, RefusesQuestion}
@@ -16,27 +16,34 @@ use Rattle.currency_report.specs.Reads.{ReadsReport, RefusesReport, fault_of, sa
 use Rattle.report_model.specs.declared.report.Part.{Part}
 use Rattle.currency_report.specs.declared.report.ReadReport.{ReadReport}
 use Rattle.report_model.specs.declared.report.Report.{Report}
-use Rattle.report_model.specs.declared.verdict.Kind.{Kind}
 use Rattle.currency_report.specs.declared.report.ReportFault.{ReportFault}
 use Rattle.report_verify.specs.Shown.{ShowsVerdict, IsFirstUnshown}
 use Rattle.report_verify.specs.declared.fault.Unshown.{Unshown}
-use Rattle.currency_cli.specs.Due.{Then, Within, IsSpecTree, IsSpecBound, IsSpecSaid, IsSpecRead, IsQuestionSaid, IsQuestionRead, IsReportSaid, IsReportRead, IsJudged, IsDueFor, IsDue, question_of, text_trouble, bind_trouble, report_trouble}
-use Rattle.currency_cli.specs.Words.{Documents, documents_in}
+use Rattle.currency_cli.specs.Due.{Then, Within, IsSpecTree, IsSpecBound, IsSpecSaid, IsSpecRead, IsQuestionSaid, IsQuestionRead, IsReportSaid, IsReportRead, IsJudged, IsVerifyDue, IsAnswered, IsAskDue, IsForcedTold, IsForcedDue, IsDueFor, IsDue, accepted, question_of, text_trouble, bind_trouble, report_trouble}
+use Rattle.program_words.specs.Words.{AskSaid, VerifySaid, CommandSaid, AskFor, VerifyOf, ForcedOf}
+use Rattle.currency_cli.specs.Alike.{AreAlike}
+use Rattle.currency_cli.specs.Words.{command_for}
+use Rattle.currency_cli.specs.declared.done.Done.{Done}
+use Rattle.currency_cli.specs.declared.done.Done.TheVariants as done
 use Rattle.currency_cli.specs.declared.trouble.Trouble.{Trouble}
 use Rattle.currency_cli.specs.declared.trouble.Trouble.TheVariants as trouble
 
--- what the layers below say of one reading, one binding and one first failing check
-pub record Laws : Type 0 where
+-- what the layers below say of one reading of a specification and a question, and of one binding
+pub record Readings : Type 0 where
   pub spec_tree : (source : List ℕ) (a b : SpecTree) → ReadsSpec source a → ReadsSpec source b → a ≡ b
   pub spec_refusal : (source : List ℕ) (e f : TextFault) → RefusesSpec source e → RefusesSpec source f → e ≡ f
   pub spec_not_both : (source : List ℕ) (t : SpecTree) (e : TextFault) → ReadsSpec source t → RefusesSpec source e → ⊥
   pub question_tree : (source : List ℕ) (a b : QuestionTree) → ReadsQuestion source a → ReadsQuestion source b → a ≡ b
   pub question_refusal : (source : List ℕ) (e f : TextFault) → RefusesQuestion source e → RefusesQuestion source f → e ≡ f
   pub question_not_both : (source : List ℕ) (t : QuestionTree) (e : TextFault) → ReadsQuestion source t → RefusesQuestion source e → ⊥
+  pub binding : (told : List (List ℕ × List ℕ)) (t : SpecTree) (a b : Result Spec BindFault) → IsBound told t a → IsBound told t b → a ≡ b
+
+-- and of one reading of a report, and one first failing check
+pub record Laws : Type 0 where
+  pub readings : Readings
   pub report_tree : (source : List ℕ) (a b : ReportTree) → ReadsReportText source a → ReadsReportText source b → a ≡ b
   pub report_refusal : (source : List ℕ) (e f : TextFault) → RefusesReportText source e → RefusesReportText source f → e ≡ f
   pub report_not_both : (source : List ℕ) (t : ReportTree) (e : TextFault) → ReadsReportText source t → RefusesReportText source e → ⊥
-  pub binding : (told : List (List ℕ × List ℕ)) (t : SpecTree) (a b : Result Spec BindFault) → IsBound told t a → IsBound told t b → a ≡ b
   pub unshown : (s : Spec) (q : Question) (r : Report) (p p' : Part) (why why' : Unshown)
       → IsFirstUnshown s q r p why → IsFirstUnshown s q r p' why' → (p ≡ p') × (why ≡ why')
   pub not_shown : (s : Spec) (q : Question) (r : Report) (p : Part) (why : Unshown) → IsFirstUnshown s q r p why → ShowsVerdict s q r → ⊥
@@ -66,7 +73,7 @@ within_one bound bytes next one a b (inr h) (inr k) = one a b h.1 k.1
 
 -- ---- the stages
 
-spec_tree_one : Laws → (name bytes : List ℕ) → IsOne (IsSpecTree name bytes)
+spec_tree_one : Readings → (name bytes : List ℕ) → IsOne (IsSpecTree name bytes)
 spec_tree_one laws name bytes a b (inl h) (inl k) = h.2 ∙ ap Ok (laws.spec_tree bytes h.0 k.0 h.1 k.1) ∙ sym k.2
 spec_tree_one laws name bytes a b (inl h) (inr k) = absurd (laws.spec_not_both bytes h.0 k.0 h.1 k.1)
 spec_tree_one laws name bytes a b (inr h) (inl k) = absurd (laws.spec_not_both bytes k.0 h.0 k.1 h.1)
@@ -81,7 +88,7 @@ err_same x y e = cc
 apart : {A E : Type 0} (x : A) (y : E) → ◌≡◌ {A = Result A E} (Ok x) (Err y) → ⊥
 apart x y e = cc
 
-spec_bound_one : Laws → (told : List (List ℕ × List ℕ)) (name : List ℕ) (t : SpecTree) → IsOne (IsSpecBound told name t)
+spec_bound_one : Readings → (told : List (List ℕ × List ℕ)) (name : List ℕ) (t : SpecTree) → IsOne (IsSpecBound told name t)
 spec_bound_one laws told name t a b (inl h) (inl k) =
     h.2 ∙ ap Ok (ok_same h.0 k.0 (laws.binding told t (Ok h.0) (Ok k.0) h.1 k.1)) ∙ sym k.2
 spec_bound_one laws told name t a b (inl h) (inr k) = absurd (apart h.0 k.0 (laws.binding told t (Ok h.0) (Err k.0) h.1 k.1))
@@ -89,18 +96,18 @@ spec_bound_one laws told name t a b (inr h) (inl k) = absurd (apart k.0 h.0 (law
 spec_bound_one laws told name t a b (inr h) (inr k) =
     h.2 ∙ ap (λ f. Err (bind_trouble name f)) (err_same h.0 k.0 (laws.binding told t (Err h.0) (Err k.0) h.1 k.1)) ∙ sym k.2
 
-spec_read_one : Laws → (told : List (List ℕ × List ℕ)) (name : List ℕ) → IsOne (IsSpecRead told name)
+pub spec_read_one : Readings → (told : List (List ℕ × List ℕ)) (name : List ℕ) → IsOne (IsSpecRead told name)
 spec_read_one laws told name =
     within_one _ (document told name) (IsSpecSaid told name (document told name))
     (then_one (IsSpecTree name (document told name)) (IsSpecBound told name) (spec_tree_one laws name (document told name)) (spec_bound_one laws told name))
 
-question_said_one : Laws → (name bytes : List ℕ) → IsOne (IsQuestionSaid name bytes)
+question_said_one : Readings → (name bytes : List ℕ) → IsOne (IsQuestionSaid name bytes)
 question_said_one laws name bytes a b (inl h) (inl k) = h.2 ∙ ap (λ t. Ok (question_of t)) (laws.question_tree bytes h.0 k.0 h.1 k.1) ∙ sym k.2
 question_said_one laws name bytes a b (inl h) (inr k) = absurd (laws.question_not_both bytes h.0 k.0 h.1 k.1)
 question_said_one laws name bytes a b (inr h) (inl k) = absurd (laws.question_not_both bytes k.0 h.0 k.1 h.1)
 question_said_one laws name bytes a b (inr h) (inr k) = h.2 ∙ ap (λ f. Err (text_trouble name f)) (laws.question_refusal bytes h.0 k.0 h.1 k.1) ∙ sym k.2
 
-question_read_one : Laws → (told : List (List ℕ × List ℕ)) (name : List ℕ) → IsOne (IsQuestionRead told name)
+pub question_read_one : Readings → (told : List (List ℕ × List ℕ)) (name : List ℕ) → IsOne (IsQuestionRead told name)
 question_read_one laws told name =
     within_one _ (document told name) (IsQuestionSaid name (document told name)) (question_said_one laws name (document told name))
 
@@ -141,20 +148,73 @@ judged_one laws s q name r a b (inr h) (inr k) =
     let why = same.1 in
     cc
 
+-- ---- outcomes that are alike
+
+-- a stage's outcomes are alike
+abbrev IsLike : (Result Done Trouble → Type 0) → Type 0
+IsLike stage = (a b : Result Done Trouble) → stage a → stage b → AreAlike a b
+
+pub same_alike : (a b : Result Done Trouble) → a ≡ b → AreAlike a b
+same_alike (Ok (done.Accepted kind)) b same = sym same
+same_alike (Ok (done.Answered text undecided)) b same = subst (AreAlike (Ok (done.Answered text undecided))) same tt
+same_alike (Ok (done.Forced text)) b same = subst (AreAlike (Ok (done.Forced text))) same tt
+same_alike (Err e) b same = sym same
+
+answers_alike : (text other_text : List ℕ) (undecided other : Bool) (a b : Result Done Trouble)
+    → a ≡ Ok (done.Answered text undecided) → b ≡ Ok (done.Answered other_text other) → AreAlike a b
+answers_alike text other_text undecided other a b h k =
+    subst (λ (o : Result Done Trouble). AreAlike o b) (sym h)
+    (subst (λ (o : Result Done Trouble). AreAlike (Ok (done.Answered text undecided)) o) (sym k) tt)
+
+forced_alike : (text other_text : List ℕ) (a b : Result Done Trouble) → a ≡ Ok (done.Forced text) → b ≡ Ok (done.Forced other_text) → AreAlike a b
+forced_alike text other_text a b h k =
+    subst (λ (o : Result Done Trouble). AreAlike o b) (sym h)
+    (subst (λ (o : Result Done Trouble). AreAlike (Ok (done.Forced text)) o) (sym k) tt)
+
+like_at : {A : Type 0} (next : A → Result Done Trouble → Type 0) → ((x : A) → IsLike (next x)) → (r : Result A Trouble) (a b : Result Done Trouble)
+    → MatchResult r (λ x. next x a) (λ e. a ≡ Err e) → MatchResult r (λ x. next x b) (λ e. b ≡ Err e) → AreAlike a b
+like_at next like (Ok x) a b h k = like x a b h k
+like_at next like (Err e) a b h k = same_alike a b (h ∙ sym k)
+
+then_like : {A : Type 0} (first : Result A Trouble → Type 0) (next : A → Result Done Trouble → Type 0)
+    → IsOne first → ((x : A) → IsLike (next x)) → IsLike (Then first next)
+then_like {A} first next one like a b h k =
+    let same = one h.0 k.0 h.1 k.1 in
+    like_at next like h.0 a b h.2 (subst (λ (r : Result A Trouble). MatchResult r (λ x. next x b) (λ e. b ≡ Err e)) (sym same) k.2)
+
 -- ---- the whole
 
-for_documents : Laws → (told : List (List ℕ × List ℕ)) (d : Documents) → IsOne (IsDueFor told d)
-for_documents laws told d =
-    then_one (IsSpecRead told d.spec) _ (spec_read_one laws told d.spec) (λ s.
-    then_one (IsQuestionRead told d.question) _ (question_read_one laws told d.question) (λ question.
-    then_one (IsReportRead told s.relations d.report) _ (report_one laws s.relations d.report (document told d.report))
-    (judged_one laws s question d.report)))
+verify_one : Laws → (told : List (List ℕ × List ℕ)) (v : VerifySaid) → IsOne (IsVerifyDue told v)
+verify_one laws told v =
+    then_one (IsSpecRead told v.spec) _ (spec_read_one laws.readings told v.spec) (λ s.
+    then_one (IsQuestionRead told v.question) _ (question_read_one laws.readings told v.question) (λ question.
+    then_one (IsReportRead told s.relations v.report) _ (report_one laws s.relations v.report (document told v.report))
+    (judged_one laws s question v.report)))
 
-for_words : Laws → (told : List (List ℕ × List ℕ)) (o : Option Documents) (a b : Result Kind Trouble)
-    → MatchOption o (a ≡ Err trouble.Words) (λ d. IsDueFor told d a) → MatchOption o (b ≡ Err trouble.Words) (λ d. IsDueFor told d b) → a ≡ b
-for_words laws told None a b h k = h ∙ sym k
-for_words laws told (Some d) a b h k = for_documents laws told d a b h k
+answered_like : (s : Spec) (a : AskSaid) (q : Question) → IsLike (IsAnswered s a q)
+answered_like s a q x y h k = answers_alike _ _ _ _ x y h.2 k.2
 
-pub one_due : Laws → (told : List (List ℕ × List ℕ)) (words : List (List ℕ)) (a b : Result Kind Trouble)
-    → IsDue told words a → IsDue told words b → a ≡ b
-one_due laws told words a b h k = for_words laws told (documents_in words) a b h k
+ask_like : Laws → (told : List (List ℕ × List ℕ)) (a : AskSaid) → IsLike (IsAskDue told a)
+ask_like laws told a =
+    then_like (IsSpecRead told a.spec) _ (spec_read_one laws.readings told a.spec) (λ s.
+    then_like (IsQuestionRead told a.question) (IsAnswered s a) (question_read_one laws.readings told a.question) (answered_like s a))
+
+forced_told_like : (s : Spec) → IsLike (IsForcedTold s)
+forced_told_like s x y h k = forced_alike _ _ x y h.2 k.2
+
+forced_like : Laws → (told : List (List ℕ × List ℕ)) (name : List ℕ) → IsLike (IsForcedDue told name)
+forced_like laws told name = then_like (IsSpecRead told name) IsForcedTold (spec_read_one laws.readings told name) forced_told_like
+
+for_command : Laws → (told : List (List ℕ × List ℕ)) (c : CommandSaid) → IsLike (IsDueFor told c)
+for_command laws told (VerifyOf v) a b h k = same_alike a b (h.2 ∙ ap accepted (verify_one laws told v h.0 k.0 h.1 k.1) ∙ sym k.2)
+for_command laws told (AskFor q) a b h k = ask_like laws told q a b h k
+for_command laws told (ForcedOf name) a b h k = forced_like laws told name a b h k
+
+for_words : Laws → (told : List (List ℕ × List ℕ)) (o : Option CommandSaid) (a b : Result Done Trouble)
+    → MatchOption o (a ≡ Err trouble.Words) (λ c. IsDueFor told c a) → MatchOption o (b ≡ Err trouble.Words) (λ c. IsDueFor told c b) → AreAlike a b
+for_words laws told None a b h k = same_alike a b (h ∙ sym k)
+for_words laws told (Some c) a b h k = for_command laws told c a b h k
+
+pub one_due : Laws → (told : List (List ℕ × List ℕ)) (count : ℕ) (words : List (List ℕ)) (a b : Result Done Trouble)
+    → IsDue told count words a → IsDue told count words b → AreAlike a b
+one_due laws told count words a b h k = for_words laws told (command_for count words) a b h k

@@ -1,6 +1,6 @@
 -- What is due for words and told documents, stage by stage: the words, the specification with its tables, the question,
--- the report, and then the job. The first stage that is refused decides.
-use Rattle.std.specs.Prelude.{◌≡◌, ◌⊎◌, ◌<◌, ◌≤◌, ℕ, List, length, unwrap_or, Result, Ok, Err, MatchOption, MatchResult}
+-- the report, as the command asks for them, and then the job. The first stage that is refused decides.
+use Rattle.std.specs.Prelude.{◌≡◌, ◌⊎◌, ◌<◌, ◌≤◌, ◌&&◌, ℕ, Bool, true, not, if◌then◌else◌, List, length, unwrap_or, Result, Ok, Err, MatchOption, MatchResult}
 use Rattle.currency_base.specs.declared.error_code.ErrorCode.TheVariants as code
 use Rattle.currency_edge.specs.Shelf.{document}
 use Rattle.text_tokens.specs.declared.token.TextFault.{TextFault}
@@ -28,7 +28,18 @@ use Rattle.currency_report.specs.declared.report.ReportFault.TheVariants as repo
 use Rattle.report_verify.specs.Shown.{ShowsVerdict, IsFirstUnshown}
 use Rattle.report_verify.specs.declared.fault.Unshown.{Unshown}
 use Rattle.report_verify.specs.declared.fault.Unshown.TheVariants.{BadCompletion, BadLog, NotShown}
-use Rattle.currency_cli.specs.Words.{Documents, documents_in}
+use Rattle.currency_ask.specs.Answered.{IsAnswerWithin, IsDecidedBy}
+use Rattle.currency_report.specs.declared.report.Lines.{Lines}
+use Rattle.forced_write.specs.ForcedText.{IsForcedText}
+use Rattle.program_words.specs.Words.{AskSaid, VerifySaid, CommandSaid, AskFor, VerifyOf, ForcedOf}
+use Rattle.report_model.specs.Verdicts.{is_decided}
+use Rattle.report_model.specs.declared.report.Report.{Report}
+use Rattle.report_verify.specs.Right.{IsRight}
+use Rattle.report_write.specs.Pieces.{report_pieces, brief_pieces}
+use Rattle.text_write.specs.Pieces.{text_of}
+use Rattle.currency_cli.specs.Words.{command_for}
+use Rattle.currency_cli.specs.declared.done.Done.{Done}
+use Rattle.currency_cli.specs.declared.done.Done.TheVariants as done
 use Rattle.currency_cli.specs.declared.trouble.Check.{Check}
 use Rattle.currency_cli.specs.declared.trouble.Check.TheVariants.{V1, V2, V3}
 use Rattle.currency_cli.specs.declared.trouble.Trouble.{Trouble}
@@ -128,16 +139,65 @@ IsJudged s question name r outcome =
     ⊎ ((part : Part) × (why : Unshown) × IsFirstUnshown s question r.report part why
     × (outcome ≡ Err (trouble.Unshown (check_of why) name (line_of r.lines part))))
 
--- what is due for three documents
-abbrev pub IsDueFor : List (List ℕ × List ℕ) → Documents → Result Kind Trouble → Type 0
-IsDueFor told d =
-    Then (IsSpecRead told d.spec) (λ s.
-    Then (IsQuestionRead told d.question) (λ question.
-    Then (IsReportRead told s.relations d.report) (IsJudged s question d.report)))
+-- what is due for three documents: what the report shows
+abbrev pub IsVerifyDue : List (List ℕ × List ℕ) → VerifySaid → Result Kind Trouble → Type 0
+IsVerifyDue told v =
+    Then (IsSpecRead told v.spec) (λ s.
+    Then (IsQuestionRead told v.question) (λ question.
+    Then (IsReportRead told s.relations v.report) (IsJudged s question v.report)))
 
--- what is due for words
-abbrev pub IsDue : List (List ℕ × List ℕ) → List (List ℕ) → Result Kind Trouble → Type 0
-IsDue told words outcome = MatchOption (documents_in words) (outcome ≡ Err trouble.Words) (λ d. IsDueFor told d outcome)
+-- ---- answers
+
+-- a report that answers a question within a budget: it shows its verdict, which is right if it is a decided one; its text is read
+-- as the same report; it lists and derives no more than is needed, or what a search that took the whole budget left; and it is
+-- decided where the budget is enough
+pub record IsAnswer (s : Spec) (question : Question) (budget : ℕ) (r : Report) : Type 0 where
+  pub shown : ShowsVerdict s question r
+  pub right : is_decided (kind_of r.verdict) ≡ true → IsRight s question r.verdict
+  pub lines : Lines
+  pub reread : ReadsReport s.relations (text_of (report_pieces s.relations r)) (record { report = r; lines = lines })
+  pub within : IsAnswerWithin s budget r
+  pub enough : IsDecidedBy s budget r
+
+-- the text of a report: brief where that is asked and it is decided
+abbrev pub answer_text : List Relation → Bool → Report → List ℕ
+answer_text relations brief r =
+    if brief && is_decided (kind_of r.verdict) then text_of (brief_pieces relations r) else text_of (report_pieces relations r)
+
+-- the job: a report that answers the question is told
+abbrev pub IsAnswered : Spec → AskSaid → Question → Result Done Trouble → Type 0
+IsAnswered s a question outcome =
+    (r : Report) × IsAnswer s question a.budget r
+    × (outcome ≡ Ok (done.Answered (answer_text s.relations a.brief r) (not (is_decided (kind_of r.verdict)))))
+
+-- what is due for a question about a specification
+abbrev pub IsAskDue : List (List ℕ × List ℕ) → AskSaid → Result Done Trouble → Type 0
+IsAskDue told a = Then (IsSpecRead told a.spec) (λ s. Then (IsQuestionRead told a.question) (IsAnswered s a))
+
+-- the job: the forced pairs are told
+abbrev pub IsForcedTold : Spec → Result Done Trouble → Type 0
+IsForcedTold s outcome = (text : List ℕ) × IsForcedText s text × (outcome ≡ Ok (done.Forced text))
+
+-- what is due for the forced pairs of a specification
+abbrev pub IsForcedDue : List (List ℕ × List ℕ) → List ℕ → Result Done Trouble → Type 0
+IsForcedDue told name = Then (IsSpecRead told name) IsForcedTold
+
+-- ---- commands
+
+-- a report that shows its verdict is accepted
+abbrev pub accepted : Result Kind Trouble → Result Done Trouble
+accepted (Ok kind) = Ok (done.Accepted kind)
+accepted (Err e) = Err e
+
+-- what is due for a command
+abbrev pub IsDueFor : List (List ℕ × List ℕ) → CommandSaid → Result Done Trouble → Type 0
+IsDueFor told (VerifyOf v) outcome = (judged : Result Kind Trouble) × IsVerifyDue told v judged × (outcome ≡ accepted judged)
+IsDueFor told (AskFor a) outcome = IsAskDue told a outcome
+IsDueFor told (ForcedOf name) outcome = IsForcedDue told name outcome
+
+-- what is due for words, where so many guides are handed in
+abbrev pub IsDue : List (List ℕ × List ℕ) → ℕ → List (List ℕ) → Result Done Trouble → Type 0
+IsDue told count words outcome = MatchOption (command_for count words) (outcome ≡ Err trouble.Words) (λ c. IsDueFor told c outcome)
 
 -- ---- documents
 
@@ -149,15 +209,26 @@ IsSaidTableDue told name bytes table = (t : SpecTree) × IsSpecTree name bytes (
 abbrev pub IsTableDue : List (List ℕ × List ℕ) → List ℕ → List ℕ → Type 0
 IsTableDue told name table = (length (document told name) ≤ text_bound) × IsSaidTableDue told name (document told name) table
 
--- a document is due to be read: the specification; a table that it names; the question, once the specification is read;
--- or the report, once both are
-abbrev pub IsDocumentDue : List (List ℕ × List ℕ) → Documents → List ℕ → Type 0
-IsDocumentDue told d name =
-    (name ≡ d.spec)
-    ⊎ (IsTableDue told d.spec name
-    ⊎ (((s : Spec) × IsSpecRead told d.spec (Ok s) × (name ≡ d.question))
-    ⊎ ((s : Spec) × (q : Question) × IsSpecRead told d.spec (Ok s) × IsQuestionRead told d.question (Ok q) × (name ≡ d.report))))
+-- a document is due to be read for a specification: its text, or a table that it names
+abbrev pub IsSpecDocumentDue : List (List ℕ × List ℕ) → List ℕ → List ℕ → Type 0
+IsSpecDocumentDue told spec name = (name ≡ spec) ⊎ IsTableDue told spec name
+
+-- the question is due to be read, once the specification is
+abbrev pub IsQuestionDue : List (List ℕ × List ℕ) → List ℕ → List ℕ → List ℕ → Type 0
+IsQuestionDue told spec question name = (s : Spec) × IsSpecRead told spec (Ok s) × (name ≡ question)
+
+-- the report is due to be read, once both are
+abbrev pub IsReportDue : List (List ℕ × List ℕ) → VerifySaid → List ℕ → Type 0
+IsReportDue told v name =
+    (s : Spec) × (q : Question) × IsSpecRead told v.spec (Ok s) × IsQuestionRead told v.question (Ok q) × (name ≡ v.report)
+
+-- a document is due to be read for a command
+abbrev pub IsDocumentDue : List (List ℕ × List ℕ) → CommandSaid → List ℕ → Type 0
+IsDocumentDue told (VerifyOf v) name =
+    IsSpecDocumentDue told v.spec name ⊎ (IsQuestionDue told v.spec v.question name ⊎ IsReportDue told v name)
+IsDocumentDue told (AskFor a) name = IsSpecDocumentDue told a.spec name ⊎ IsQuestionDue told a.spec a.question name
+IsDocumentDue told (ForcedOf spec) name = IsSpecDocumentDue told spec name
 
 -- a document of this name is due to be read for these words
-abbrev pub IsReadDue : List (List ℕ × List ℕ) → List (List ℕ) → List ℕ → Type 0
-IsReadDue told words name = MatchOption (documents_in words) ⊥ (λ d. IsDocumentDue told d name)
+abbrev pub IsReadDue : List (List ℕ × List ℕ) → ℕ → List (List ℕ) → List ℕ → Type 0
+IsReadDue told count words name = MatchOption (command_for count words) ⊥ (λ c. IsDocumentDue told c name)

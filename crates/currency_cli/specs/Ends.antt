@@ -1,42 +1,57 @@
 -- How the program ends: with which status, and what its sink got.
-use Rattle.std.specs.Prelude.{◌≡◌, ◌⊎◌, ℕ, true, List, Option, Some, IfSome, Result, Ok, Err}
+use Rattle.std.specs.Prelude.{◌≡◌, ◌⊎◌, ℕ, Bool, true, false, if◌then◌else◌, List, [], Option, Some, IfSome, Result, Ok, Err}
 use Rattle.std.specs.Io.KnownBytes.{Appends}
 use Rattle.currency_edge.specs.Fault.{Rose}
 use Rattle.currency_edge.specs.Sink.{AppendsPrefix}
 use Rattle.currency_report.specs.declared.report.ReadReport.{ReadReport}
+use Rattle.forced_write.specs.ForcedText.{IsForcedText}
+use Rattle.order_literals.specs.Enough.{IsEnough}
+use Rattle.program_words.specs.Words.{AskSaid, VerifySaid, CommandSaid, AskFor, VerifyOf, ForcedOf}
 use Rattle.report_model.specs.Verdicts.{is_decided, kind_of}
+use Rattle.report_model.specs.declared.report.Report.{Report}
 use Rattle.report_model.specs.declared.verdict.Kind.{Kind}
+use Rattle.report_model.specs.declared.verdict.Verdict.TheVariants.{Undecided}
 use Rattle.report_verify.specs.Right.{IsRight}
 use Rattle.report_verify.specs.Shown.{ShowsVerdict}
+use Rattle.report_write.specs.Pieces.{report_pieces}
 use Rattle.spec_model.specs.Spec.{Spec}
 use Rattle.spec_model.specs.declared.question.Question.{Question}
-use Rattle.currency_cli.specs.Due.{IsSpecRead, IsQuestionRead, IsReportRead, IsDue, IsReadDue}
+use Rattle.text_write.specs.Pieces.{text_of}
+use Rattle.currency_cli.specs.Due.{Then, IsSpecRead, IsQuestionRead, IsReportRead, IsReportSaid, IsJudged, IsAnswer, IsDue, IsReadDue, answer_text}
 use Rattle.currency_cli.specs.Texts.{accepted_text, trouble_text, trouble_status}
-use Rattle.currency_cli.specs.Words.{Documents, documents_in}
+use Rattle.currency_cli.specs.Words.{command_for}
+use Rattle.currency_cli.specs.declared.done.Done.{Done}
+use Rattle.currency_cli.specs.declared.done.Done.TheVariants.{Accepted, Answered, Forced}
 use Rattle.currency_cli.specs.declared.trouble.Trouble.{Trouble}
 use Rattle.currency_cli.specs.declared.trouble.Trouble.TheVariants.{ReadFault}
 
 -- what an outcome writes
-abbrev pub output_of : Result Kind Trouble → List ℕ
-output_of (Ok kind) = accepted_text kind
+abbrev pub output_of : Result Done Trouble → List ℕ
+output_of (Ok (Accepted kind)) = accepted_text kind
+output_of (Ok (Answered text undecided)) = text
+output_of (Ok (Forced text)) = text
 output_of (Err e) = trouble_text e
 
 -- the status of an outcome whose text was written
-abbrev pub status_of : Result Kind Trouble → ℕ
-status_of (Ok kind) = 0
+abbrev pub status_of : Result Done Trouble → ℕ
+status_of (Ok (Accepted kind)) = 0
+status_of (Ok (Answered text undecided)) = if undecided then 3 else 0
+status_of (Ok (Forced text)) = 0
 status_of (Err e) = trouble_status e
 
 -- the status of an outcome whose text met a failing sink: a refusal comes earlier, so it keeps its own
-abbrev pub failed_status_of : Result Kind Trouble → ℕ
-failed_status_of (Ok kind) = 8
+abbrev pub failed_status_of : Result Done Trouble → ℕ
+failed_status_of (Ok d) = 8
 failed_status_of (Err e) = trouble_status e
 
 -- an outcome ends with a status, its text written whole; or the sink failed, or memory ran out, after a prefix of it
-abbrev pub EndsWith : Option (List ℕ) → Option (List ℕ) → ℕ → ℕ → Result Kind Trouble → ℕ → Type 0
+abbrev pub EndsWith : Option (List ℕ) → Option (List ℕ) → ℕ → ℕ → Result Done Trouble → ℕ → Type 0
 EndsWith old new before now outcome status =
     ((status ≡ status_of outcome) × Appends old new (output_of outcome))
     ⊎ (((status ≡ failed_status_of outcome) × Rose before now × AppendsPrefix old new (output_of outcome))
     ⊎ ((status ≡ 9) × AppendsPrefix old new (output_of outcome)))
+
+-- ---- verify
 
 -- the document of this name is read as a report that shows a verdict of this kind on a specification and a question; and the
 -- verdict is right, if it is a decided one
@@ -48,46 +63,95 @@ pub record IsReportShown (told : List (List ℕ × List ℕ)) (s : Spec) (questi
   pub right : is_decided kind ≡ true → IsRight s question read.report.verdict
 
 -- the documents are read as a specification, a question and such a report on them
-pub record IsShownRight (told : List (List ℕ × List ℕ)) (d : Documents) (kind : Kind) : Type 0 where
+pub record IsShownRight (told : List (List ℕ × List ℕ)) (v : VerifySaid) (kind : Kind) : Type 0 where
   pub spec : Spec
   pub question : Question
-  pub spec_read : IsSpecRead told d.spec (Ok spec)
-  pub question_read : IsQuestionRead told d.question (Ok question)
-  pub report : IsReportShown told spec question d.report kind
+  pub spec_read : IsSpecRead told v.spec (Ok spec)
+  pub question_read : IsQuestionRead told v.question (Ok question)
+  pub report : IsReportShown told spec question v.report kind
 
--- the words name such documents
-pub record NamesShown (told : List (List ℕ × List ℕ)) (words : List (List ℕ)) (kind : Kind) : Type 0 where
-  pub documents : Documents
-  pub named : documents_in words ≡ Some documents
-  pub shown : IsShownRight told documents kind
+-- ---- ask
 
--- the job was done: it is due, the documents show a verdict of this kind, which is right if it is decided, and the sink got
--- the text
-pub record IsAccepted (texts : Option (List (List ℕ × List ℕ))) (words : List (List ℕ)) (old new : Option (List ℕ)) : Type 0 where
-  pub kind : Kind
-  pub due : IfSome texts (λ told. IsDue told words (Ok kind))
-  pub shown : IfSome texts (λ told. NamesShown told words kind)
-  pub text : Appends old new (accepted_text kind)
+-- the documents are read as a specification and a question, and this is the text of a report that answers it; the whole report,
+-- read back, is judged to show its verdict, whatever name it has
+pub record IsAnswerTold (told : List (List ℕ × List ℕ)) (a : AskSaid) (text : List ℕ) (undecided : Bool) : Type 0 where
+  pub spec : Spec
+  pub question : Question
+  pub spec_read : IsSpecRead told a.spec (Ok spec)
+  pub question_read : IsQuestionRead told a.question (Ok question)
+  pub report : Report
+  pub answer : IsAnswer spec question a.budget report
+  pub is_text : text ≡ answer_text spec.relations a.brief report
+  pub decided : is_decided (kind_of report.verdict) ≡ (if undecided then false else true)
+  pub verified : (name : List ℕ) → Then (IsReportSaid spec.relations name (text_of (report_pieces spec.relations report)))
+      (IsJudged spec question name) (Ok (kind_of report.verdict))
+
+-- ---- forced
+
+-- the document is read as a specification, and this is the text of its forced pairs
+pub record AreForcedTold (told : List (List ℕ × List ℕ)) (name text : List ℕ) : Type 0 where
+  pub spec : Spec
+  pub spec_read : IsSpecRead told name (Ok spec)
+  pub forced : IsForcedText spec text
+
+-- ---- the job was done
+
+-- what is told where a command's job is done, and the text that is written
+abbrev pub IsJobDone : List (List ℕ × List ℕ) → CommandSaid → List ℕ → Type 0
+IsJobDone told (VerifyOf v) text = (kind : Kind) × IsShownRight told v kind × (text ≡ accepted_text kind)
+IsJobDone told (AskFor a) text = IsAnswerTold told a text false
+IsJobDone told (ForcedOf name) text = AreForcedTold told name text
+
+-- the words say a command whose job is done: the documents show what is told, and the sink got the text
+pub record IsDone (texts : Option (List (List ℕ × List ℕ))) (count : ℕ) (words : List (List ℕ)) (old new : Option (List ℕ)) : Type 0 where
+  pub command : CommandSaid
+  pub said : command_for count words ≡ Some command
+  pub text : List ℕ
+  pub done : IfSome texts (λ told. IsJobDone told command text)
+  pub written : Appends old new text
+
+-- the words ask a question that was not decided: the sink got the whole report, whose log has as many counted steps as the
+-- budget, each new, and is open; and the budget is less than three to the number of the question's variables
+pub record IsUndecided (texts : Option (List (List ℕ × List ℕ))) (count : ℕ) (words : List (List ℕ)) (old new : Option (List ℕ)) : Type 0 where
+  pub ask : AskSaid
+  pub said : command_for count words ≡ Some (AskFor ask)
+  pub text : List ℕ
+  pub told : IfSome texts (λ told. (t : IsAnswerTold told ask text true) × (t.report.verdict ≡ Undecided ask.budget)
+      × (IsEnough t.spec [] (λ c. 0) ask.budget → ⊥))
+  pub written : Appends old new text
+
+-- ---- the other way round
+
+-- an outcome has a status, its text being written: an answer may be decided or not
+abbrev pub HasStatus : Result Done Trouble → ℕ → Type 0
+HasStatus (Ok (Accepted kind)) status = status ≡ 0
+HasStatus (Ok (Answered text undecided)) status = (status ≡ 0) ⊎ (status ≡ 3)
+HasStatus (Ok (Forced text)) status = status ≡ 0
+HasStatus (Err e) status = status ≡ trouble_status e
 
 -- where an outcome is due, the program ends with its status; or with the one for its text met by a failing sink, or for a
 -- document that could not be read, both where the count of faults rose; or memory ran out
-abbrev pub ComesTo : Result Kind Trouble → ℕ → ℕ → ℕ → ℕ → ℕ → Type 0
+abbrev pub ComesTo : Result Done Trouble → ℕ → ℕ → ℕ → ℕ → ℕ → Type 0
 ComesTo outcome reads_before reads_now writes_before writes_now status =
-    (status ≡ status_of outcome)
+    HasStatus outcome status
     ⊎ (((status ≡ failed_status_of outcome) × Rose writes_before writes_now)
     ⊎ (((status ≡ 7) × Rose reads_before reads_now)
     ⊎ (status ≡ 9)))
+
+-- a question about a specification is answered where both are read: decided or not, unless memory ran out
+abbrev pub ComesToAnswer : ℕ → Type 0
+ComesToAnswer status = (status ≡ 0) ⊎ ((status ≡ 3) ⊎ (status ≡ 9))
 
 -- a status of a refusal: of the words, a report, a document or a bound
 abbrev pub IsRefusal : ℕ → Type 0
 IsRefusal status = (status ≡ 2) ⊎ ((status ≡ 4) ⊎ ((status ≡ 5) ⊎ (status ≡ 6)))
 
 -- a trouble with this status is due
-abbrev pub RefusalDue : List (List ℕ × List ℕ) → List (List ℕ) → ℕ → Type 0
-RefusalDue told words status = (e : Trouble) × IsDue told words (Err e) × (status ≡ trouble_status e)
+abbrev pub RefusalDue : List (List ℕ × List ℕ) → ℕ → List (List ℕ) → ℕ → Type 0
+RefusalDue told count words status = (e : Trouble) × IsDue told count words (Err e) × (status ≡ trouble_status e)
 
 -- the document that could not be read was due, and its name was written, whole or up to a prefix
-pub record NamesUnread (texts : Option (List (List ℕ × List ℕ))) (words : List (List ℕ)) (old new : Option (List ℕ)) : Type 0 where
+pub record NamesUnread (texts : Option (List (List ℕ × List ℕ))) (count : ℕ) (words : List (List ℕ)) (old new : Option (List ℕ)) : Type 0 where
   pub name : List ℕ
-  pub due : IfSome texts (λ told. IsReadDue told words name)
+  pub due : IfSome texts (λ told. IsReadDue told count words name)
   pub text : AppendsPrefix old new (trouble_text (ReadFault name))

@@ -3,3 +3,5 @@ pub mod Named
 pub mod Texts
 pub mod Due
 pub mod Ends
+pub mod Told
+pub mod Alike

@@ -1,13 +1,18 @@
 -- What the code's own types say.
 use Rattle.std.specs.Prelude.{◌≡◌, ℕ, List, Result, Ok, Err}
-use Rattle.currency_cli.specs.Words.{Documents}
-use Rattle.currency_cli.specs.declared.words.Documents.{Documents as Names}
+use Rattle.program_words.specs.Words.{AskSaid, VerifySaid}
+use Rattle.program_words.specs.declared.command.Ask.{Ask}
+use Rattle.program_words.specs.declared.command.Verify.{Verify}
 use Rattle.currency_cli.specs.declared.trouble.Trouble.{Trouble}
 use Rattle.currency_cli.specs.declared.trouble.Trouble.TheVariants.{Words, Unshown, Refused, CopyDiffers, Limit, ReadFault, NoMemory}
 
--- the names of documents, as bytes
-abbrev pub documents_of : Names → Documents
-documents_of d = record { spec = d.spec.now; question = d.question.now; report = d.report.now }
+-- what is asked to be verified, with the names of documents as bytes
+abbrev pub verify_said : Verify → VerifySaid
+verify_said v = record { spec = v.spec.now; question = v.question.now; report = v.report.now }
+
+-- what is asked, with the names of documents as bytes
+abbrev pub ask_said : Ask → AskSaid
+ask_said a = record { spec = a.spec.now; question = a.question.now; budget = a.budget; brief = a.brief; guide = a.guide }
 
 -- a trouble that the words and the documents determine: no fault of the outside, and no want of memory
 abbrev pub IsDetermined : Trouble → Type 0

@@ -1,15 +1,18 @@
--- The words of the program.
-use Rattle.std.specs.Prelude.{ℕ, List, [], ◌∷◌, Option, Some, None, if◌then◌else◌, codes}
-use Rattle.std.specs.Str.{bytes_eq}
+-- The commands that words say, where so many guides are handed in.
+use Rattle.std.specs.Prelude.{ℕ, Bool, true, List, Option, Some, None, nat_le, option_and_then, if◌then◌else◌}
+use Rattle.program_words.specs.Words.{CommandSaid, AskFor, VerifyOf, ForcedOf, command_of}
 
--- the names of the documents that `verify` is about
-pub record Documents : Type 0 where
-  pub spec : List ℕ
-  pub question : List ℕ
-  pub report : List ℕ
+-- the guide that is to be kept, if one is, is among so many, counted from 1
+abbrev pub is_guide : ℕ → Option ℕ → Bool
+is_guide count None = true
+is_guide count (Some k) = nat_le k count
 
--- a program's name, the word `verify` and three words
-abbrev pub documents_in : List (List ℕ) → Option Documents
-documents_in (program ∷ command ∷ spec ∷ question ∷ report ∷ []) =
-    if bytes_eq command (codes "verify") then Some record { spec = spec; question = question; report = report } else None
-documents_in _ = None
+-- the command, if the guide that it keeps is there
+abbrev pub with_guides : ℕ → CommandSaid → Option CommandSaid
+with_guides count (AskFor a) = if is_guide count a.guide then Some (AskFor a) else None
+with_guides count (VerifyOf v) = Some (VerifyOf v)
+with_guides count (ForcedOf name) = Some (ForcedOf name)
+
+-- the command that words say where so many guides are handed in; none where they are refused
+abbrev pub command_for : ℕ → List (List ℕ) → Option CommandSaid
+command_for count words = option_and_then (with_guides count) (command_of words)

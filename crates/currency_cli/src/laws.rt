@@ -1,6 +1,9 @@
 ghost use Rattle.std.specs.Prelude.{◌≡◌, ℕ, List, Result};
-ghost use Rattle.currency_cli.specs.Due.{IsDue};
-ghost use Rattle.report_model.specs.declared.verdict.Kind.{Kind};
+ghost use Rattle.currency_cli.specs.Due.{IsDue, IsSpecRead, IsQuestionRead};
+ghost use Rattle.currency_cli.specs.Alike.{AreAlike};
+ghost use Rattle.currency_cli.specs.declared.done.Done.{Done};
+ghost use Rattle.spec_model.specs.Spec.{Spec};
+ghost use Rattle.spec_model.specs.declared.question.Question.{Question};
 ghost use Rattle.currency_cli.specs.declared.trouble.Trouble.{Trouble};
 
 use report_syntax::one_report;
@@ -8,10 +11,10 @@ use report_verify::{first_unshown_is_not_shown, first_unshown_is_one};
 use spec_bind::one_outcome;
 use spec_syntax::{one_question, one_specification};
 
-/// A law: what is due for words and told documents is determined.
+/// A law: what is due for words and told documents is determined, but for which report answers a question.
 pub fn one_due()
-    ensures { (told : List (List ℕ × List ℕ)) (words : List (List ℕ)) (a b : Result Kind Trouble)
-        → IsDue told words a → IsDue told words b → a ≡ b }
+    ensures { (told : List (List ℕ × List ℕ)) (count : ℕ) (words : List (List ℕ)) (a b : Result Done Trouble)
+        → IsDue told count words a → IsDue told count words b → AreAlike a b }
 {
     one_specification();
     one_question();
@@ -19,4 +22,16 @@ pub fn one_due()
     one_outcome();
     first_unshown_is_one();
     first_unshown_is_not_shown();
+}
+
+/// A law: a told document is read as one specification, and as one question.
+pub fn one_read()
+    ensures specs { (told : List (List ℕ × List ℕ)) (name : List ℕ) (a b : Result Spec Trouble)
+        → IsSpecRead told name a → IsSpecRead told name b → a ≡ b }
+    ensures questions { (told : List (List ℕ × List ℕ)) (name : List ℕ) (a b : Result Question Trouble)
+        → IsQuestionRead told name a → IsQuestionRead told name b → a ≡ b }
+{
+    one_specification();
+    one_question();
+    one_outcome();
 }

@@ -1,31 +1,61 @@
-ghost use Rattle.std.specs.Prelude.{◌≡◌, ◌≢◌, ◌⊎◌, ◌≤◌, ℕ, List, IfSome, None, Ok, Err, Result, map, string_bytes};
+ghost use Rattle.std.specs.Prelude.{◌≡◌, ◌≢◌, ◌⊎◌, ℕ, List, IfOk, IfSome, None, Some, Ok, Err, Result, map, string_bytes};
 ghost use Rattle.currency_edge.specs.Fault.{Rose};
 ghost use Rattle.currency_edge.specs.Sink.{AppendsPrefix};
-ghost use Rattle.currency_cli.specs.Due.{IsDue, IsReadDue};
-ghost use Rattle.currency_cli.specs.Ends.{EndsWith, ComesTo, status_of, IsRefusal, RefusalDue, IsAccepted, NamesUnread};
+ghost use Rattle.currency_cli.specs.Due.{IsDue, IsReadDue, IsSpecRead, IsQuestionRead};
+ghost use Rattle.currency_cli.specs.Ends.{EndsWith, output_of, status_of, ComesTo, ComesToAnswer, HasStatus, IsRefusal, RefusalDue, IsDone, IsUndecided, NamesUnread};
 ghost use Rattle.currency_cli.specs.Named.{IsSettled, IsReadFault, IsReadFaultOf};
-ghost use Rattle.currency_cli.specs.Texts.{accepted_text, trouble_status};
-ghost use Rattle.currency_cli.specs.Words.{documents_in};
+ghost use Rattle.currency_cli.specs.Texts.{trouble_status};
+ghost use Rattle.currency_cli.specs.Words.{command_for};
+ghost use Rattle.currency_cli.specs.declared.done.Done.{Done};
+ghost use Rattle.program_words.specs.Words.{AskSaid, AskFor};
+ghost use Rattle.solver_guides.specs.Rings.{count_of};
+ghost use Rattle.spec_model.specs.Spec.{Spec};
+ghost use Rattle.spec_model.specs.declared.question.Question.{Question};
 ghost use Rattle.currency_cli.specs.declared.trouble.Trouble.{Trouble};
-ghost use Rattle.report_model.specs.declared.verdict.Kind.{Kind};
 
-use crate::Trouble;
-use crate::laws::one_due;
-use crate::stages::outcome;
+use crate::commands::outcome;
+use crate::laws::{one_due, one_read};
 use crate::texts::{accepted_line, text_of};
+use crate::{Done, Trouble};
+use currency_base::{ByteList, NoMemory};
 use currency_edge::{Shelf, Sink, SinkFault, put_all};
-use report_model::Kind;
+use solver_guides::Guides;
 use std::alloc::Global;
 
-// Writes the text of a job that was done.
-fn hand_out<K: Sink>(alloc: Global, out: &mut K, kind: Kind) -> u8
-    ensures { EndsWith (K.written out.old) (K.written out.new) (K.faults out.old) (K.faults out.new) (Ok kind) result }
+// The text of what a command came to.
+fn done_text(alloc: Global, done: Done) -> Result<ByteList, NoMemory>
+    ensures { IfOk result (λ text. text ≡ output_of (Ok done)) }
 {
-    let Ok(text) = accepted_line(alloc, kind) else {
+    match done {
+        Done::Accepted(kind) => accepted_line(alloc, kind),
+        Done::Answered { text, .. } => Ok(text),
+        Done::Forced(text) => Ok(text),
+    }
+}
+
+// The status of what a command came to, whose text is written.
+fn done_status(done: &Done) -> u8
+    ensures { result ≡ status_of (Ok done.now) }
+{
+    match done {
+        Done::Answered {
+            undecided: true,
+            ..
+        } => 3,
+        _ => 0,
+    }
+}
+
+// Writes the text of what a command came to.
+fn hand_out<K: Sink>(alloc: Global, out: &mut K, done: Done) -> u8
+    ensures { EndsWith (K.written out.old) (K.written out.new) (K.faults out.old) (K.faults out.new) (Ok done) result }
+{
+    let status = done_status(&done);
+    let Ok(text) = done_text(alloc, done) else {
         return 9;
     };
     match put_all(alloc, out, text.as_slice()) {
-        Ok(()) => 0,
+        Ok(()) => status,
         Err(SinkFault::Failed) => 8,
         Err(SinkFault::NoMemory) => 9,
     }
@@ -61,58 +91,78 @@ fn refuse<K: Sink>(alloc: Global, out: &mut K, trouble: &Trouble) -> u8
 }
 
 /// Runs the program: reads the documents that the words name, does the job, and writes its text. The
-/// whole text is made first. The answer is the exit status:
+/// whole text is made first. The guides steer the search of `ask`, whatever they pick. The answer is the exit
+/// status:
 ///
 /// | status | comes |
 /// |---|---|
-/// | 0 | the report shows its verdict, which is right where it is a decided one |
-/// | 2 | the words are not a program's name, `verify` and three words |
+/// | 0 | the job was done: the question is decided, the report shows its verdict, or the forced pairs are listed |
+/// | 2 | the words are no command, or keep a guide that is not there |
+/// | 3 | the budget is spent; the text is the whole report, which says `undecided` |
 /// | 4 | the report does not show its verdict |
 /// | 5 | a document is refused |
 /// | 6 | a limit is exceeded |
 /// | 7 | the shelf could not give a document |
-/// | 8 | the sink could not take the text of status 0 |
+/// | 8 | the sink could not take the text of status 0 or 3 |
 /// | 9 | want of memory |
-pub fn run<S: Shelf, K: Sink>(alloc: Global, words: &[String], shelf: &mut S, out: &mut K) -> u8
+pub fn run<S: Shelf, K: Sink>(
+    alloc: Global,
+    words: &[String],
+    shelf: &mut S,
+    out: &mut K,
+    guides: &mut Guides,
+) -> u8
     // Whatever comes, it is what is due for the words and the told documents, with its text and status.
-    ensures ends { (outcome : Result Kind Trouble)
-        × (IsSettled outcome → IfSome (S.texts shelf.old) (λ told. IsDue told (map (λ w. string_bytes w) words.now) outcome))
+    ensures ends { (outcome : Result Done Trouble)
+        × (IsSettled outcome → IfSome (S.texts shelf.old) (λ told. IsDue told (count_of guides.old) (map (λ w. string_bytes w) words.now) outcome))
         × (IsReadFault outcome → Rose (S.faults shelf.old) (S.faults shelf.new))
-        × ((n : List ℕ) → IsReadFaultOf outcome n → IfSome (S.texts shelf.old) (λ told. IsReadDue told (map (λ w. string_bytes w) words.now) n))
+        × ((n : List ℕ) → IsReadFaultOf outcome n → IfSome (S.texts shelf.old) (λ told. IsReadDue told (count_of guides.old) (map (λ w. string_bytes w) words.now) n))
         × EndsWith (K.written out.old) (K.written out.new) (K.faults out.old) (K.faults out.new) outcome result }
 
     // The other way round: where an outcome is due, the answer is its status, unless the outside fails.
-    ensures exact { (outcome : Result Kind Trouble) → IfSome (S.texts shelf.old) (λ told.
-        IsDue told (map (λ w. string_bytes w) words.now) outcome
+    ensures exact { (outcome : Result Done Trouble) → IfSome (S.texts shelf.old) (λ told.
+        IsDue told (count_of guides.old) (map (λ w. string_bytes w) words.now) outcome
         → ComesTo outcome (S.faults shelf.old) (S.faults shelf.new) (K.faults out.old) (K.faults out.new) result) }
 
     ensures complete { (Rose (S.faults shelf.old) (S.faults shelf.new) → ⊥) → (Rose (K.faults out.old) (K.faults out.new) → ⊥)
-        → (outcome : Result Kind Trouble) → IfSome (S.texts shelf.old) (λ told.
-        IsDue told (map (λ w. string_bytes w) words.now) outcome → (result ≡ status_of outcome) ⊎ (result ≡ 9)) }
+        → (outcome : Result Done Trouble) → IfSome (S.texts shelf.old) (λ told.
+        IsDue told (count_of guides.old) (map (λ w. string_bytes w) words.now) outcome → HasStatus outcome result ⊎ (result ≡ 9)) }
+
+    // A question about a specification is answered, where both are read.
+    ensures answered { (Rose (S.faults shelf.old) (S.faults shelf.new) → ⊥) → (Rose (K.faults out.old) (K.faults out.new) → ⊥)
+        → (a : AskSaid) → command_for (count_of guides.old) (map (λ w. string_bytes w) words.now) ≡ Some (AskFor a)
+        → (s : Spec) (question : Question) → IfSome (S.texts shelf.old) (λ told.
+        IsSpecRead told a.spec (Ok s) → IsQuestionRead told a.question (Ok question) → ComesToAnswer result) }
 
     // A refusal of the words, a document, a bound or the report is due.
     ensures refused { IsRefusal result → IfSome (S.texts shelf.old) (λ told.
-        RefusalDue told (map (λ w. string_bytes w) words.now) result) }
+        RefusalDue told (count_of guides.old) (map (λ w. string_bytes w) words.now) result) }
 
-    // The words alone decide whether they are refused.
-    ensures words { result ≡ 2 → documents_in (map (λ w. string_bytes w) words.now) ≡ None }
-    ensures words_refused { documents_in (map (λ w. string_bytes w) words.now) ≡ None → (result ≡ 2) ⊎ (result ≡ 9) }
+    // The words, and how many guides are handed in, decide whether they are refused.
+    ensures words { result ≡ 2 → command_for (count_of guides.old) (map (λ w. string_bytes w) words.now) ≡ None }
+    ensures words_refused { command_for (count_of guides.old) (map (λ w. string_bytes w) words.now) ≡ None → (result ≡ 2) ⊎ (result ≡ 9) }
 
-    // The job was done. No report whose decided verdict is wrong is accepted, whoever made it.
-    ensures accepted { result ≡ 0
-        → IsAccepted (S.texts shelf.old) (map (λ w. string_bytes w) words.now) (K.written out.old) (K.written out.new) }
+    // The job was done. Each decided verdict that is printed is right: the listed completions and the derivation show it, and
+    // `verify` accepts the whole report. No report whose decided verdict is wrong is accepted, whoever made it.
+    ensures done { result ≡ 0
+        → IsDone (S.texts shelf.old) (count_of guides.old) (map (λ w. string_bytes w) words.now) (K.written out.old) (K.written out.new) }
+
+    // The budget is spent: so many clauses were learned, each new, and unit propagation does not refute them.
+    ensures undecided { result ≡ 3
+        → IsUndecided (S.texts shelf.old) (count_of guides.old) (map (λ w. string_bytes w) words.now) (K.written out.old) (K.written out.new) }
 
     // Faults of the outside.
     ensures read_fault { result ≡ 7 → Rose (S.faults shelf.old) (S.faults shelf.new) }
     ensures read_fault_text { result ≡ 7
-        → NamesUnread (S.texts shelf.old) (map (λ w. string_bytes w) words.now) (K.written out.old) (K.written out.new) }
+        → NamesUnread (S.texts shelf.old) (count_of guides.old) (map (λ w. string_bytes w) words.now) (K.written out.old) (K.written out.new) }
     ensures write_fault { result ≡ 8 → Rose (K.faults out.old) (K.faults out.new) }
     ensures write_fault_text { result ≡ 8
-        → (kind : Kind) × AppendsPrefix (K.written out.old) (K.written out.new) (accepted_text kind) }
+        → (done : Done) × AppendsPrefix (K.written out.old) (K.written out.new) (output_of (Ok done)) }
 {
     one_due();
-    match outcome(alloc, words, shelf) {
-        Ok(kind) => hand_out(alloc, out, kind),
+    one_read();
+    match outcome(alloc, words, shelf, guides) {
+        Ok(done) => hand_out(alloc, out, done),
         Err(trouble) => refuse(alloc, out, &trouble),
     }
 }

@@ -1,25 +1,60 @@
-ghost use Rattle.std.specs.Prelude.{◌≡◌, map, option_map, string_bytes};
-ghost use Rattle.currency_cli.specs.Words.{documents_in};
-ghost use Rattle.currency_cli.specs.Named.{documents_of};
+ghost use Rattle.std.specs.Prelude.{◌≡◌, ◌<◌, ◌⊎◌, ◌-◌, ℕ, Bool, true, List, Option, None, Some, IfOk, IfErr, if◌then◌else◌, map, string_bytes};
+ghost use Rattle.program_words.specs.Said.{said_of};
+ghost use Rattle.currency_cli.specs.Words.{command_for, is_guide, with_guides};
+ghost use Rattle.solver_guides.specs.Rings.{count_of};
 
-/// The names of the documents that `verify` is about.
-#[derive(Clone, Copy, Debug)]
-pub struct Documents<'a> {
-    pub spec: &'a str,
-    pub question: &'a str,
-    pub report: &'a str,
+use crate::Trouble;
+use program_words::{Command, WordsFault, command_given};
+use solver_guides::Guides;
+use std::alloc::Global;
+
+// Keeps the one guide that is asked for, counted from 1, if one is. Answers whether it is there; where it is not, all stay.
+fn keep_guide(guides: &mut Guides, guide: Option<u64>) -> bool
+    ensures { result ≡ is_guide (count_of guides.old) guide }
+{
+    let Some(number) = guide else {
+        return true;
+    };
+    // guides count from 1
+    let Some(place) = number.checked_sub(1) else {
+        return true;
+    };
+    if place >= guides.len() as u64 {
+        return false;
+    }
+    guides.keep(place as usize);
+    true
 }
 
-/// The documents that the words name, where they are a program's name, `verify` and three words.
-pub fn documents_in(words: &[String]) -> Option<Documents<'_>>
-    ensures { option_map documents_of result ≡ documents_in (map (λ w. string_bytes w) words.now) }
+// Keeps the guide that a command asks for, if it asks for one. Answers whether it is there.
+fn keep_for(guides: &mut Guides, command: &Command<'_>) -> bool
+    ensures { with_guides (count_of guides.old) (said_of command.now) ≡ (if result then Some (said_of command.now) else None) }
 {
-    match words {
-        [_, command, spec, question, report] if command.as_str() == "verify" => Some(Documents {
-            spec: spec.as_str(),
-            question: question.as_str(),
-            report: report.as_str(),
-        }),
-        _ => None,
+    match command {
+        Command::Ask(asked) => keep_guide(guides, asked.guide),
+        Command::Verify(_) => true,
+        Command::Forced(_) => true,
+    }
+}
+
+/// The command that words say, where so many guides are handed in; the guide that it asks for is kept.
+pub fn command_kept<'a>(
+    alloc: Global,
+    words: &'a [String],
+    guides: &mut Guides,
+) -> Result<Command<'a>, Trouble>
+    ensures taken { IfOk result (λ c. command_for (count_of guides.old) (map (λ w. string_bytes w) words.entry.now) ≡ Some (said_of c)) }
+    ensures refused { IfErr result (λ e. e ≡ Trouble.Words → command_for (count_of guides.old) (map (λ w. string_bytes w) words.entry.now) ≡ None) }
+    ensures causes { IfErr result (λ e. (e ≡ Trouble.Words) ⊎ (e ≡ Trouble.NoMemory)) }
+{
+    let command = match command_given(alloc, words) {
+        Ok(command) => command,
+        Err(WordsFault::Refused) => return Err(Trouble::Words),
+        Err(WordsFault::NoMemory) => return Err(Trouble::NoMemory),
+    };
+    if keep_for(guides, &command) {
+        Ok(command)
+    } else {
+        Err(Trouble::Words)
     }
 }

@@ -3,7 +3,8 @@
 
 use currency_base::NoMemory;
 use currency_cli::run;
-use currency_edge::{MemoryShelf, MemorySink};
+use currency_edge::{MemoryShelf, MemorySink, Shelf, Sink};
+use solver_guides::Guides;
 use std::alloc::Global;
 
 /// A specification of one relation.
@@ -65,13 +66,33 @@ pub fn words_of(alloc: Global, words: &[&str]) -> Result<Vec<String>, NoMemory> 
     Ok(all)
 }
 
-/// The status and the sink of `currency verify s q p` over these documents.
-pub fn verified(alloc: Global, documents: Documents<'_>) -> Result<(u8, MemorySink), NoMemory> {
+/// The status and the sink of these words over these documents, with no guide.
+pub fn asked(
+    alloc: Global,
+    documents: Documents<'_>,
+    words: &[&str],
+) -> Result<(u8, MemorySink), NoMemory> {
     let mut shelf = shelf_of(alloc, documents)?;
     let mut sink = MemorySink::new(alloc);
-    let words = words_of(alloc, &["currency", "verify", "s", "q", "p"])?;
-    let status = run(alloc, words.as_slice(), &mut shelf, &mut sink);
+    let words = words_of(alloc, words)?;
+    let status = run_with_no_guide(alloc, words.as_slice(), &mut shelf, &mut sink);
     Ok((status, sink))
+}
+
+/// The status and the sink of `currency verify s q p` over these documents.
+pub fn verified(alloc: Global, documents: Documents<'_>) -> Result<(u8, MemorySink), NoMemory> {
+    asked(alloc, documents, &["currency", "verify", "s", "q", "p"])
+}
+
+/// The status of a run with no guide: a search assumes the first free variable to be false.
+pub fn run_with_no_guide<S: Shelf, K: Sink>(
+    alloc: Global,
+    words: &[String],
+    shelf: &mut S,
+    sink: &mut K,
+) -> u8 {
+    let mut guides = Guides::new(Vec::new(alloc));
+    run(alloc, words, shelf, sink, &mut guides)
 }
 
 /// The documents with one of them changed: `s`, `r.csv`, `q` or `p`, by its place.

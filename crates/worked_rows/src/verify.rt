@@ -1,8 +1,9 @@
 use crate::documents::expect;
-use currency_cli::run;
 use currency_edge::MemorySink;
 use std::test::Fail;
-use worked_documents::{ACCEPTED, Documents, P, first, shelf_of, with, with_line, words_of};
+use worked_documents::{
+    ACCEPTED, Documents, P, first, run_with_no_guide, shelf_of, with, with_line, words_of,
+};
 
 #[test]
 fn a_shown_report_is_accepted(rt: HostRuntime) -> Result<(), Fail> {
@@ -102,7 +103,10 @@ fn faults_of_the_outside_have_their_status(rt: HostRuntime) -> Result<(), Fail> 
     let mut shelf = shelf_of(alloc, first())?;
     shelf.fail_at(4);
     let mut sink = MemorySink::new(alloc);
-    assert_eq!(rt; run(alloc, words.as_slice(), &mut shelf, &mut sink), 7);
+    assert_eq!(rt;
+        run_with_no_guide(alloc, words.as_slice(), &mut shelf, &mut sink),
+        7
+    );
     assert_eq!(rt; sink.written(), b"read fault p\n".as_slice());
     // The second of two tables.
     let two = with_line(alloc, first().s, "orders R from \"o.csv\";\n")?;
@@ -116,12 +120,18 @@ fn faults_of_the_outside_have_their_status(rt: HostRuntime) -> Result<(), Fail> 
     let mut shelf = shelf_of(alloc, documents)?;
     shelf.fail_at(3);
     let mut sink = MemorySink::new(alloc);
-    assert_eq!(rt; run(alloc, words.as_slice(), &mut shelf, &mut sink), 7);
+    assert_eq!(rt;
+        run_with_no_guide(alloc, words.as_slice(), &mut shelf, &mut sink),
+        7
+    );
     assert_eq!(rt; sink.written(), b"read fault o.csv\n".as_slice());
     let mut shelf = shelf_of(alloc, first())?;
     let mut sink = MemorySink::new(alloc);
     sink.fail_after(3);
-    assert_eq!(rt; run(alloc, words.as_slice(), &mut shelf, &mut sink), 8);
+    assert_eq!(rt;
+        run_with_no_guide(alloc, words.as_slice(), &mut shelf, &mut sink),
+        8
+    );
     assert_eq!(rt; sink.written(), b"acc".as_slice());
     Ok(())
 }
@@ -132,11 +142,17 @@ fn words_are_refused(rt: HostRuntime) -> Result<(), Fail> {
     let words = words_of(alloc, &["currency", "verify", "s", "q"])?;
     let mut shelf = shelf_of(alloc, first())?;
     let mut sink = MemorySink::new(alloc);
-    assert_eq!(rt; run(alloc, words.as_slice(), &mut shelf, &mut sink), 2);
+    assert_eq!(rt;
+        run_with_no_guide(alloc, words.as_slice(), &mut shelf, &mut sink),
+        2
+    );
     assert_eq!(rt; sink.written(), b"words refused\n".as_slice());
     let mut sink = MemorySink::new(alloc);
     sink.fail_after(0);
-    assert_eq!(rt; run(alloc, words.as_slice(), &mut shelf, &mut sink), 2);
+    assert_eq!(rt;
+        run_with_no_guide(alloc, words.as_slice(), &mut shelf, &mut sink),
+        2
+    );
     assert_eq!(rt; sink.written(), b"".as_slice());
     Ok(())
 }

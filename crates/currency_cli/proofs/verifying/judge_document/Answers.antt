@@ -1,5 +1,5 @@
 use Rattle.currency_cli.proofs.Accepted.{report_shown}
-use Rattle.currency_cli.proofs.stages.judge_document.Goals as goal
+use Rattle.currency_cli.proofs.verifying.judge_document.Goals as goal
 
 pub returns-in-Ok-clause-right : goal.returns-in-Ok-clause-right
 returns-in-Ok-clause-right g c =

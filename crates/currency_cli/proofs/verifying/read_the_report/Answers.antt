@@ -1,6 +1,6 @@
 use Rattle.currency_cli.specs.Due.{IsReportSaid}
 use Rattle.currency_cli.proofs.WholeTexts.{of_whole_document}
-use Rattle.currency_cli.proofs.stages.read_the_report.Goals as goal
+use Rattle.currency_cli.proofs.verifying.read_the_report.Goals as goal
 
 pub returns-clause-stage : goal.returns-clause-stage
 returns-clause-stage g c settled =

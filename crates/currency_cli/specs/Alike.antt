@@ -1,0 +1,13 @@
+-- Outcomes that differ in no more than which report answers a question.
+use Rattle.std.specs.Prelude.{◌≡◌, Result, Ok, Err}
+use Rattle.currency_cli.specs.declared.done.Done.{Done}
+use Rattle.currency_cli.specs.declared.done.Done.TheVariants.{Accepted, Answered, Forced}
+use Rattle.currency_cli.specs.declared.trouble.Trouble.{Trouble}
+
+-- one outcome, or two answers to a question, or two texts of forced pairs
+abbrev pub AreAlike : Result Done Trouble → Result Done Trouble → Type 0
+AreAlike (Ok (Accepted kind)) b = b ≡ Ok (Accepted kind)
+AreAlike (Ok (Answered text undecided)) (Ok (Answered other_text other)) = Unit {0}
+AreAlike (Ok (Forced text)) (Ok (Forced other)) = Unit {0}
+AreAlike (Err e) b = b ≡ Err e
+AreAlike a b = ⊥

@@ -1,0 +1,65 @@
+ghost use Rattle.std.specs.Prelude.{◌≡◌, ◌≢◌, ◌⊎◌, ℕ, List, IfErr, None, Err, ◌≤◌, IfOk, IfSome, map, string_bytes};
+ghost use Rattle.currency_edge.specs.Fault.{Rose};
+ghost use Rattle.program_words.specs.Said.{said_of};
+ghost use Rattle.solver_guides.specs.Rings.{count_of};
+ghost use Rattle.currency_cli.specs.Told.{IsOutcomeOf, IsTold, IsToldFor};
+ghost use Rattle.currency_cli.specs.Due.{IsDueFor, IsDue, IsDocumentDue, IsReadDue};
+ghost use Rattle.currency_cli.specs.Words.{command_for};
+ghost use Rattle.currency_cli.specs.Named.{IsSettled, IsReadFault, IsReadFaultOf};
+
+use crate::asking::ask_documents;
+use crate::forcing::forced_document;
+use crate::verifying::verified;
+use crate::words::command_kept;
+use crate::{Done, Trouble};
+use currency_edge::Shelf;
+use program_words::Command;
+use solver_guides::Guides;
+use std::alloc::Global;
+
+// What is due for a command, unless the outside fails or memory runs out.
+fn outcome_of<S: Shelf>(
+    alloc: Global,
+    command: Command<'_>,
+    shelf: &mut S,
+    guides: &mut Guides,
+) -> Result<Done, Trouble>
+    ensures later { S.faults shelf.old ≤ S.faults shelf.new }
+    ensures due { IsSettled result → IfSome (S.texts shelf.old) (λ told. IsDueFor told (said_of command.entry) result) }
+    ensures kind { IfOk result (IsOutcomeOf (said_of command.entry)) }
+    ensures told { IfOk result (λ done. IfSome (S.texts shelf.old) (λ told. IsTold told (said_of command.entry) done)) }
+    ensures read_fault { IsReadFault result → Rose (S.faults shelf.old) (S.faults shelf.new) }
+    ensures unread { (n : List ℕ) → IsReadFaultOf result n
+        → IfSome (S.texts shelf.old) (λ told. IsDocumentDue told (said_of command.entry) n) }
+    ensures not_words { IfErr result (λ e. e ≢ Trouble.Words) }
+{
+    match command {
+        Command::Verify(asked) => verified(alloc, shelf, asked),
+        Command::Ask(asked) => ask_documents(alloc, shelf, asked, guides),
+        Command::Forced(name) => forced_document(alloc, shelf, name),
+    }
+}
+
+/// What is due for the words, where so many guides are handed in, unless the outside fails or memory runs out: what the
+/// command came to, else the first trouble.
+pub fn outcome<S: Shelf>(
+    alloc: Global,
+    words: &[String],
+    shelf: &mut S,
+    guides: &mut Guides,
+) -> Result<Done, Trouble>
+    ensures later { S.faults shelf.old ≤ S.faults shelf.new }
+    ensures due { IsSettled result → IfSome (S.texts shelf.old) (λ told. IsDue told (count_of guides.old) (map (λ w. string_bytes w) words.now) result) }
+    ensures told { IfOk result (λ done. IsToldFor (S.texts shelf.old) (count_of guides.old) (map (λ w. string_bytes w) words.now) done) }
+    ensures read_fault { IsReadFault result → Rose (S.faults shelf.old) (S.faults shelf.new) }
+    ensures unread { (n : List ℕ) → IsReadFaultOf result n
+        → IfSome (S.texts shelf.old) (λ told. IsReadDue told (count_of guides.old) (map (λ w. string_bytes w) words.now) n) }
+    ensures words { result ≡ Err Trouble.Words → command_for (count_of guides.old) (map (λ w. string_bytes w) words.now) ≡ None }
+    ensures words_refused { command_for (count_of guides.old) (map (λ w. string_bytes w) words.now) ≡ None
+        → (result ≡ Err Trouble.Words) ⊎ (result ≡ Err Trouble.NoMemory) }
+{
+    match command_kept(alloc, words, guides) {
+        Ok(command) => outcome_of(alloc, command, shelf, guides),
+        Err(trouble) => Err(trouble),
+    }
+}

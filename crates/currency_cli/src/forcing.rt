@@ -1,0 +1,49 @@
+ghost use Rattle.std.specs.Prelude.{◌≡◌, ◌≢◌, ℕ, List, [], IfErr, ◌≤◌, IfOk, IfSome};
+ghost use Rattle.currency_edge.specs.Fault.{Rose};
+ghost use Rattle.program_words.specs.Words.{ForcedOf};
+ghost use Rattle.bound_spec.specs.Growth.{IsWithinLimits};
+ghost use Rattle.currency_cli.specs.Told.{IsOutcomeOf, IsTold};
+ghost use Rattle.currency_cli.specs.Due.{IsForcedDue, IsForcedTold, IsDocumentDue};
+ghost use Rattle.currency_cli.specs.Named.{IsSettled, IsReadFault, IsReadFaultOf};
+
+use crate::stages::read_specification;
+use crate::{Done, Trouble};
+use currency_edge::Shelf;
+use forced_closure::close;
+use forced_write::write_forced;
+use spec_model::Specification;
+use std::alloc::Global;
+
+// The job of `forced`: the forced pairs, as a text.
+fn told_forced(alloc: Global, spec: &Specification) -> Result<Done, Trouble>
+    requires within { IsWithinLimits spec.now }
+    ensures job { IsSettled result → IsForcedTold spec.now result }
+    ensures kind { IfOk result (IsOutcomeOf (ForcedOf [])) }
+    ensures inside { IsReadFault result → ⊥ }
+    ensures not_words { IfErr result (λ e. e ≢ Trouble.Words) }
+{
+    let Ok(closure) = close(alloc, spec) else {
+        return Err(Trouble::NoMemory);
+    };
+    match write_forced(alloc, spec, &closure) {
+        Ok(text) => Ok(Done::Forced(text)),
+        Err(_) => Err(Trouble::NoMemory),
+    }
+}
+
+/// All stages of `forced`.
+pub fn forced_document<S: Shelf>(alloc: Global, shelf: &mut S, name: &str) -> Result<Done, Trouble>
+    ensures later { S.faults shelf.old ≤ S.faults shelf.new }
+    ensures due { IsSettled result → IfSome (S.texts shelf.old) (λ told. IsForcedDue told name.now result) }
+    ensures kind { IfOk result (IsOutcomeOf (ForcedOf name.now)) }
+    ensures told { IfOk result (λ done. IfSome (S.texts shelf.old) (λ told. IsTold told (ForcedOf name.now) done)) }
+    ensures read_fault { IsReadFault result → Rose (S.faults shelf.old) (S.faults shelf.new) }
+    ensures unread { (n : List ℕ) → IsReadFaultOf result n
+        → IfSome (S.texts shelf.old) (λ told. IsDocumentDue told (ForcedOf name.now) n) }
+    ensures not_words { IfErr result (λ e. e ≢ Trouble.Words) }
+{
+    match read_specification(alloc, shelf, name) {
+        Ok(spec) => told_forced(alloc, &spec),
+        Err(trouble) => Err(trouble),
+    }
+}
