@@ -28,6 +28,22 @@ def run(folder, wanted):
     return spent, usage.ru_maxrss / 1024
 
 
+def timed(folder, words, statuses=(0,)):
+    """The seconds, the megabytes and the output of one run with these words over the documents of a folder, which is to
+    end with one of these statuses. The output goes to a file first, so that reading it takes no part in the time."""
+    with open(os.path.join(folder, "said"), "wb+") as said:
+        begin = time.perf_counter()
+        child = subprocess.Popen([PROGRAM, *words], cwd=folder, stdout=said)
+        _, status, usage = os.wait4(child.pid, 0)
+        spent = time.perf_counter() - begin
+        child.returncode = os.waitstatus_to_exitcode(status)
+        said.seek(0)
+        text = said.read()
+    if child.returncode not in statuses:
+        sys.exit(f"unexpected end: {' '.join(words)}: status {child.returncode}, {text[:200]!r}")
+    return spent, usage.ru_maxrss / 1024, text
+
+
 def end(above):
     """Tells what is beyond its mark, and ends with status 1 where something is."""
     for line in above:

@@ -1,6 +1,7 @@
-use crate::solve::{Family, solve};
+use crate::solve::solve;
 use crate::walks::walk;
 use currency_base::NoMemory;
+use made_clauses::Family;
 use std::alloc::Global;
 
 /// What is done.

@@ -2,9 +2,11 @@
 #![tactic(auto)]
 
 mod families;
+mod family;
 mod source;
 mod variables;
 
 pub use families::{ordering, pigeons, random};
+pub use family::{Family, Searched, search_with};
 pub use source::Source;
 pub use variables::{add, solver};

@@ -3,7 +3,11 @@
 #![tactic(auto)]
 
 #[cfg(test)]
+mod forced;
+#[cfg(test)]
 mod grounded;
+#[cfg(test)]
+mod guessed;
 #[cfg(test)]
 mod ordered;
 #[cfg(test)]

@@ -1,0 +1,212 @@
+#!/usr/bin/env python3
+"""How the time of `currency ask`, of `verify` of its report and of `forced` grows with the rows of a specification, and
+how it compares with an outside solver on the same clauses.
+
+The first family has rows in entities of 8: given chains (some of them broken), a value rule, two order rules and a copy.
+The second family is near the limits on pairs of rows and on instances: entities of 4 and of 64. Runs the program as
+built, and prints per command and N the time per row, its ratio to the smallest N, and the peak memory; and where the
+program `bench_ask` is built (`rt run` in its folder), what the log of the search came to, with how many axioms on three rows
+were brought in. Where Debian's
+`cadical` is installed, the clauses of the first family are written for it too (with the axioms on three rows of all
+lists, which `currency` brings in only where a list goes round), and the ratio of the times is printed. Where a case is
+above a mark, this is said and the exit status is 1."""
+import pathlib
+import shutil
+import subprocess
+import tempfile
+import time
+
+from runs import ROOT, build, end, timed
+
+SEARCH = ROOT / "crates" / "bench_ask" / "out" / "bench_ask"
+
+SIZES = [1_000, 10_000, 100_000]
+ENTITY = 8
+MOST_RATIO = 3
+MOST_SECONDS = 10
+MOST_MEGABYTES = 1_300
+OUTSIDE = 10_000
+
+SPEC = """relation item from "item.csv" row id entity eid (a: int, b: int, c: int, d: int);
+relation view from "view.csv" row id entity eid (e: int);
+orders item from "given.csv";
+rule values on item (s, t): if s.a < t.a then s before t in a;
+rule follow on item (s, t): if s before t in b then s before t in c;
+rule both on item (s, t): if s before t in a and s before t in c then s before t in d;
+copy mirror into view (e) from item (c) using "copy.csv";
+"""
+
+
+def rank(entity, row):
+    """The place of a row in the hidden order of its entity."""
+    return (3 * row + entity) % ENTITY
+
+
+def table(path, header, records):
+    with open(path, "w") as out:
+        out.write(header + "\n")
+        out.writelines(record + "\n" for record in records)
+
+
+def given_of(entity):
+    """The known pairs of an entity: a chain, which is whole for each second entity."""
+    rows = sorted(range(ENTITY), key=lambda row: rank(entity, row))
+    return [
+        (rows[place], rows[place + 1])
+        for place in range(ENTITY - 1)
+        if entity % 2 == 0 or (entity + place) % 3 != 0
+    ]
+
+
+def write_documents(folder, rows):
+    """The first family: half of the rows are items, and half are views that were copied from them."""
+    cells = [(entity, row) for entity in range(rows // 2 // ENTITY) for row in range(ENTITY)]
+    (folder / "s").write_text(SPEC)
+    (folder / "q").write_text("consistent;\n")
+    table(
+        folder / "item.csv",
+        "id,eid,a,b,c,d",
+        (f"r{e}_{r},e{e},{r // 2},{rank(e, r)},{rank(e, r) % 4},{r % 3}" for e, r in cells),
+    )
+    table(folder / "view.csv", "id,eid,e", (f"v{e}_{r},e{e},{rank(e, r) % 4}" for e, r in cells))
+    table(folder / "copy.csv", "target,source", (f"v{e}_{r},r{e}_{r}" for e, r in cells))
+    table(
+        folder / "given.csv",
+        "attribute,earlier,later",
+        (f"b,r{e}_{x},r{e}_{y}" for e in range(rows // 2 // ENTITY) for x, y in given_of(e)),
+    )
+
+
+def write_limit(folder, entity, entities, attrs):
+    """The second family: entities of one size, a value rule and a chain of order rules over the attributes."""
+    names = [f"a{number}" for number in range(attrs)]
+    rules = ["rule r0 on R (s, t): if s.a0 < t.a0 then s before t in a0;"] + [
+        f"rule r{number} on R (s, t): if s before t in a{number - 1} then s before t in a{number};"
+        for number in range(1, attrs)
+    ]
+    heads = ", ".join(f"{name}: int" for name in names)
+    (folder / "s").write_text(
+        f'relation R from "r.csv" row id entity eid ({heads});\n' + "".join(rule + "\n" for rule in rules)
+    )
+    (folder / "q").write_text("consistent;\n")
+    table(
+        folder / "r.csv",
+        ",".join(["id", "eid", *names]),
+        (
+            ",".join([f"r{e}_{r}", f"e{e}", *(str(r * 37 % 97 // 2) for _ in names)])
+            for e in range(entities)
+            for r in range(entity)
+        ),
+    )
+
+
+def clauses_of(rows):
+    """The clauses of the first family in the numbers of an outside solver, with the axioms on three rows of each list."""
+    numbers, clauses = {}, []
+
+    def lit(attr, entity, x, y):
+        low, high = min(x, y), max(x, y)
+        number = numbers.setdefault((attr, entity, low, high), len(numbers) + 1)
+        return number if x < y else -number
+
+    for entity in range(rows // 2 // ENTITY):
+        clauses += [[lit("b", entity, x, y)] for x, y in given_of(entity)]
+        for x in range(ENTITY):
+            for y in range(ENTITY):
+                if x == y:
+                    continue
+                if x // 2 < y // 2:
+                    clauses.append([lit("a", entity, x, y)])
+                clauses.append([-lit("b", entity, x, y), lit("c", entity, x, y)])
+                clauses.append([-lit("a", entity, x, y), -lit("c", entity, x, y), lit("d", entity, x, y)])
+                clauses.append([-lit("c", entity, x, y), lit("e", entity, x, y)])
+        for attr in "abcde":
+            for x in range(ENTITY):
+                for y in range(x + 1, ENTITY):
+                    for z in range(y + 1, ENTITY):
+                        for first, second, third in ((x, y, z), (z, y, x)):
+                            clauses.append(
+                                [
+                                    -lit(attr, entity, first, second),
+                                    -lit(attr, entity, second, third),
+                                    lit(attr, entity, first, third),
+                                ]
+                            )
+    return len(numbers), clauses
+
+
+def compare(folder, rows, spent):
+    """The time of an outside solver on the clauses, and the ratio of `ask`'s time to it."""
+    solver = shutil.which("cadical")
+    if not solver:
+        print("cadical is not installed: nothing is compared")
+        return
+    count, clauses = clauses_of(rows)
+    with open(folder / "cnf", "w") as out:
+        out.write(f"p cnf {count} {len(clauses)}\n")
+        out.writelines(" ".join(map(str, clause)) + " 0\n" for clause in clauses)
+    begin = time.perf_counter()
+    said = subprocess.run([solver, "-q", folder / "cnf"], capture_output=True, check=False)
+    outside = time.perf_counter() - begin
+    print(f"cadical, {rows} rows: {outside:.2f} s, status {said.returncode}; ask --brief takes {spent / outside:.2f} times that")
+
+
+COMMANDS = {
+    "ask --brief": ["ask", "s", "q", "--brief"],
+    "ask": ["ask", "s", "q"],
+    "verify": ["verify", "s", "q", "p"],
+    "forced": ["forced", "s"],
+}
+
+
+def measure(above):
+    """The first family, for each size."""
+    first = {}
+    for rows in SIZES:
+        with tempfile.TemporaryDirectory() as made:
+            folder = pathlib.Path(made)
+            write_documents(folder, rows)
+            for name, words in COMMANDS.items():
+                spent, megabytes, said = timed(folder, words)
+                if name == "ask":
+                    (folder / "p").write_bytes(said)
+                ratio = spent / rows / first.setdefault(name, spent / rows)
+                print(
+                    f"{name}, {rows} rows: {spent / rows * 1e6:.1f} us a row ({ratio:.2f} times that of {SIZES[0]}), "
+                    f"{spent:.2f} s, {megabytes:.0f} MB"
+                )
+                if ratio > MOST_RATIO:
+                    above.append(f"{name} at {rows} rows: {ratio:.2f} times the time per row")
+                if rows == SIZES[-1] and name == "ask" and spent > MOST_SECONDS:
+                    above.append(f"ask at {rows} rows: {spent:.1f} s")
+                if rows == SIZES[-1] and name == "ask" and megabytes > MOST_MEGABYTES:
+                    above.append(f"ask at {rows} rows: {megabytes:.0f} MB")
+                if name == "ask" and SEARCH.exists():
+                    print("  " + subprocess.run([SEARCH, "s"], cwd=folder, capture_output=True, text=True).stdout.strip())
+                if name == "ask --brief" and rows == OUTSIDE:
+                    compare(folder, rows, spent)
+
+
+def measure_limits():
+    """The second family: entities of 4 and of 64, near the limits."""
+    for entity, entities, attrs in [(4, 25_000, 13), (64, 22, 4)]:
+        with tempfile.TemporaryDirectory() as made:
+            folder = pathlib.Path(made)
+            write_limit(folder, entity, entities, attrs)
+            for name in ["ask --brief", "ask", "verify", "forced"]:
+                spent, megabytes, said = timed(folder, COMMANDS[name], (0, 3))
+                if name == "ask":
+                    (folder / "p").write_bytes(said)
+                print(f"{name}, {entities} entities of {entity}, {attrs} attributes: {spent:.2f} s, {megabytes:.0f} MB")
+
+
+def main():
+    build()
+    above = []
+    measure(above)
+    measure_limits()
+    end(above)
+
+
+if __name__ == "__main__":
+    main()

@@ -1,0 +1,80 @@
+use crate::cases::{Case, EACH, FREE};
+use crate::guides::{four, one_steady};
+use currency_base::NoMemory;
+use currency_cli::run;
+use currency_edge::MemorySink;
+use solver_guides::Guides;
+use std::alloc::Global;
+use std::process::Abort;
+use std::test::Fail;
+use worked_documents::{shelf_of, words_of};
+
+// The status and the sink of these words over a case, with these guides.
+fn guided(
+    alloc: Global,
+    case: Case<'_>,
+    words: &[&str],
+    guides: &mut Guides,
+) -> Result<(u8, MemorySink), NoMemory> {
+    let mut shelf = shelf_of(alloc, case.documents(b""))?;
+    let mut sink = MemorySink::new(alloc);
+    let words = words_of(alloc, words)?;
+    let status = run(alloc, words.as_slice(), &mut shelf, &mut sink, guides);
+    Ok((status, sink))
+}
+
+// With these guides a case has its verdict.
+fn expect_verdict(
+    rt: &(impl Abort + AllocGlobal),
+    case: Case<'_>,
+    words: &[&str],
+    guides: &mut Guides,
+) -> Result<(), Fail> {
+    let (status, sink) = guided(rt.alloc(), case, words, guides)?;
+    let head = format!(in rt.alloc(); "currency report 2;\nverdict {};\n", case.verdict)?;
+    assert!(rt; sink.written().starts_with(head.as_bytes()), "{head}");
+    assert_eq!(rt; status, 0);
+    Ok(())
+}
+
+#[test]
+fn each_guide_leads_to_the_verdict(rt: HostRuntime) -> Result<(), Fail> {
+    for case in EACH {
+        let mut all = four(rt.alloc())?;
+        expect_verdict(&rt, case, &["currency", "ask", "s", "q"], &mut all)?;
+        for guide in ["1", "2", "3", "4"] {
+            let mut ring = four(rt.alloc())?;
+            let words = ["currency", "ask", "s", "q", "--guide", guide];
+            expect_verdict(&rt, case, &words, &mut ring)?;
+        }
+    }
+    Ok(())
+}
+
+// The first of three rows that are free is first or last, as the guide says of each pair.
+fn expect_order(
+    rt: &(impl Abort + AllocGlobal),
+    guides: &mut Guides,
+    order: &str,
+) -> Result<(), Fail> {
+    let words = ["currency", "ask", "s", "q", "--brief"];
+    let (_, sink) = guided(rt.alloc(), FREE, &words, guides)?;
+    let text = format!(in rt.alloc();
+        "currency brief 2;\nverdict consistent;\ncompletion;\nranking R.a of x: {order};\nend;\n"
+    )?;
+    assert_eq!(rt; sink.written(), text.as_bytes(), "{order}");
+    assert!(rt; guides.asked() > 0);
+    Ok(())
+}
+
+#[test]
+fn guides_are_asked(rt: HostRuntime) -> Result<(), Fail> {
+    let mut rising = one_steady(rt.alloc(), true)?;
+    expect_order(&rt, &mut rising, "r1 < r2 < r3")?;
+    let mut falling = one_steady(rt.alloc(), false)?;
+    expect_order(&rt, &mut falling, "r3 < r2 < r1")?;
+    let words = ["currency", "ask", "s", "q", "--guide", "2"];
+    let (status, _) = guided(rt.alloc(), FREE, &words, &mut falling)?;
+    assert_eq!(rt; status, 2);
+    Ok(())
+}
