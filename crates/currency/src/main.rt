@@ -3,7 +3,7 @@
 
 use currency_base::NoMemory;
 use currency_cli::run;
-use currency_edge::{FileShelf, StdSink};
+use currency_edge::{FileShelf, Shelf, Sink, StdSink};
 use solver_guides::{Activity, FirstFree, Guide, Guides, KeepPhase, Seeded};
 use std::alloc::Global;
 use std::process::ExitCode;
@@ -33,24 +33,33 @@ fn put(boxes: &mut Vec<Box<dyn Guide>>, guide: Box<dyn Guide>) -> Result<(), NoM
     }
 }
 
-// The status of a run over files and standard output, with one guide of each kind. The boxes are made here and not
-// handed out, so that nothing that is proved hangs on what is in them.
-fn status(rt: &HostRuntime, words: &[String]) -> Result<u8, NoMemory> {
-    let alloc: Global = rt.alloc();
+// The status of a run with one guide of each kind. The boxes are made here and not handed out, so that nothing that is
+// proved hangs on what is in them.
+fn guided<S: Shelf, K: Sink>(
+    alloc: Global,
+    words: &[String],
+    shelf: &mut S,
+    out: &mut K,
+) -> Result<u8, NoMemory> {
     let mut boxes: Vec<Box<dyn Guide>> = Vec::new(alloc);
     put(&mut boxes, Box::new(alloc, FirstFree::new(alloc))?)?;
     put(&mut boxes, Box::new(alloc, Activity::new(alloc))?)?;
     put(&mut boxes, Box::new(alloc, KeepPhase::new(alloc))?)?;
     put(&mut boxes, Box::new(alloc, Seeded::new(1))?)?;
     let mut guides = Guides::new(boxes);
+    Ok(run(alloc, words, shelf, out, &mut guides))
+}
+
+// The same over files and standard output.
+fn over_files(rt: &HostRuntime, words: &[String]) -> u8 {
     let mut shelf = FileShelf::new(rt);
     let mut sink = StdSink::new(io::writer(rt));
-    Ok(run(alloc, words, &mut shelf, &mut sink, &mut guides))
+    guided(rt.alloc(), words, &mut shelf, &mut sink).unwrap_or(NO_MEMORY)
 }
 
 fn main(rt: HostRuntime) -> ExitCode {
     let status = match words(&rt) {
-        Ok(words) => status(&rt, words.as_slice()).unwrap_or(NO_MEMORY),
+        Ok(words) => over_files(&rt, words.as_slice()),
         Err(status) => status,
     };
     ExitCode::from(status)
