@@ -2,8 +2,10 @@
 """How the time of `currency ask`, of `verify` of its report and of `forced` grows with the rows of a specification, and
 how it compares with an outside solver on the same clauses.
 
-The first family has rows in entities of 8: given chains (some of them broken), a value rule, two order rules and a copy.
-The second family is near the limits on pairs of rows and on instances: entities of 4 and of 64. Runs the program as
+The first family has rows in entities of 8: given chains (some of them broken), a value rule, two order rules and a copy. Asked of it
+are `consistent`, and `certain` of one pair of each entity of one relation, which follows from two known pairs and a rule. In the second family
+each value is determined, and `same` is asked of all relations. The third is near the limits on pairs of rows and on instances: entities of 4 and of 64. At last
+as many pairs are asked about as may be, and one more. Runs the program as
 built, and prints per command and N the time per row, its ratio to the smallest N, and the peak memory; and where the
 program `bench_ask` is built (`rt run` in its folder), what the log of the search came to, with how many axioms on three rows
 were brought in. Where Debian's
@@ -22,10 +24,15 @@ SEARCH = ROOT / "crates" / "bench_ask" / "out" / "bench_ask"
 
 SIZES = [1_000, 10_000, 100_000]
 ENTITY = 8
+# what a command may take at most at the largest size: times the time per row of the smallest, seconds and megabytes
+MARKS = {
+    "ask": (3, 10, 1_300),
+    "ask certain": (4, 60, 1_600),
+    "ask same": (4, 60, 1_600),
+}
 MOST_RATIO = 3
-MOST_SECONDS = 10
-MOST_MEGABYTES = 1_300
 OUTSIDE = 10_000
+MOST_PAIRS = 10_000_000
 
 SPEC = """relation item from "item.csv" row id entity eid (a: int, b: int, c: int, d: int);
 relation view from "view.csv" row id entity eid (e: int);
@@ -77,8 +84,55 @@ def write_documents(folder, rows):
     )
 
 
+def asked_of(entity):
+    """Two rows of an entity which are known to stand in their order, since those between them do."""
+    rows = sorted(range(ENTITY), key=lambda row: rank(entity, row))
+    known = set(given_of(entity))
+    return next(
+        (rows[place], rows[place + 2])
+        for place in range(ENTITY - 2)
+        if {(rows[place], rows[place + 1]), (rows[place + 1], rows[place + 2])} <= known
+    )
+
+
+def write_pairs(folder, rows):
+    """The question whether one pair of each entity is certain."""
+    (folder / "pairs").write_text('certain orders item from "asked.csv";\n')
+    table(
+        folder / "asked.csv",
+        "attribute,earlier,later",
+        (f"c,r{e}_{x},r{e}_{y}" for e in range(rows // 2 // ENTITY) for x, y in [asked_of(e)]),
+    )
+
+
+DETERMINED = """relation item from "item.csv" row id entity eid (a: int, b: int, c: int);
+relation view from "view.csv" row id entity eid (e: int);
+orders item from "given.csv";
+rule values on item (s, t): if s.a < t.a then s before t in a;
+rule follow on item (s, t): if s before t in b then s before t in c;
+copy mirror into view (e) from item (c) using "copy.csv";
+"""
+
+
+def write_determined(folder, rows):
+    """The second family: whole chains, so that each current value is the same in every consistent completion."""
+    entities = range(rows // 2 // ENTITY)
+    cells = [(entity, row) for entity in entities for row in range(ENTITY)]
+    (folder / "s").write_text(DETERMINED)
+    (folder / "values").write_text("same item, view;\n")
+    table(folder / "item.csv", "id,eid,a,b,c", (f"r{e}_{r},e{e},{r // 2},{rank(e, r)},{rank(e, r) % 4}" for e, r in cells))
+    table(folder / "view.csv", "id,eid,e", (f"v{e}_{r},e{e},{rank(e, r) % 4}" for e, r in cells))
+    table(folder / "copy.csv", "target,source", (f"v{e}_{r},r{e}_{r}" for e, r in cells))
+    chains = ((e, sorted(range(ENTITY), key=lambda row: rank(e, row))) for e in entities)
+    table(
+        folder / "given.csv",
+        "attribute,earlier,later",
+        (f"b,r{e}_{x},r{e}_{y}" for e, chain in chains for x, y in zip(chain, chain[1:])),
+    )
+
+
 def write_limit(folder, entity, entities, attrs):
-    """The second family: entities of one size, a value rule and a chain of order rules over the attributes."""
+    """The third family: entities of one size, a value rule and a chain of order rules over the attributes."""
     names = [f"a{number}" for number in range(attrs)]
     rules = ["rule r0 on R (s, t): if s.a0 < t.a0 then s before t in a0;"] + [
         f"rule r{number} on R (s, t): if s before t in a{number - 1} then s before t in a{number};"
@@ -151,60 +205,111 @@ def compare(folder, rows, spent):
     print(f"cadical, {rows} rows: {outside:.2f} s, status {said.returncode}; ask --brief takes {spent / outside:.2f} times that")
 
 
-COMMANDS = {
+CONSISTENT = {
     "ask --brief": ["ask", "s", "q", "--brief"],
     "ask": ["ask", "s", "q"],
     "verify": ["verify", "s", "q", "p"],
     "forced": ["forced", "s"],
 }
+PAIRS = {
+    "ask certain --brief": ["ask", "s", "pairs", "--brief"],
+    "ask certain": ["ask", "s", "pairs"],
+    "verify certain": ["verify", "s", "pairs", "p"],
+}
+VALUES = {
+    "ask same --brief": ["ask", "s", "values", "--brief"],
+    "ask same": ["ask", "s", "values"],
+    "verify same": ["verify", "s", "values", "p"],
+}
+VERDICTS = {"ask": b"consistent", "ask certain": b"certain", "ask same": b"same"}
 
 
-def measure(above):
-    """The first family, for each size."""
+def measure(commands, folder, rows, first, above):
+    """Each of the commands over the documents of a folder. A report is kept for the one that verifies it."""
+    for name, words in commands.items():
+        spent, megabytes, said = timed(folder, words)
+        if name in VERDICTS:
+            (folder / "p").write_bytes(said)
+            if not said.startswith(b"currency report 2;\nverdict " + VERDICTS[name] + b";\n"):
+                above.append(f"{name} at {rows} rows: another verdict, {said[:60]!r}")
+        ratio = spent / rows / first.setdefault(name, spent / rows)
+        print(
+            f"{name}, {rows} rows: {spent / rows * 1e6:.1f} us a row ({ratio:.2f} times that of {SIZES[0]}), "
+            f"{spent:.2f} s, {megabytes:.0f} MB"
+        )
+        most_ratio, most_seconds, most_megabytes = MARKS.get(name, (MOST_RATIO, None, None))
+        if ratio > most_ratio:
+            above.append(f"{name} at {rows} rows: {ratio:.2f} times the time per row")
+        if rows == SIZES[-1] and most_seconds and spent > most_seconds:
+            above.append(f"{name} at {rows} rows: {spent:.1f} s")
+        if rows == SIZES[-1] and most_megabytes and megabytes > most_megabytes:
+            above.append(f"{name} at {rows} rows: {megabytes:.0f} MB")
+        if name == "ask" and SEARCH.exists():
+            print("  " + subprocess.run([SEARCH, "s"], cwd=folder, capture_output=True, text=True).stdout.strip())
+        if name == "ask --brief" and rows == OUTSIDE:
+            compare(folder, rows, spent)
+
+
+def measure_sizes(above):
+    """The first two families, for each size."""
     first = {}
     for rows in SIZES:
         with tempfile.TemporaryDirectory() as made:
             folder = pathlib.Path(made)
             write_documents(folder, rows)
-            for name, words in COMMANDS.items():
-                spent, megabytes, said = timed(folder, words)
-                if name == "ask":
-                    (folder / "p").write_bytes(said)
-                ratio = spent / rows / first.setdefault(name, spent / rows)
-                print(
-                    f"{name}, {rows} rows: {spent / rows * 1e6:.1f} us a row ({ratio:.2f} times that of {SIZES[0]}), "
-                    f"{spent:.2f} s, {megabytes:.0f} MB"
-                )
-                if ratio > MOST_RATIO:
-                    above.append(f"{name} at {rows} rows: {ratio:.2f} times the time per row")
-                if rows == SIZES[-1] and name == "ask" and spent > MOST_SECONDS:
-                    above.append(f"ask at {rows} rows: {spent:.1f} s")
-                if rows == SIZES[-1] and name == "ask" and megabytes > MOST_MEGABYTES:
-                    above.append(f"ask at {rows} rows: {megabytes:.0f} MB")
-                if name == "ask" and SEARCH.exists():
-                    print("  " + subprocess.run([SEARCH, "s"], cwd=folder, capture_output=True, text=True).stdout.strip())
-                if name == "ask --brief" and rows == OUTSIDE:
-                    compare(folder, rows, spent)
+            write_pairs(folder, rows)
+            measure(CONSISTENT, folder, rows, first, above)
+            measure(PAIRS, folder, rows, first, above)
+        with tempfile.TemporaryDirectory() as made:
+            folder = pathlib.Path(made)
+            write_determined(folder, rows)
+            measure(VALUES, folder, rows, first, above)
 
 
 def measure_limits():
-    """The second family: entities of 4 and of 64, near the limits."""
+    """The third family: entities of 4 and of 64, near the limits."""
     for entity, entities, attrs in [(4, 25_000, 13), (64, 22, 4)]:
         with tempfile.TemporaryDirectory() as made:
             folder = pathlib.Path(made)
             write_limit(folder, entity, entities, attrs)
             for name in ["ask --brief", "ask", "verify", "forced"]:
-                spent, megabytes, said = timed(folder, COMMANDS[name], (0, 3))
+                spent, megabytes, said = timed(folder, CONSISTENT[name], (0, 3))
                 if name == "ask":
                     (folder / "p").write_bytes(said)
                 print(f"{name}, {entities} entities of {entity}, {attrs} attributes: {spent:.2f} s, {megabytes:.0f} MB")
 
 
+def measure_pairs(above):
+    """One pair more than may be asked, from one table, and from two and the text; and as many as may be asked."""
+    half = "a,1,2\n" * (MOST_PAIRS // 2)
+    table_of = 'certain orders R from "{}";\n'
+    twice = 'certain orders R from "half.csv" and orders R from "half.csv"'
+    cases = [
+        ("one table", table_of.format("all.csv"), 6, b"limit 12\n"),
+        ("two tables and the text", twice + " and R.a: 1 < 2;\n", 6, b"limit 12\n"),
+        ("two tables, within", twice + ";\n", 4, b"refused V3 p 2\n"),
+    ]
+    with tempfile.TemporaryDirectory() as made:
+        folder = pathlib.Path(made)
+        (folder / "s").write_text('relation R from "r.csv" row id entity eid (a: int);\n')
+        (folder / "r.csv").write_text("id,eid,a\n1,x,1\n2,x,2\n")
+        (folder / "half.csv").write_text("attribute,earlier,later\n" + half)
+        (folder / "all.csv").write_text("attribute,earlier,later\n" + half + half + "a,1,2\n")
+        (folder / "p").write_text("currency report 1;\nverdict consistent;\nend;\n")
+        for name, question, status, text in cases:
+            (folder / "q").write_text(question)
+            spent, megabytes, said = timed(folder, ["verify", "s", "q", "p"], (status,))
+            print(f"asked pairs, {name}: {said.decode().strip()}, {spent:.1f} s, {megabytes:.0f} MB")
+            if said != text:
+                above.append(f"asked pairs, {name}: {said!r}")
+
+
 def main():
     build()
     above = []
-    measure(above)
+    measure_sizes(above)
     measure_limits()
+    measure_pairs(above)
     end(above)
 
 

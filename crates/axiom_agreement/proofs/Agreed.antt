@@ -1,5 +1,5 @@
 -- The laws: what is made is judged to be an axiom, and what is judged can be made.
-use Rattle.std.proofs.Common.{◌≡◌, true, List, Some}
+use Rattle.std.proofs.Common.{◌≡◌, true, List, Some, false}
 use Rattle.std.proofs.lemmas.Option.{none-some}
 use Rattle.currency_base.specs.declared.lit.Lit.{Lit}
 use Rattle.spec_model.specs.Facts.{IsSpecification}
@@ -14,13 +14,13 @@ use Rattle.order_literals.specs.Numbers.{numbers_of}
 use Rattle.order_literals.specs.Said.{Said}
 use Rattle.order_literals.specs.Statements.{statements_of}
 use Rattle.order_clauses.specs.Clauses.{AreLits}
-use Rattle.axiom_agreement.specs.Agreement.{StepsAreAxioms, ClausesAreAxioms, AxiomsAreWhole}
+use Rattle.axiom_agreement.specs.Agreement.{StepsAreAxioms, ClausesAreAxioms, AxiomsAreWhole, OrdersAgree, ValuesAgree}
 use Rattle.axiom_agreement.proofs.Agreeing.{lits_are_clause}
 use Rattle.axiom_agreement.proofs.Copied.{copy_made, copy_has}
 use Rattle.axiom_agreement.proofs.Orders.{given_made, given_has, transitive_made, transitive_has, above_made, above_has}
 use Rattle.axiom_agreement.proofs.Ruled.{rule_made, rule_has}
-use Rattle.axiom_agreement.proofs.Sayings.{IsJudged, HasAxiom}
-use Rattle.axiom_agreement.proofs.Wanted.{top_made, top_has, last_made, last_has, value_made, value_has}
+use Rattle.axiom_agreement.proofs.Sayings.{IsJudged, HasAxiom, order_agrees, last_agrees}
+use Rattle.axiom_agreement.proofs.Wanted.{row_in, top_made, top_has, last_made, last_has, value_made, value_has}
 
 made_is_judged : (s : Spec) → IsSpecification s → (l : Label) (clause : List Said) → IsAxiom s l clause → IsJudged s l clause
 made_is_judged s is (label.Given rel attr earlier later) clause x = given_made s rel attr earlier later clause x
@@ -74,3 +74,12 @@ axioms_are_whole s currents statements steps is are (label.Top rel attr row) cla
 axioms_are_whole s currents statements steps is are (label.Last rel attr row) clause of e = absurd of
 axioms_are_whole s currents statements steps is are (label.Value rel attr row) clause of e = absurd of
 axioms_are_whole s currents statements steps is are (label.Match disjunct entities values) clause of e = absurd of
+
+-- ---- literals
+
+pub orders_agree : OrdersAgree
+orders_agree relations statements lit rel attr earlier later says = order_agrees relations rel attr earlier later false statements lit says
+
+pub values_agree : ValuesAgree
+values_agree s statements lit rel attr row r is at attr_in row_within says =
+    last_agrees s.relations rel attr row false r (row_in s.relations rel attr row r is.relations at attr_in row_within) statements lit says

@@ -72,7 +72,7 @@ top_has s rel attr row clause e =
 
 -- ---- a row's value is current where the row stands last
 
-row_in : (relations : List Relation) (rel : RelId) (attr : AttrId) (row : RowId) (r : Relation) → AreRelations relations → slice_get relations rel.0 ≡ Some r
+pub row_in : (relations : List Relation) (rel : RelId) (attr : AttrId) (row : RowId) (r : Relation) → AreRelations relations → slice_get relations rel.0 ≡ Some r
     → attr.0 < length r.attrs → row.0 < length r.rows → IsRowIn relations rel attr row r
 row_in relations rel attr row r are at inside within =
     record { is_relation = at; facts = all_at IsRelation relations rel.0 r are.each at; attr_in = inside; row_in = within }

@@ -1,4 +1,4 @@
-ghost use Rattle.axiom_agreement.specs.Agreement.{StepsAreAxioms, ClausesAreAxioms, AxiomsAreWhole};
+ghost use Rattle.axiom_agreement.specs.Agreement.{StepsAreAxioms, ClausesAreAxioms, AxiomsAreWhole, OrdersAgree, ValuesAgree};
 
 /// Laws: a step that is made as the axiom of a label has, for the judge, the clause of that label; a label that
 /// has a clause for the judge has one for those who make axioms; and the axioms that are brought in from the
@@ -7,4 +7,11 @@ pub fn axioms_agree()
     ensures made { StepsAreAxioms }
     ensures judged { ClausesAreAxioms }
     ensures whole { AxiomsAreWhole }
+{}
+
+/// Laws: a literal that is made to say which of two rows stands before the other, or that the value of a row is
+/// current, says so for the judge.
+pub fn literals_agree()
+    ensures orders { OrdersAgree }
+    ensures values { ValuesAgree }
 {}

@@ -4,4 +4,4 @@
 
 mod laws;
 
-pub use laws::axioms_agree;
+pub use laws::{axioms_agree, literals_agree};

@@ -1,5 +1,5 @@
 -- The report of a step that is the empty clause.
-use Rattle.std.proofs.Common.{◌≡◌, ◌∙◌, ◌<◌, ℕ, List, [], ◌∷◌, All, None, Some, length, map, slice_get, refl, sym, ap, subst, arith}
+use Rattle.std.proofs.Common.{◌≡◌, ◌∙◌, ◌<◌, ℕ, List, [], ◌∷◌, All, Contains, None, Some, length, map, slice_get, refl, sym, ap, subst, arith}
 use Rattle.std.proofs.lemmas.List.{length-map}
 use Rattle.std.proofs.lemmas.List.Elements.{All-cons, All-nil}
 use Rattle.std.proofs.lemmas.List.Folds.{list_any_at}
@@ -18,12 +18,13 @@ use Rattle.refutation_log.specs.declared.log.Log.{Log}
 use Rattle.report_model.specs.declared.verdict.Verdict.TheVariants.{Inconsistent}
 use Rattle.report_verify.specs.Supported.{HasEmpty}
 use Rattle.report_write.specs.Writable.{AllCover, IsWritableCompletion}
-use Rattle.search_logs.specs.Laws.{LogsAreAccepted, LogsAreInPlace, TrimmedAreReached, TrimmedAreWritable}
-use Rattle.search_logs.specs.SearchLogs.{HasFewSteps}
+use Rattle.search_logs.specs.Laws.{LogsAreAccepted, LogsAreInPlace, TrimmedAreAmong, TrimmedAreReached, TrimmedAreWritable}
+use Rattle.search_logs.specs.SearchLogs.{HasFewSteps, variables}
 use Rattle.spec_model.specs.Completion.{Rankings}
 use Rattle.spec_model.specs.Consistent.{IsConsistent}
 use Rattle.spec_model.specs.Spec.{Spec}
-use Rattle.currency_ask.specs.Answered.{IsOfEmpty}
+use Rattle.spec_model.specs.declared.question.Question.{Question}
+use Rattle.currency_ask.specs.Answered.{AreAmong, IsOfEmpty, wanted_of}
 use Rattle.currency_ask.specs.Reported.{IsReported}
 use Rattle.currency_ask.proofs.NoCompletions.{few_none}
 
@@ -34,6 +35,7 @@ pub record EmptyLaws : Type 0 where
   pub trimmed_accepted : TrimmedAreAccepted
   pub clauses : GoalClausesKeep
   pub writable : TrimmedAreWritable
+  pub among : TrimmedAreAmong
   pub reached : TrimmedAreReached
 
 -- the log of a search with few steps, one of which is the empty clause
@@ -69,12 +71,14 @@ has_empty log place empty =
     list_any_at is_empty (clauses_of log.steps) place [] (slice_get_within (clauses_of log.steps) place [] empty)
     (ap is_empty (get_or_from_slice_get (clauses_of log.steps) place [] [] empty))
 
-is_of_empty : TrimmedAreReached → (log : Log) (place : ℕ) (trimmed : Trimmed) → AreInPlace log (place ∷ []) → (t : IsTrimmed log (place ∷ []) trimmed)
-    → slice_get (clauses_of trimmed.log.steps) (rank t.step_kept place) ≡ Some [] → IsOfEmpty trimmed.log
-is_of_empty law log place trimmed in_place t empty = record {
+is_of_empty : TrimmedAreReached → (s : Spec) (q : Question) (log : Log) (place : ℕ) (trimmed : Trimmed) → AreInPlace log (place ∷ [])
+    → (t : IsTrimmed log (place ∷ []) trimmed) → slice_get (clauses_of trimmed.log.steps) (rank t.step_kept place) ≡ Some [] → AreAmong s q trimmed.log
+    → IsOfEmpty s q trimmed.log
+is_of_empty law s q log place trimmed in_place t empty among = record {
   goals = trimmed.goals;
   are_empty = subst (All are) (sym t.new_goals) (All-cons are (rank t.step_kept place) [] empty (All-nil are));
   reached = law log (place ∷ []) trimmed in_place t;
+  among = among;
 }
   where
     are : ℕ → Type 0
@@ -82,11 +86,11 @@ is_of_empty law log place trimmed in_place t empty = record {
 
 -- ---- the report
 
-trimmed_reported : EmptyLaws → (s : Spec) (wanted : Wanted) (log : Log) (place : ℕ) (trimmed : Trimmed) (budget : ℕ) (completions : List Rankings)
-    → IsSearch (record { spec = s; wanted = wanted; log = log }) → HasFewSteps log → slice_get (clauses_of log.steps) place ≡ Some []
+trimmed_reported : EmptyLaws → (s : Spec) (wanted : Wanted) (log : Log) (place : ℕ) (trimmed : Trimmed) (q : Question) (budget : ℕ)
+    (completions : List Rankings) → wanted ≡ wanted_of q → IsSearch (record { spec = s; wanted = wanted; log = log }) → HasFewSteps log → slice_get (clauses_of log.steps) place ≡ Some []
     → AreInPlace log (place ∷ []) → IsTrimmed log (place ∷ []) trimmed → completions ≡ []
-    → IsReported s budget (record { verdict = Inconsistent; completions = completions; log = trimmed.log })
-trimmed_reported laws s wanted log place trimmed budget completions is few empty in_place t none = record {
+    → IsReported s q budget (record { verdict = Inconsistent; completions = completions; log = trimmed.log })
+trimmed_reported laws s wanted log place trimmed q budget completions wants is few empty in_place t none = record {
   shown = record {
     sound = record {
       one_of = tt;
@@ -102,20 +106,26 @@ trimmed_reported laws s wanted log place trimmed budget completions is few empty
     log = written.0;
     well_formed = written.1;
   };
-  lists = (none, is_of_empty laws.reached log place trimmed in_place t stays);
+  lists = (none, is_of_empty laws.reached s q log place trimmed in_place t stays among);
   enough = λ enough. refl;
+  first = tt;
 }
   where
     stays : slice_get (clauses_of trimmed.log.steps) (rank t.step_kept place) ≡ Some []
     stays = clause_stays laws.clauses log place trimmed in_place t empty
 
+    among : AreAmong s q trimmed.log
+    among =
+        subst (λ (w : Wanted). All (Contains (variables s w)) trimmed.log.statements) wants
+        (laws.among s wanted log (place ∷ []) trimmed is.within is.log few t)
+
     written : IsWritable trimmed.log × (first_fault s.relations trimmed.log ≡ None)
     written = laws.writable s wanted log (place ∷ []) trimmed is.within is.log few (within_steps log place empty) t
 
-pub empty_reported : EmptyLaws → (seen : Search) (log : Log) (place : ℕ) (trimmed : Trimmed) (budget : ℕ) (completions : List Rankings)
-    → HasEmptyStep seen log place → IsTrimmed log (place ∷ []) trimmed → completions ≡ []
-    → IsReported seen.spec budget (record { verdict = Inconsistent; completions = completions; log = trimmed.log })
-empty_reported laws seen log place trimmed budget completions has t none =
-    trimmed_reported laws seen.spec seen.wanted seen.log place trimmed budget completions has.search_is has.few has.empty
+pub empty_reported : EmptyLaws → (seen : Search) (log : Log) (place : ℕ) (trimmed : Trimmed) (q : Question) (budget : ℕ) (completions : List Rankings)
+    → seen.wanted ≡ wanted_of q → HasEmptyStep seen log place → IsTrimmed log (place ∷ []) trimmed → completions ≡ []
+    → IsReported seen.spec q budget (record { verdict = Inconsistent; completions = completions; log = trimmed.log })
+empty_reported laws seen log place trimmed q budget completions wants has t none =
+    trimmed_reported laws seen.spec seen.wanted seen.log place trimmed q budget completions wants has.search_is has.few has.empty
     (subst (λ (l : Log). AreInPlace l (place ∷ [])) has.log_is (can_trim laws seen log place has))
     (subst (λ (l : Log). IsTrimmed l (place ∷ []) trimmed) has.log_is t) none

@@ -23,8 +23,9 @@ use Rattle.spec_model.specs.Completion.{Rankings}
 use Rattle.spec_model.specs.Consistent.{IsConsistent}
 use Rattle.spec_model.specs.Facts.{IsSpecification}
 use Rattle.spec_model.specs.Spec.{Spec}
-use Rattle.currency_ask.specs.Answered.{IsCutOff}
-use Rattle.currency_ask.specs.Reported.{HasSpent, IsReported, nothing_wanted}
+use Rattle.spec_model.specs.declared.question.Question.{Question}
+use Rattle.currency_ask.specs.Answered.{IsCutOff, currents_of, variables_of, wanted_of}
+use Rattle.currency_ask.specs.Reported.{HasSpent, IsReported}
 use Rattle.currency_ask.proofs.NoCompletions.{few_none}
 
 -- the laws of search logs, of the axioms with which they begin, and of the number of counted steps
@@ -45,25 +46,25 @@ axioms_stay law s wanted steps facts begins l clause of is =
     )
 
 -- the statements are those of the question
-statements_are : (seen : Search) → IsSearch seen → seen.wanted ≡ nothing_wanted
-    → seen.log.statements ≡ statements_of (numbers_of seen.spec.relations nothing_wanted)
-statements_are seen is wanted = is.log.statements ∙ ap (λ (w : Wanted). statements_of (numbers_of seen.spec.relations w)) wanted
+statements_are : (seen : Search) (q : Question) → IsSearch seen → seen.wanted ≡ wanted_of q → seen.log.statements ≡ variables_of seen.spec q
+statements_are seen q is wanted = is.log.statements ∙ ap (λ (w : Wanted). statements_of (numbers_of seen.spec.relations w)) wanted
 
 -- a budget that decides the question is not spent
-not_enough : SpentLaws → (seen : Search) (budget : ℕ) → IsSearch seen → HasFewSteps seen.log → HasSpent seen budget
-    → IsEnough seen.spec [] (λ c. 0) budget → ⊥
-not_enough laws seen budget is few spent enough =
+not_enough : SpentLaws → (seen : Search) (q : Question) (budget : ℕ) → seen.wanted ≡ wanted_of q → IsSearch seen → HasFewSteps seen.log
+    → HasSpent seen budget → IsEnough seen.spec (currents_of q) (λ c. 0) budget → ⊥
+not_enough laws seen q budget wants is few spent enough =
     let numbered : IsNumbered seen.log.statements seen.log.steps =
     (laws.in_place seen.spec seen.wanted seen.log [] is.within is.log few (All-nil (λ goal. goal < length seen.log.steps))).0 in
     let less = laws.few_counted (length seen.log.statements) seen.log.steps numbered.within is.counted_new in
-    let same = ap (λ (statements : List Statement). 3 ^ length statements) (statements_are seen is spent.wanted) in
+    let same = ap (λ (statements : List Statement). 3 ^ length statements) (statements_are seen q is wants) in
     omega (arith, less, same, spent.counted, enough.without)
 
-pub spent_reported : SpentLaws → (seen : Search) (budget : ℕ) (log : Log) (completions : List Rankings) → budget < 2 ^ 64 → IsSearch seen
+pub spent_reported : SpentLaws → (seen : Search) (q : Question) (budget : ℕ) (log : Log) (completions : List Rankings) → budget < 2 ^ 64
+    → seen.wanted ≡ wanted_of q → IsSearch seen
     → HasFewSteps seen.log → HasSpent seen budget → log ≡ seen.log → completions ≡ []
-    → IsReported seen.spec budget (record { verdict = Undecided budget; completions = completions; log = log })
-spent_reported laws seen budget log completions fits is few spent same none =
-    subst (λ (l : Log). IsReported seen.spec budget (record { verdict = Undecided budget; completions = completions; log = l })) (sym same) record {
+    → IsReported seen.spec q budget (record { verdict = Undecided budget; completions = completions; log = log })
+spent_reported laws seen q budget log completions fits wants is few spent same none =
+    subst (λ (l : Log). IsReported seen.spec q budget (record { verdict = Undecided budget; completions = completions; log = l })) (sym same) record {
       shown = record {
         sound = record {
           one_of = tt;
@@ -80,17 +81,18 @@ spent_reported laws seen budget log completions fits is few spent same none =
         well_formed = written.1;
       };
       lists = (none, refl, cut_off);
-      enough = λ enough. absurd (not_enough laws seen budget is few spent enough);
+      enough = λ enough. absurd (not_enough laws seen q budget wants is few spent enough);
+      first = tt;
     }
   where
     written : IsWritable seen.log × (first_fault seen.spec.relations seen.log ≡ None)
     written = laws.writable seen.spec seen.wanted seen.log is.within is.log few
 
-    cut_off : IsCutOff seen.spec budget seen.log
+    cut_off : IsCutOff seen.spec q budget seen.log
     cut_off = record {
       counted = spent.counted;
       counted_new = is.counted_new;
       open_log = spent.open_log;
       axioms = axioms_stay laws.whole seen.spec seen.wanted seen.log.steps is.within.specification is.begins;
-      statements = statements_are seen is spent.wanted;
+      statements = statements_are seen q is wants;
     }

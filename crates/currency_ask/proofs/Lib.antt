@@ -1,3 +1,10 @@
+mod Places
 mod NoCompletions
+mod Completions
+mod Countered
+mod Derived
 mod FoundEmpty
 mod FoundSpent
+mod Listings
+mod Settling
+mod Earlier

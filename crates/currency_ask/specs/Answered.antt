@@ -1,49 +1,149 @@
 -- What a report that answers a question has besides that it shows its verdict.
-use Rattle.std.specs.Prelude.{◌≡◌, ◌<◌, ℕ, true, List, [], All, Some, length, slice_get}
+use Rattle.std.specs.Prelude.{◌≡◌, ◌<◌, ℕ, true, List, [], ◌∷◌, All, Contains, Some, length, slice_get, take}
+use Rattle.currency_base.specs.declared.ids.AttrId.{AttrId}
+use Rattle.currency_base.specs.declared.ids.EntId.{EntId}
+use Rattle.currency_base.specs.declared.ids.RelId.{RelId}
+use Rattle.currency_base.specs.declared.ids.RowId.{RowId}
+use Rattle.currency_base.specs.declared.lit.Lit.{Lit}
+use Rattle.currency_base.specs.declared.value.Value.{Value}
+use Rattle.denial_rules.specs.Instances.{field_value}
+use Rattle.partial_orders.specs.Pairs.{entity_of}
 use Rattle.spec_model.specs.Spec.{Spec}
+use Rattle.spec_model.specs.declared.question.Asked.{Asked}
+use Rattle.spec_model.specs.declared.question.Question.{Question}
+use Rattle.spec_model.specs.declared.question.Question.TheVariants as asked
+use Rattle.spec_model.specs.declared.relation.Relation.{Relation}
 use Rattle.refutation_log.specs.Counted.{CountedAreNew, IsOpenLog, counted_steps}
 use Rattle.refutation_log.specs.Steps.{clauses_of}
 use Rattle.refutation_log.specs.declared.log.Log.{Log}
+use Rattle.refutation_log.specs.declared.statement.Statement.{Statement}
+use Rattle.log_axioms.specs.Axioms.{before, last, lit_says}
 use Rattle.log_trim.specs.Trimmed.{Reaches}
 use Rattle.order_literals.specs.Enough.{IsEnough}
 use Rattle.order_literals.specs.Numbers.{numbers_of}
 use Rattle.order_literals.specs.Statements.{statements_of}
+use Rattle.order_literals.specs.declared.wanted.Wanted.{Wanted}
 use Rattle.report_model.specs.Verdicts.{is_decided, kind_of}
 use Rattle.report_model.specs.declared.report.Report.{Report}
-use Rattle.report_model.specs.declared.verdict.Verdict.TheVariants.{Inconsistent, Consistent, Undecided}
+use Rattle.report_model.specs.declared.verdict.Verdict.{Verdict}
+use Rattle.report_model.specs.declared.verdict.Verdict.TheVariants.{Inconsistent, Consistent, Certain, NotCertain, Same, NotSame, Undecided}
+use Rattle.report_verify.specs.Right.{EachConsistent, PairHolds}
+use Rattle.report_verify.specs.Supported.{Claim, Need, needs_of}
+use Rattle.report_verify.specs.Supported.Claim.{Holds, HasValue}
 use Rattle.axiom_agreement.specs.Agreement.{HasAxioms}
 
+-- ---- the variables of a question
+
+-- the relations whose current tuples a question asks about
+abbrev pub currents_of : Question → List RelId
+currents_of asked.Consistent = []
+currents_of (asked.Certain pairs) = []
+currents_of (asked.Same rels) = rels
+
+-- what is numbered for a question beside the pairs of rows
+abbrev pub wanted_of : Question → Wanted
+wanted_of q = record { currents = currents_of q; answers = 0 }
+
+-- the variables of a question, by what they say
+abbrev pub variables_of : Spec → Question → List Statement
+variables_of s q = statements_of (numbers_of s.relations (wanted_of q))
+
+-- ---- logs
+
 -- the log of a search that is cut off: so many counted steps, each new; it is open; it has every axiom of a given pair, a rule
--- and a copy function; and its statements are the variables of the question `consistent`
-pub record IsCutOff (s : Spec) (budget : ℕ) (log : Log) : Type 0 where
+-- and a copy function; and its statements are the variables of the question
+pub record IsCutOff (s : Spec) (q : Question) (budget : ℕ) (log : Log) : Type 0 where
   pub counted : counted_steps log.steps ≡ budget
   pub counted_new : CountedAreNew log.steps
   pub open_log : IsOpenLog log.steps
   pub axioms : HasAxioms s log.steps
-  pub statements : log.statements ≡ statements_of (numbers_of s.relations (record { currents = []; answers = 0 }))
+  pub statements : log.statements ≡ variables_of s q
+
+-- the statements of a log are among the variables of the question
+abbrev pub AreAmong : Spec → Question → Log → Type 0
+AreAmong s q log = All (Contains (variables_of s q)) log.statements
 
 -- each step of a log is reached by hints from a step that is the empty clause
-pub record IsOfEmpty (log : Log) : Type 0 where
+pub record IsOfEmpty (s : Spec) (q : Question) (log : Log) : Type 0 where
   pub goals : List ℕ
   pub are_empty : All (λ goal. slice_get (clauses_of log.steps) goal ≡ Some []) goals
   pub reached : (place : ℕ) → place < length log.steps → Reaches log.steps goals place
+  pub among : AreAmong s q log
+
+-- a literal says that a value is the current one of an entity, which is named by a row of it with the value
+pub record SaysValue (s : Spec) (log : Log) (lit : Lit) (rel : RelId) (attr : AttrId) (ent : EntId) (value : Value) : Type 0 where
+  pub relation : Relation
+  pub row : RowId
+  pub is_relation : slice_get s.relations rel.0 ≡ Some relation
+  pub of_entity : entity_of relation.rows row.0 ≡ Some ent.0
+  pub of_value : field_value relation.rows (Some row) attr.0 ≡ Some value
+  pub says : lit_says s.relations log.statements (last rel attr row) lit ≡ true
+
+-- a literal says what is claimed
+abbrev pub SaysClaim : Spec → Log → Lit → Claim → Type 0
+SaysClaim s log lit (Holds p) = lit_says s.relations log.statements (before p.rel p.pair.attr p.pair.earlier p.pair.later) lit ≡ true
+SaysClaim s log lit (HasValue rel attr ent v) = SaysValue s log lit rel attr ent v
+
+-- a step is the unit of a claim
+pub record IsUnitOf (s : Spec) (log : Log) (claim : Claim) (goal : ℕ) : Type 0 where
+  pub lit : Lit
+  pub is_unit : slice_get (clauses_of log.steps) goal ≡ Some (lit ∷ [])
+  pub says : SaysClaim s log lit claim
+
+-- a step is the unit of one of the claims
+pub record IsGoal (s : Spec) (q : Question) (v : Verdict) (log : Log) (goal : ℕ) : Type 0 where
+  pub need : Need
+  pub needed : Contains (needs_of q v) need
+  pub unit : IsUnitOf s log need.claim goal
+
+-- each step of a log is reached by hints from a step that is the unit of one of the verdict's claims
+pub record IsOfClaims (s : Spec) (q : Question) (v : Verdict) (log : Log) : Type 0 where
+  pub goals : List ℕ
+  pub are_goals : All (IsGoal s q v log) goals
+  pub reached : (place : ℕ) → place < length log.steps → Reaches log.steps goals place
+  pub among : AreAmong s q log
 
 -- a log with nothing in it
 pub record HasNothing (log : Log) : Type 0 where
   pub statements : log.statements ≡ []
   pub steps : log.steps ≡ []
 
--- what a report on the question `consistent` lists and derives, within a budget: one completion and no log; or no completion and
--- what the empty clause needs; or no completion and the log of a search that took the whole budget
-abbrev pub IsAnswerWithin : Spec → ℕ → Report → Type 0
-IsAnswerWithin s budget r = by r.verdict
+-- ---- answers
+
+-- what a report that answers a question lists and derives, within a budget: what a claim of some completion asks for, and no log;
+-- or one completion, and what the units of the claims need; or no completion, and what the empty clause needs; or no completion,
+-- and the log of a search that took the whole budget
+abbrev pub IsAnswerWithin : Spec → Question → ℕ → Report → Type 0
+IsAnswerWithin s q budget r = by r.verdict
   where
-    by : Rattle.report_model.specs.declared.verdict.Verdict.Verdict → Type 0
+    by : Verdict → Type 0
+    by Inconsistent = (r.completions ≡ []) × IsOfEmpty s q r.log
     by Consistent = (length r.completions ≡ 1) × HasNothing r.log
-    by Inconsistent = (r.completions ≡ []) × IsOfEmpty r.log
-    by (Undecided counted) = (r.completions ≡ []) × (counted ≡ budget) × IsCutOff s budget r.log
+    by Certain = (length r.completions ≡ 1) × IsOfClaims s q r.verdict r.log
+    by (NotCertain p) = (length r.completions ≡ 1) × HasNothing r.log
+    by (Same items) = (length r.completions ≡ 1) × IsOfClaims s q r.verdict r.log
+    by (NotSame rel attr ent) = (length r.completions ≡ 2) × HasNothing r.log
+    by (Undecided counted) = (r.completions ≡ []) × (counted ≡ budget) × IsCutOff s q budget r.log
     by other = ⊥
 
 -- a budget that is at least three to the number of variables of the question decides it
-abbrev pub IsDecidedBy : Spec → ℕ → Report → Type 0
-IsDecidedBy s budget r = IsEnough s [] (λ c. 0) budget → is_decided (kind_of r.verdict) ≡ true
+abbrev pub IsDecidedBy : Spec → Question → ℕ → Report → Type 0
+IsDecidedBy s q budget r = IsEnough s (currents_of q) (λ c. 0) budget → is_decided (kind_of r.verdict) ≡ true
+
+-- ---- which pair is named
+
+-- a pair is asked at a place, and each pair that is asked before it holds in every consistent completion
+pub record IsFirstToFail (s : Spec) (pairs : List Asked) (p : Asked) : Type 0 where
+  pub place : ℕ
+  pub is_pair : slice_get pairs place ≡ Some p
+  pub others_hold : All (λ other. EachConsistent s (PairHolds other)) (take place pairs)
+
+-- the same for the pairs of a question, if it asks about pairs
+abbrev pub IsFirstOf : Spec → Question → Asked → Type 0
+IsFirstOf s (asked.Certain pairs) p = IsFirstToFail s pairs p
+IsFirstOf s q p = Unit {0}
+
+-- the pair that `not certain` names is the first asked one that fails in some consistent completion
+abbrev pub NamesFirst : Spec → Question → Verdict → Type 0
+NamesFirst s q (NotCertain p) = IsFirstOf s q p
+NamesFirst s q v = Unit {0}

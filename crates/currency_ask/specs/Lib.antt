@@ -1,2 +1,4 @@
 pub mod Answered
+pub mod Goals
 pub mod Reported
+pub mod Settled

@@ -1,36 +1,53 @@
 -- What a search has found, and the report of it.
-use Rattle.std.specs.Prelude.{◌≡◌, ◌+◌, ℕ, [], None}
+use Rattle.std.specs.Prelude.{◌≡◌, ◌+◌, ℕ, List, []}
+use Rattle.spec_model.specs.Completion.{Rankings}
 use Rattle.spec_model.specs.Spec.{Spec}
-use Rattle.spec_model.specs.declared.question.Question.TheVariants as asked
+use Rattle.spec_model.specs.declared.question.Question.{Question}
 use Rattle.refutation_log.specs.Counted.{IsOpenLog, counted_steps}
 use Rattle.order_literals.specs.declared.wanted.Wanted.{Wanted}
-use Rattle.order_search.specs.Searches.{Search, Tells}
+use Rattle.order_search.specs.Searches.{Search}
 use Rattle.order_search.specs.declared.outcome.Outcome.{Outcome}
 use Rattle.report_model.specs.declared.report.Report.{Report}
+use Rattle.report_model.specs.declared.verdict.Verdict.{Verdict}
+use Rattle.report_model.specs.declared.verdict.Verdict.TheVariants as verdict
 use Rattle.report_verify.specs.Shown.{ShowsVerdict}
 use Rattle.report_write.specs.Writable.{IsWritableReport}
-use Rattle.currency_ask.specs.Answered.{IsAnswerWithin, IsDecidedBy}
+use Rattle.currency_ask.specs.Answered.{IsAnswerWithin, IsDecidedBy, NamesFirst}
+use Rattle.currency_ask.specs.Goals.{IsEnd}
 
--- all that is said of a report on the question `consistent`, within a budget
-pub record IsReported (s : Spec) (budget : ℕ) (r : Report) : Type 0 where
-  pub shown : ShowsVerdict s asked.Consistent r
+-- all that is said of a report that answers a question, within a budget
+pub record IsReported (s : Spec) (q : Question) (budget : ℕ) (r : Report) : Type 0 where
+  pub shown : ShowsVerdict s q r
   pub writable : IsWritableReport s.relations r
-  pub lists : IsAnswerWithin s budget r
-  pub enough : IsDecidedBy s budget r
+  pub lists : IsAnswerWithin s q budget r
+  pub enough : IsDecidedBy s q budget r
+  pub first : NamesFirst s q r.verdict
 
 -- beside the pairs of rows nothing is numbered
 abbrev pub nothing_wanted : Wanted
 nothing_wanted = record { currents = []; answers = 0 }
 
--- the search has no goal, and has told this after all but so many units of the budget
-pub record HasFound (search : Search) (budget : ℕ) (outcome : Outcome) : Type 0 where
-  pub wanted : search.wanted ≡ nothing_wanted
+-- the search came to an end after all but so many units of the budget
+pub record HasEnded (search : Search) (budget : ℕ) (outcome : Outcome) : Type 0 where
   pub left : ℕ
   pub units : counted_steps search.log.steps + left ≡ budget
-  pub told : Tells search None left outcome
+  pub told : IsEnd search left outcome
 
 -- the search has used the whole budget, and its log is open
 pub record HasSpent (search : Search) (budget : ℕ) : Type 0 where
-  pub wanted : search.wanted ≡ nothing_wanted
   pub counted : counted_steps search.log.steps ≡ budget
   pub open_log : IsOpenLog search.log.steps
+
+-- a verdict that claims something of every consistent completion
+abbrev pub IsClaiming : Verdict → Type 0
+IsClaiming verdict.Certain = Unit {0}
+IsClaiming (verdict.Same items) = Unit {0}
+IsClaiming v = ⊥
+
+-- the report has this verdict and these completions, and nothing else
+pub record ListsAlone (v : Verdict) (completions : List Rankings) (r : Report) : Type 0 where
+  pub verdict : r.verdict ≡ v
+  pub completions_are : r.completions ≡ completions
+  pub answers : r.log.answers ≡ []
+  pub statements : r.log.statements ≡ []
+  pub steps : r.log.steps ≡ []

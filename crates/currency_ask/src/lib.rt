@@ -3,6 +3,10 @@
 #![tactic(auto)]
 
 mod ask;
+mod currents;
+mod deciding;
+mod goal;
+mod pairs;
 mod reporting;
 
 pub use ask::answer;

@@ -1,17 +1,23 @@
-ghost use Rattle.std.specs.Prelude.{◌≡◌, ℕ, [], Some, slice_get, IfOk};
+ghost use Rattle.std.specs.Prelude.{◌≡◌, ◌∷◌, ℕ, [], All, Some, slice_get, IfOk};
 ghost use Rattle.refutation_log.specs.Steps.{clauses_of};
-ghost use Rattle.search_logs.specs.SearchLogs.{HasFewSteps, IsWithin};
+ghost use Rattle.report_verify.specs.Supported.{IsOneOf, needs_of};
+ghost use Rattle.report_write.specs.Writable.{IsWritableVerdict};
+ghost use Rattle.search_logs.specs.SearchLogs.{HasFewSteps};
+ghost use Rattle.spec_model.specs.Completion.{Rankings};
 ghost use Rattle.spec_model.specs.Consistent.{IsConsistent};
-ghost use Rattle.spec_model.specs.Spec.{Spec};
-ghost use Rattle.currency_ask.specs.Reported.{HasFound, HasSpent, IsReported};
+ghost use Rattle.spec_model.specs.declared.question.Question.{Question};
+ghost use Rattle.currency_ask.specs.Answered.{wanted_of};
+ghost use Rattle.currency_ask.specs.Goals.{AreClaims, AreProved, IsGoalOn};
+ghost use Rattle.currency_ask.specs.Reported.{HasEnded, HasSpent, IsClaiming, IsReported, ListsAlone};
 
-use axiom_agreement::axioms_agree;
+use crate::goal::GoalList;
+use axiom_agreement::{axioms_agree, literals_agree};
 use checked_logs::trimmed_logs_are_accepted;
 use currency_base::NoMemory;
 use log_laws::counted_steps_are_few;
 use log_trim::trim;
 use order_search::{Outcome, Search};
-use refutation_log::Log;
+use refutation_log::{HintList, Log};
 use report_model::{CompletionList, Report, Verdict};
 use search_logs::{
     completions_are_writable, search_logs_are_accepted, search_logs_are_writable,
@@ -20,55 +26,30 @@ use search_logs::{
 use spec_model::Completion;
 use std::alloc::Global;
 
-// The most steps of a log whose places have numbers in a text.
-const MOST_STEPS: usize = 4_294_967_294;
-
-/// The report of what a search has found, which had a budget of so many units.
-///
-/// A log of more steps than have numbers is answered as want of memory. It would take some 200 GB.
-pub(crate) fn reported(
+/// The report of a search that came to an end without a completion, which had a budget of so many units.
+pub(crate) fn ended(
     alloc: Global,
     search: Search<'_>,
     outcome: Outcome,
     budget: u64,
 ) -> Result<Report, NoMemory>
-    requires { HasFound search budget outcome }
-    ensures { IfOk result (IsReported search.entry.spec budget) }
+    requires { HasEnded search budget outcome }
+    ensures { (q : Question) → search.entry.wanted ≡ wanted_of q → IfOk result (IsReported search.entry.spec q budget) }
 {
     search.is_search();
-    if search.log().steps.len() > MOST_STEPS {
-        return Err(NoMemory);
-    }
     match outcome {
-        Outcome::Model { completion, .. } => consistent(alloc, completion),
         Outcome::Empty(place) => inconsistent(alloc, search, place),
         Outcome::Spent => Ok(undecided(alloc, search, budget)),
+        Outcome::Model { .. } => unreachable!(),
         Outcome::Proved(_) => unreachable!(),
     }
-}
-
-// A consistent completion: it is listed, and the log is not needed.
-fn consistent(alloc: Global, completion: Completion) -> Result<Report, NoMemory>
-    ensures { (s : Spec) (budget : ℕ) → IsWithin s → IsConsistent s completion → IfOk result (IsReported s budget) }
-{
-    completions_are_writable();
-    let mut completions = CompletionList::new(alloc);
-    match completions.push(completion) {
-        Ok(()) => {}
-        Err(error) => return Err(error),
-    }
-    Ok(Report {
-        verdict: Verdict::Consistent,
-        completions,
-        log: Log::new(alloc),
-    })
 }
 
 // A step that is the empty clause: what it needs of the log is all that stands in the report.
 fn inconsistent(alloc: Global, search: Search<'_>, place: u32) -> Result<Report, NoMemory>
     requires few { HasFewSteps search.log }
     requires empty { slice_get (clauses_of search.log.steps) place ≡ Some [] }
-    ensures { (budget : ℕ) → IfOk result (IsReported search.entry.spec budget) }
+    ensures { (q : Question) (budget : ℕ) → search.entry.wanted ≡ wanted_of q → IfOk result (IsReported search.entry.spec q budget) }
 {
     search_logs_are_accepted();
     trimmed_logs_are_accepted();
@@ -90,7 +71,7 @@ fn inconsistent(alloc: Global, search: Search<'_>, place: u32) -> Result<Report,
 fn undecided(alloc: Global, search: Search<'_>, budget: u64) -> Report
     requires few { HasFewSteps search.log }
     requires spent { HasSpent search budget }
-    ensures { IsReported search.entry.spec budget result }
+    ensures { (q : Question) → search.entry.wanted ≡ wanted_of q → IsReported search.entry.spec q budget result }
 {
     axioms_agree();
     counted_steps_are_few();
@@ -101,5 +82,112 @@ fn undecided(alloc: Global, search: Search<'_>, budget: u64) -> Report
         verdict: Verdict::Undecided(budget),
         completions: CompletionList::new(alloc),
         log: search.into_log(),
+    }
+}
+
+/// Each claim of a verdict is derived: one completion is listed, and what the units of the claims need of the log is
+/// all that stands in the report.
+pub(crate) fn proved(
+    alloc: Global,
+    search: Search<'_>,
+    goals: &GoalList,
+    steps: &HintList,
+    verdict: Verdict,
+    completion: Completion,
+) -> Result<Report, NoMemory>
+    requires goals { All (IsGoalOn search.spec search.wanted) goals.now }
+    requires proved { AreProved search goals.now steps.now }
+    requires consistent { IsConsistent search.spec completion }
+    requires claiming { IsClaiming verdict }
+    requires writable { IsWritableVerdict search.spec.relations verdict }
+    ensures { (q : Question) (budget : ℕ) → search.entry.wanted ≡ wanted_of q → IsOneOf search.entry.spec q verdict
+        → AreClaims search.entry.spec goals.now (needs_of q verdict) → IfOk result (IsReported search.entry.spec q budget) }
+{
+    search.is_search();
+    match one(alloc, completion) {
+        Ok(completions) => derived(alloc, search, goals, steps, verdict, completions),
+        Err(error) => Err(error),
+    }
+}
+
+// The same, with the list of the completion, where the steps have numbers.
+fn derived(
+    alloc: Global,
+    search: Search<'_>,
+    goals: &GoalList,
+    steps: &HintList,
+    verdict: Verdict,
+    completions: CompletionList,
+) -> Result<Report, NoMemory>
+    requires goals { All (IsGoalOn search.spec search.wanted) goals.now }
+    requires proved { AreProved search goals.now steps.now }
+    requires few { HasFewSteps search.log }
+    requires listed { (c : Rankings) × (completions ≡ c ∷ []) × IsConsistent search.spec c }
+    requires claiming { IsClaiming verdict }
+    requires writable { IsWritableVerdict search.spec.relations verdict }
+    ensures { (q : Question) (budget : ℕ) → search.entry.wanted ≡ wanted_of q → IsOneOf search.entry.spec q verdict
+        → AreClaims search.entry.spec goals.now (needs_of q verdict) → IfOk result (IsReported search.entry.spec q budget) }
+{
+    search_logs_are_accepted();
+    trimmed_logs_are_accepted();
+    trimmed_logs_are_writable();
+    completions_are_writable();
+    literals_agree();
+    search.is_search();
+    let log = search.into_log();
+    let needed = match trim(alloc, &log, steps.as_slice()) {
+        Ok(needed) => needed,
+        Err(error) => return Err(error),
+    };
+    Ok(Report {
+        verdict,
+        completions,
+        log: needed.log,
+    })
+}
+
+/// A search that is not needed any more. A path that let it go out of scope by itself would drop each of its lists in the
+/// goals of the function it stands in.
+pub(crate) fn discard(search: Search<'_>) {
+    let _log = search.log();
+}
+
+/// A list of one completion.
+pub(crate) fn one(alloc: Global, completion: Completion) -> Result<CompletionList, NoMemory>
+    ensures { IfOk result (λ list. list ≡ completion ∷ []) }
+{
+    let mut completions = CompletionList::new(alloc);
+    match completions.push(completion) {
+        Ok(()) => Ok(completions),
+        Err(error) => Err(error),
+    }
+}
+
+/// A list of two completions.
+pub(crate) fn two(
+    alloc: Global,
+    first: Completion,
+    second: Completion,
+) -> Result<CompletionList, NoMemory>
+    ensures { IfOk result (λ list. list ≡ first ∷ second ∷ []) }
+{
+    let mut completions = match one(alloc, first) {
+        Ok(completions) => completions,
+        Err(error) => return Err(error),
+    };
+    match completions.push(second) {
+        Ok(()) => Ok(completions),
+        Err(error) => Err(error),
+    }
+}
+
+/// The report of a verdict that completions show: no log is needed.
+pub(crate) fn listed(alloc: Global, verdict: Verdict, completions: CompletionList) -> Report
+    ensures { ListsAlone verdict completions result }
+{
+    Report {
+        verdict,
+        completions,
+        log: Log::new(alloc),
     }
 }

@@ -1,6 +1,6 @@
 -- What a command comes to, stage by stage: what is told is shown by the documents.
 use Rattle.std.proofs.Common.{◌≡◌, ℕ, Bool, true, false, not, if◌then◌else◌, List, [], Option, Some, None, IfOk, IfErr, IfSome, OnOk, All, Result, Ok, Err, inl, refl, sym, ap, subst}
-use Rattle.currency_ask.specs.Answered.{IsAnswerWithin, IsDecidedBy}
+use Rattle.currency_ask.specs.Answered.{IsAnswerWithin, IsDecidedBy, NamesFirst}
 use Rattle.currency_report.specs.declared.report.Lines.{Lines}
 use Rattle.currency_report.specs.declared.report.ReadReport.{ReadReport}
 use Rattle.currency_report.specs.Reads.{ReadsReport}
@@ -44,7 +44,7 @@ report_shown texts s q name read (Err e) is_read shown of_kind right = tt
 
 -- the stages together
 pub shown_right : (texts : Option (List (List ℕ × List ℕ))) (v : VerifySaid) (s : Spec) (q : Question) (r : Result Kind Trouble)
-    → IfSome texts (λ told. IsSpecRead told v.spec (Ok s)) → IfSome texts (λ told. IsQuestionRead told v.question (Ok q))
+    → IfSome texts (λ told. IsSpecRead told v.spec (Ok s)) → IfSome texts (λ told. IsQuestionRead told s.relations v.question (Ok q))
     → IfOk r (λ kind. IfSome texts (λ told. IsReportShown told s q v.report kind))
     → IfOk r (λ kind. IfSome texts (λ told. IsShownRight told v kind))
 shown_right None v s q (Ok kind) spec question report = tt
@@ -76,15 +76,16 @@ pub record Answer (s : Spec) (q : Question) (budget : ℕ) (r : Report) : Type 0
   pub shown : ShowsVerdict s q r
   pub right : is_decided (kind_of r.verdict) ≡ true → IsRight s q r.verdict
   pub writable : IsWritableReport s.relations r
-  pub within : IsAnswerWithin s budget r
-  pub enough : IsDecidedBy s budget r
+  pub within : IsAnswerWithin s q budget r
+  pub enough : IsDecidedBy s q budget r
+  pub first : NamesFirst s q r.verdict
 
 is_answer : WrittenIsRead → (s : Spec) (q : Question) (budget : ℕ) (r : Report) → AreRelations s.relations → All HasTextNames s.relations
     → Answer s q budget r → IsAnswer s q budget r
 is_answer law s q budget r relations names a =
     let read : (lines : Lines) × ReadsReport s.relations (text_of (report_pieces s.relations r)) (record { report = r; lines = lines }) =
     law s.relations r relations names a.writable in
-    record { shown = a.shown; right = a.right; lines = read.0; reread = read.1; within = a.within; enough = a.enough }
+    record { shown = a.shown; right = a.right; lines = read.0; reread = read.1; within = a.within; enough = a.enough; first = a.first }
 
 -- a report that is told is an answer
 pub answered : WrittenIsRead → (s : Spec) (a : AskSaid) (q : Question) (r : Report) (outcome : Result Done Trouble)
@@ -101,7 +102,7 @@ of_ask a text undecided (Ok d) is = subst (IsOutcomeOf (AskFor a)) (sym is) tt
 of_ask a text undecided (Err e) is = tt
 
 answer_told : (told : List (List ℕ × List ℕ)) (a : AskSaid) (s : Spec) (q : Question) (r : Report) → IsSpecRead told a.spec (Ok s)
-    → IsQuestionRead told a.question (Ok q) → IsAnswer s q a.budget r
+    → IsQuestionRead told s.relations a.question (Ok q) → IsAnswer s q a.budget r
     → IsAnswerTold told a (answer_text s.relations a.brief r) (not (is_decided (kind_of r.verdict)))
 answer_told told a s q r spec question answer = record {
   spec = s;
@@ -117,7 +118,7 @@ answer_told told a s q r spec question answer = record {
 
 -- the stages together
 pub ask_told : (texts : Option (List (List ℕ × List ℕ))) (a : AskSaid) (s : Spec) (q : Question) (outcome : Result Done Trouble)
-    → IfSome texts (λ told. IsSpecRead told a.spec (Ok s)) → IfSome texts (λ told. IsQuestionRead told a.question (Ok q))
+    → IfSome texts (λ told. IsSpecRead told a.spec (Ok s)) → IfSome texts (λ told. IsQuestionRead told s.relations a.question (Ok q))
     → (IsSettled outcome → IsAnswered s a q outcome) → IfOk outcome (λ d. IfSome texts (λ told. IsTold told (AskFor a) d))
 ask_told None a s q (Ok d) spec question job = tt
 ask_told (Some told) a s q (Ok d) spec question job =
@@ -127,7 +128,7 @@ ask_told texts a s q (Err e) spec question job = tt
 
 -- an answer is due
 pub ask_due : (texts : Option (List (List ℕ × List ℕ))) (a : AskSaid) (s : Spec) (q : Question) (outcome : Result Done Trouble)
-    → IfSome texts (λ told. IsSpecRead told a.spec (Ok s)) → IfSome texts (λ told. IsQuestionRead told a.question (Ok q))
+    → IfSome texts (λ told. IsSpecRead told a.spec (Ok s)) → IfSome texts (λ told. IsQuestionRead told s.relations a.question (Ok q))
     → (IsSettled outcome → IsAnswered s a q outcome) → IsSettled outcome → IfSome texts (λ told. IsAskDue told a outcome)
 ask_due None a s q outcome spec question job settled = tt
 ask_due (Some told) a s q outcome spec question job settled = (Ok s, spec, (Ok q, question, job settled))

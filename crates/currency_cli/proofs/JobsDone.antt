@@ -1,8 +1,8 @@
 -- Where the job is done, the sink got its text, and what is told is shown.
-use Rattle.std.proofs.Common.{◌≡◌, ℕ, Bool, true, false, List, [], Option, Some, None, IfSome, Ok, Err, inl, inr, refl, sym, ap, subst, ◌∙◌, arith}
+use Rattle.std.proofs.Common.{◌≡◌, ℕ, Bool, true, false, List, Option, Some, None, IfSome, Ok, Err, inl, inr, refl, sym, ap, subst, ◌∙◌, arith}
 use Rattle.std.specs.Io.KnownBytes.{Appends}
 use Rattle.currency_edge.specs.Sink.{AppendsPrefix}
-use Rattle.currency_ask.specs.Answered.{IsAnswerWithin}
+use Rattle.currency_ask.specs.Answered.{IsAnswerWithin, currents_of}
 use Rattle.order_literals.specs.Enough.{IsEnough}
 use Rattle.program_words.specs.Words.{AskSaid, CommandSaid, AskFor, VerifyOf, ForcedOf}
 use Rattle.report_model.specs.Verdicts.{is_decided, kind_of}
@@ -10,6 +10,7 @@ use Rattle.report_model.specs.declared.report.Report.{Report}
 use Rattle.report_model.specs.declared.verdict.Verdict.{Verdict}
 use Rattle.report_model.specs.declared.verdict.Verdict.TheVariants as verdict
 use Rattle.spec_model.specs.Spec.{Spec}
+use Rattle.spec_model.specs.declared.question.Question.{Question}
 use Rattle.currency_cli.specs.Ends.{EndsWith, IsAnswerTold, IsJobDone, IsDone, IsUndecided, output_of, status_of}
 use Rattle.currency_cli.specs.Texts.{trouble_status}
 use Rattle.currency_cli.specs.Told.{IsTold, IsOutcomeOf, IsToldFor}
@@ -123,22 +124,22 @@ true_not_false h = cc
 no_kind : (r : Report) (v : Verdict) → r.verdict ≡ v → is_decided (kind_of v) ≡ true → is_decided (kind_of r.verdict) ≡ false → ⊥
 no_kind r v is decided undecided = true_not_false (sym decided ∙ subst (λ (w : Verdict). is_decided (kind_of w) ≡ false) is undecided)
 
-undecided_at : (s : Spec) (budget : ℕ) (r : Report) (v : Verdict) → r.verdict ≡ v → IsAnswerWithin s budget r → is_decided (kind_of r.verdict) ≡ false
+undecided_at : (s : Spec) (q : Question) (budget : ℕ) (r : Report) (v : Verdict) → r.verdict ≡ v → IsAnswerWithin s q budget r → is_decided (kind_of r.verdict) ≡ false
     → r.verdict ≡ verdict.Undecided budget
-undecided_at s budget r verdict.Inconsistent is within undecided = absurd (no_kind r _ is refl undecided)
-undecided_at s budget r verdict.Consistent is within undecided = absurd (no_kind r _ is refl undecided)
-undecided_at s budget r verdict.Certain is within undecided = absurd (no_kind r _ is refl undecided)
-undecided_at s budget r (verdict.NotCertain p) is within undecided = absurd (no_kind r _ is refl undecided)
-undecided_at s budget r (verdict.Same items) is within undecided = absurd (no_kind r _ is refl undecided)
-undecided_at s budget r (verdict.NotSame rel attr ent) is within undecided = absurd (no_kind r _ is refl undecided)
-undecided_at s budget r (verdict.Answers tuples) is within undecided = absurd (no_kind r _ is refl undecided)
-undecided_at s budget r (verdict.Undecided counted) is within undecided = is ∙ ap verdict.Undecided ((rw is at within).1)
+undecided_at s q budget r verdict.Inconsistent is within undecided = absurd (no_kind r _ is refl undecided)
+undecided_at s q budget r verdict.Consistent is within undecided = absurd (no_kind r _ is refl undecided)
+undecided_at s q budget r verdict.Certain is within undecided = absurd (no_kind r _ is refl undecided)
+undecided_at s q budget r (verdict.NotCertain p) is within undecided = absurd (no_kind r _ is refl undecided)
+undecided_at s q budget r (verdict.Same items) is within undecided = absurd (no_kind r _ is refl undecided)
+undecided_at s q budget r (verdict.NotSame rel attr ent) is within undecided = absurd (no_kind r _ is refl undecided)
+undecided_at s q budget r (verdict.Answers tuples) is within undecided = absurd (no_kind r _ is refl undecided)
+undecided_at s q budget r (verdict.Undecided counted) is within undecided = is ∙ ap verdict.Undecided ((rw is at within).1)
 
 undecided_told : (texts : Option (List (List ℕ × List ℕ))) (a : AskSaid) (text : List ℕ) → IfSome texts (λ told. IsAnswerTold told a text true)
-    → IfSome texts (λ told. (t : IsAnswerTold told a text true) × (t.report.verdict ≡ verdict.Undecided a.budget) × (IsEnough t.spec [] (λ c. 0) a.budget → ⊥))
+    → IfSome texts (λ told. (t : IsAnswerTold told a text true) × (t.report.verdict ≡ verdict.Undecided a.budget) × (IsEnough t.spec (currents_of t.question) (λ c. 0) a.budget → ⊥))
 undecided_told None a text h = tt
 undecided_told (Some told) a text t =
-    (t, undecided_at t.spec a.budget t.report t.report.verdict refl t.answer.within t.decided, λ enough. true_not_false (sym (t.answer.enough enough) ∙ t.decided))
+    (t, undecided_at t.spec t.question a.budget t.report t.report.verdict refl t.answer.within t.decided, λ enough. true_not_false (sym (t.answer.enough enough) ∙ t.decided))
 
 undecided_of : (texts : Option (List (List ℕ × List ℕ))) (count : ℕ) (words : List (List ℕ)) (old new : Option (List ℕ)) (c : CommandSaid) (d : Done)
     → command_for count words ≡ Some c → IsOutcomeOf c d → IfSome texts (λ told. IsTold told c d) → status_of (Ok d) ≡ 3

@@ -4,6 +4,7 @@ pub mod ForWords
 pub mod JobsDone
 pub mod NameTexts
 pub mod OneDue
+pub mod PartLines
 pub mod Refusals
 pub mod Replies
 pub mod WholeTexts

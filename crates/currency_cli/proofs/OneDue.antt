@@ -2,15 +2,17 @@
 use Rattle.std.proofs.Common.{◌≡◌, ◌∙◌, ℕ, Bool, List, Option, Some, None, MatchOption, MatchResult, Result, Ok, Err, sym, subst, ap, inl, inr, arith}
 use Rattle.currency_edge.specs.Shelf.{document}
 use Rattle.text_tokens.specs.declared.token.TextFault.{TextFault}
-use Rattle.spec_syntax.specs.Texts.{ReadsSpec, RefusesSpec, ReadsQuestion, RefusesQuestion}
-use Rattle.spec_syntax.specs.declared.trees.QuestionTree.{QuestionTree}
+use Rattle.spec_syntax.specs.Texts.{ReadsSpec, RefusesSpec}
 use Rattle.spec_syntax.specs.declared.trees.SpecTree.{SpecTree}
+use Rattle.question_syntax.specs.Texts.{ReadsQuestion, RefusesQuestion}
+use Rattle.question_syntax.specs.declared.trees.QuestionTree.{QuestionTree}
 use Rattle.report_syntax.specs.Reads.{ReadsReportText, RefusesReportText}
 use Rattle.report_syntax.specs.declared.tree.ReportTree.{ReportTree}
 use Rattle.spec_model.specs.declared.question.Question.{Question}
 use Rattle.spec_model.specs.declared.relation.Relation.{Relation}
 use Rattle.spec_model.specs.Spec.{Spec}
 use Rattle.spec_bind.specs.Bound.{IsSpecBound as IsBound}
+use Rattle.question_bind.specs.Bound.{IsQuestionBound}
 use Rattle.bind_faults.specs.declared.fault.BindFault.{BindFault}
 use Rattle.currency_report.specs.Reads.{ReadsReport, RefusesReport, fault_of, said}
 use Rattle.report_model.specs.declared.report.Part.{Part}
@@ -19,7 +21,7 @@ use Rattle.report_model.specs.declared.report.Report.{Report}
 use Rattle.currency_report.specs.declared.report.ReportFault.{ReportFault}
 use Rattle.report_verify.specs.Shown.{ShowsVerdict, IsFirstUnshown}
 use Rattle.report_verify.specs.declared.fault.Unshown.{Unshown}
-use Rattle.currency_cli.specs.Due.{Then, Within, IsSpecTree, IsSpecBound, IsSpecSaid, IsSpecRead, IsQuestionSaid, IsQuestionRead, IsReportSaid, IsReportRead, IsJudged, IsVerifyDue, IsAnswered, IsAskDue, IsForcedTold, IsForcedDue, IsDueFor, IsDue, accepted, question_of, text_trouble, bind_trouble, report_trouble}
+use Rattle.currency_cli.specs.Due.{Then, Within, IsSpecTree, IsSpecBound, IsSpecSaid, IsSpecRead, IsQuestionTree, IsQuestionOf, IsQuestionSaid, IsQuestionRead, IsReportSaid, IsReportRead, IsJudged, IsVerifyDue, IsAnswered, IsAskDue, IsForcedTold, IsForcedDue, IsDueFor, IsDue, accepted, text_trouble, bind_trouble, report_trouble}
 use Rattle.program_words.specs.Words.{AskSaid, VerifySaid, CommandSaid, AskFor, VerifyOf, ForcedOf}
 use Rattle.currency_cli.specs.Alike.{AreAlike}
 use Rattle.currency_cli.specs.Words.{command_for}
@@ -28,7 +30,7 @@ use Rattle.currency_cli.specs.declared.done.Done.TheVariants as done
 use Rattle.currency_cli.specs.declared.trouble.Trouble.{Trouble}
 use Rattle.currency_cli.specs.declared.trouble.Trouble.TheVariants as trouble
 
--- what the layers below say of one reading of a specification and a question, and of one binding
+-- what the layers below say of one reading of a specification and a question, and of one binding of each
 pub record Readings : Type 0 where
   pub spec_tree : (source : List ℕ) (a b : SpecTree) → ReadsSpec source a → ReadsSpec source b → a ≡ b
   pub spec_refusal : (source : List ℕ) (e f : TextFault) → RefusesSpec source e → RefusesSpec source f → e ≡ f
@@ -37,6 +39,8 @@ pub record Readings : Type 0 where
   pub question_refusal : (source : List ℕ) (e f : TextFault) → RefusesQuestion source e → RefusesQuestion source f → e ≡ f
   pub question_not_both : (source : List ℕ) (t : QuestionTree) (e : TextFault) → ReadsQuestion source t → RefusesQuestion source e → ⊥
   pub binding : (told : List (List ℕ × List ℕ)) (t : SpecTree) (a b : Result Spec BindFault) → IsBound told t a → IsBound told t b → a ≡ b
+  pub question_binding : (told : List (List ℕ × List ℕ)) (relations : List Relation) (t : QuestionTree) (a b : Result Question BindFault)
+      → IsQuestionBound told relations t a → IsQuestionBound told relations t b → a ≡ b
 
 -- and of one reading of a report, and one first failing check
 pub record Laws : Type 0 where
@@ -101,15 +105,27 @@ spec_read_one laws told name =
     within_one _ (document told name) (IsSpecSaid told name (document told name))
     (then_one (IsSpecTree name (document told name)) (IsSpecBound told name) (spec_tree_one laws name (document told name)) (spec_bound_one laws told name))
 
-question_said_one : Readings → (name bytes : List ℕ) → IsOne (IsQuestionSaid name bytes)
-question_said_one laws name bytes a b (inl h) (inl k) = h.2 ∙ ap (λ t. Ok (question_of t)) (laws.question_tree bytes h.0 k.0 h.1 k.1) ∙ sym k.2
-question_said_one laws name bytes a b (inl h) (inr k) = absurd (laws.question_not_both bytes h.0 k.0 h.1 k.1)
-question_said_one laws name bytes a b (inr h) (inl k) = absurd (laws.question_not_both bytes k.0 h.0 k.1 h.1)
-question_said_one laws name bytes a b (inr h) (inr k) = h.2 ∙ ap (λ f. Err (text_trouble name f)) (laws.question_refusal bytes h.0 k.0 h.1 k.1) ∙ sym k.2
+question_tree_one : Readings → (name bytes : List ℕ) → IsOne (IsQuestionTree name bytes)
+question_tree_one laws name bytes a b (inl h) (inl k) = h.2 ∙ ap Ok (laws.question_tree bytes h.0 k.0 h.1 k.1) ∙ sym k.2
+question_tree_one laws name bytes a b (inl h) (inr k) = absurd (laws.question_not_both bytes h.0 k.0 h.1 k.1)
+question_tree_one laws name bytes a b (inr h) (inl k) = absurd (laws.question_not_both bytes k.0 h.0 k.1 h.1)
+question_tree_one laws name bytes a b (inr h) (inr k) = h.2 ∙ ap (λ f. Err (text_trouble name f)) (laws.question_refusal bytes h.0 k.0 h.1 k.1) ∙ sym k.2
 
-pub question_read_one : Readings → (told : List (List ℕ × List ℕ)) (name : List ℕ) → IsOne (IsQuestionRead told name)
-question_read_one laws told name =
-    within_one _ (document told name) (IsQuestionSaid name (document told name)) (question_said_one laws name (document told name))
+question_bound_one : Readings → (told : List (List ℕ × List ℕ)) (relations : List Relation) (name : List ℕ) (t : QuestionTree) → IsOne (IsQuestionOf told relations name t)
+question_bound_one laws told relations name t a b (inl h) (inl k) =
+    h.2 ∙ ap Ok (ok_same h.0 k.0 (laws.question_binding told relations t (Ok h.0) (Ok k.0) h.1 k.1)) ∙ sym k.2
+question_bound_one laws told relations name t a b (inl h) (inr k) =
+    absurd (apart h.0 k.0 (laws.question_binding told relations t (Ok h.0) (Err k.0) h.1 k.1))
+question_bound_one laws told relations name t a b (inr h) (inl k) =
+    absurd (apart k.0 h.0 (laws.question_binding told relations t (Ok k.0) (Err h.0) k.1 h.1))
+question_bound_one laws told relations name t a b (inr h) (inr k) =
+    h.2 ∙ ap (λ f. Err (bind_trouble name f)) (err_same h.0 k.0 (laws.question_binding told relations t (Err h.0) (Err k.0) h.1 k.1)) ∙ sym k.2
+
+pub question_read_one : Readings → (told : List (List ℕ × List ℕ)) (relations : List Relation) (name : List ℕ) → IsOne (IsQuestionRead told relations name)
+question_read_one laws told relations name =
+    within_one _ (document told name) (IsQuestionSaid told relations name (document told name))
+    (then_one (IsQuestionTree name (document told name)) (IsQuestionOf told relations name) (question_tree_one laws name (document told name))
+    (question_bound_one laws told relations name))
 
 -- two trees of one text say the same
 said_same : Laws → (relations : List Relation) (bytes : List ℕ) (t u : ReportTree) (a b : Result ReadReport ReportFault)
@@ -187,7 +203,7 @@ then_like {A} first next one like a b h k =
 verify_one : Laws → (told : List (List ℕ × List ℕ)) (v : VerifySaid) → IsOne (IsVerifyDue told v)
 verify_one laws told v =
     then_one (IsSpecRead told v.spec) _ (spec_read_one laws.readings told v.spec) (λ s.
-    then_one (IsQuestionRead told v.question) _ (question_read_one laws.readings told v.question) (λ question.
+    then_one (IsQuestionRead told s.relations v.question) _ (question_read_one laws.readings told s.relations v.question) (λ question.
     then_one (IsReportRead told s.relations v.report) _ (report_one laws s.relations v.report (document told v.report))
     (judged_one laws s question v.report)))
 
@@ -197,7 +213,7 @@ answered_like s a q x y h k = answers_alike _ _ _ _ x y h.2 k.2
 ask_like : Laws → (told : List (List ℕ × List ℕ)) (a : AskSaid) → IsLike (IsAskDue told a)
 ask_like laws told a =
     then_like (IsSpecRead told a.spec) _ (spec_read_one laws.readings told a.spec) (λ s.
-    then_like (IsQuestionRead told a.question) (IsAnswered s a) (question_read_one laws.readings told a.question) (answered_like s a))
+    then_like (IsQuestionRead told s.relations a.question) (IsAnswered s a) (question_read_one laws.readings told s.relations a.question) (answered_like s a))
 
 forced_told_like : (s : Spec) → IsLike (IsForcedTold s)
 forced_told_like s x y h k = forced_alike _ _ x y h.2 k.2

@@ -4,6 +4,7 @@ use Rattle.currency_edge.specs.Fault.{Rose}
 use Rattle.program_words.specs.Words.{AskSaid, CommandSaid, AskFor}
 use Rattle.spec_model.specs.Spec.{Spec}
 use Rattle.spec_model.specs.declared.question.Question.{Question}
+use Rattle.spec_model.specs.declared.relation.Relation.{Relation}
 use Rattle.currency_cli.specs.Alike.{AreAlike}
 use Rattle.currency_cli.specs.Due.{IsSpecRead, IsQuestionRead, IsAnswered, IsAskDue, IsDue, IsDueFor, Then}
 use Rattle.currency_cli.specs.Ends.{EndsWith, HasStatus, ComesToAnswer}
@@ -15,26 +16,27 @@ use Rattle.currency_cli.specs.declared.trouble.Trouble.{Trouble}
 use Rattle.currency_cli.specs.declared.trouble.Trouble.TheVariants as trouble
 use Rattle.currency_cli.proofs.Exact.{comes, steady}
 
--- a document is read as one specification, and as one question
+-- a document is read as one specification, and as one question on the relations of one
 abbrev pub OneSpec : Type 0
 OneSpec = (told : List (List ℕ × List ℕ)) (name : List ℕ) (a b : Result Spec Trouble) → IsSpecRead told name a → IsSpecRead told name b → a ≡ b
 
 abbrev pub OneQuestion : Type 0
-OneQuestion = (told : List (List ℕ × List ℕ)) (name : List ℕ) (a b : Result Question Trouble) → IsQuestionRead told name a → IsQuestionRead told name b → a ≡ b
+OneQuestion = (told : List (List ℕ × List ℕ)) (relations : List Relation) (name : List ℕ) (a b : Result Question Trouble)
+    → IsQuestionRead told relations name a → IsQuestionRead told relations name b → a ≡ b
 
 -- ---- both are read, so an answer is due
 
 asked_at : OneQuestion → (told : List (List ℕ × List ℕ)) (a : AskSaid) (s : Spec) (q : Question) (got : Result Done Trouble)
-    → IsQuestionRead told a.question (Ok q) → Then (IsQuestionRead told a.question) (IsAnswered s a) got → IsAnswered s a q got
+    → IsQuestionRead told s.relations a.question (Ok q) → Then (IsQuestionRead told s.relations a.question) (IsAnswered s a) got → IsAnswered s a q got
 asked_at one told a s q got read h =
     subst (λ (r : Result Question Trouble). MatchResult r (λ x. IsAnswered s a x got) (λ e. got ≡ Err e))
-    (one told a.question h.0 (Ok q) h.1 read) h.2
+    (one told s.relations a.question h.0 (Ok q) h.1 read) h.2
 
 answer_due : OneSpec → OneQuestion → (told : List (List ℕ × List ℕ)) (a : AskSaid) (s : Spec) (q : Question) (got : Result Done Trouble)
-    → IsSpecRead told a.spec (Ok s) → IsQuestionRead told a.question (Ok q) → IsAskDue told a got → IsAnswered s a q got
+    → IsSpecRead told a.spec (Ok s) → IsQuestionRead told s.relations a.question (Ok q) → IsAskDue told a got → IsAnswered s a q got
 answer_due one_spec one_question told a s q got spec question h =
     asked_at one_question told a s q got question
-    (subst (λ (r : Result Spec Trouble). MatchResult r (λ x. Then (IsQuestionRead told a.question) (IsAnswered x a) got) (λ e. got ≡ Err e))
+    (subst (λ (r : Result Spec Trouble). MatchResult r (λ x. Then (IsQuestionRead told x.relations a.question) (IsAnswered x a) got) (λ e. got ≡ Err e))
     (one_spec told a.spec h.0 (Ok s) h.1 spec) h.2)
 
 -- ---- an answer's status
@@ -60,7 +62,7 @@ pub answered : OneSpec → OneQuestion → (texts : Option (List (List ℕ × Li
     (old new : Option (List ℕ)) (rb rn wb wn status : ℕ)
     → (IsSettled got → IfSome texts (λ told. IsDue told count words got)) → (IsReadFault got → Rose rb rn) → EndsWith old new wb wn got status
     → (Rose rb rn → ⊥) → (Rose wb wn → ⊥) → (a : AskSaid) → command_for count words ≡ Some (AskFor a) → (s : Spec) (q : Question)
-    → IfSome texts (λ told. IsSpecRead told a.spec (Ok s) → IsQuestionRead told a.question (Ok q) → ComesToAnswer status)
+    → IfSome texts (λ told. IsSpecRead told a.spec (Ok s) → IsQuestionRead told s.relations a.question (Ok q) → ComesToAnswer status)
 answered one_spec one_question None count words got old new rb rn wb wn status due rose ends reads writes a said s q = tt
 answered one_spec one_question (Some told) count words got old new rb rn wb wn status due rose ends reads writes a said s q = λ spec question.
     an_answer_comes status (steady an_answer rb rn wb wn status reads writes

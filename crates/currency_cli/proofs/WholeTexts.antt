@@ -12,11 +12,6 @@ of_document None name bytes bound P outcome whole within holds = tt
 of_document (Some t) name bytes bound P outcome whole within holds =
     inr (subst (λ (b : List ℕ). (length b ≤ bound) × P t b outcome) whole (within, holds))
 
--- a fact that says nothing of the documents
-pub anyway : (told : Option (List (List ℕ × List ℕ))) (P : Type 0) → P → IfSome told (λ t. P)
-anyway None P p = tt
-anyway (Some t) P p = p
-
 -- the same of a document with no bound
 pub of_whole_document : (told : Option (List (List ℕ × List ℕ))) (name bytes : List ℕ) (P : List ℕ → Type 0)
     → IfSome told (λ t. bytes ≡ document t name) → P bytes → IfSome told (λ t. P (document t name))

@@ -1,20 +1,20 @@
--- What is due for words and told documents, stage by stage: the words, the specification with its tables, the question,
--- the report, as the command asks for them, and then the job. The first stage that is refused decides.
+-- What is due for words and told documents, stage by stage: the words, the specification with its tables, the question with
+-- its tables, the report, as the command asks for them, and then the job. The first stage that is refused decides.
 use Rattle.std.specs.Prelude.{◌≡◌, ◌⊎◌, ◌<◌, ◌≤◌, ◌&&◌, ℕ, Bool, true, not, if◌then◌else◌, List, length, unwrap_or, Result, Ok, Err, MatchOption, MatchResult}
 use Rattle.currency_base.specs.declared.error_code.ErrorCode.TheVariants as code
 use Rattle.currency_edge.specs.Shelf.{document}
 use Rattle.text_tokens.specs.declared.token.TextFault.{TextFault}
 use Rattle.text_tokens.specs.declared.token.TextFault.TheVariants as text
-use Rattle.spec_syntax.specs.Texts.{ReadsSpec, RefusesSpec, ReadsQuestion, RefusesQuestion}
-use Rattle.spec_syntax.specs.declared.trees.QuestionTree.{QuestionTree}
-use Rattle.spec_syntax.specs.declared.trees.QuestionTree.TheVariants as tree
+use Rattle.spec_syntax.specs.Texts.{ReadsSpec, RefusesSpec}
 use Rattle.spec_syntax.specs.declared.trees.SpecTree.{SpecTree}
+use Rattle.question_syntax.specs.Texts.{ReadsQuestion, RefusesQuestion}
+use Rattle.question_syntax.specs.declared.trees.QuestionTree.{QuestionTree}
 use Rattle.spec_model.specs.declared.question.Question.{Question}
-use Rattle.spec_model.specs.declared.question.Question.TheVariants as asked
 use Rattle.spec_model.specs.Spec.{Spec}
 use Rattle.spec_model.specs.declared.relation.Relation.{Relation}
 use Rattle.bound_spec.specs.Growth.{nothing}
 use Rattle.spec_bind.specs.Bound.{IsSpecBound as IsBound, TableDue}
+use Rattle.question_bind.specs.Bound.{IsQuestionBound, IsQuestionTableDue}
 use Rattle.bind_faults.specs.declared.fault.BindFault.{BindFault}
 use Rattle.bind_faults.specs.declared.fault.BindFault.TheVariants as bind
 use Rattle.currency_report.specs.Lines.{line_of}
@@ -28,7 +28,7 @@ use Rattle.currency_report.specs.declared.report.ReportFault.TheVariants as repo
 use Rattle.report_verify.specs.Shown.{ShowsVerdict, IsFirstUnshown}
 use Rattle.report_verify.specs.declared.fault.Unshown.{Unshown}
 use Rattle.report_verify.specs.declared.fault.Unshown.TheVariants.{BadCompletion, BadLog, NotShown}
-use Rattle.currency_ask.specs.Answered.{IsAnswerWithin, IsDecidedBy}
+use Rattle.currency_ask.specs.Answered.{IsAnswerWithin, IsDecidedBy, NamesFirst}
 use Rattle.currency_report.specs.declared.report.Lines.{Lines}
 use Rattle.forced_write.specs.ForcedText.{IsForcedText}
 use Rattle.program_words.specs.Words.{AskSaid, VerifySaid, CommandSaid, AskFor, VerifyOf, ForcedOf}
@@ -108,19 +108,26 @@ IsSpecSaid told name bytes = Then (IsSpecTree name bytes) (IsSpecBound told name
 abbrev pub IsSpecRead : List (List ℕ × List ℕ) → List ℕ → Result Spec Trouble → Type 0
 IsSpecRead told name = Within text_bound (document told name) (IsSpecSaid told name (document told name))
 
--- the question that a tree says
-abbrev pub question_of : QuestionTree → Question
-question_of tree.Consistent = asked.Consistent
-
--- the question that a text says
-abbrev pub IsQuestionSaid : List ℕ → List ℕ → Result Question Trouble → Type 0
-IsQuestionSaid name bytes outcome =
-    ((t : QuestionTree) × ReadsQuestion bytes t × (outcome ≡ Ok (question_of t)))
+-- the question's text is read as a tree
+abbrev pub IsQuestionTree : List ℕ → List ℕ → Result QuestionTree Trouble → Type 0
+IsQuestionTree name bytes outcome =
+    ((t : QuestionTree) × ReadsQuestion bytes t × (outcome ≡ Ok t))
     ⊎ ((fault : TextFault) × RefusesQuestion bytes fault × (outcome ≡ Err (text_trouble name fault)))
 
+-- the tree is bound on the relations of a specification, with the tables that it names
+abbrev pub IsQuestionOf : List (List ℕ × List ℕ) → List Relation → List ℕ → QuestionTree → Result Question Trouble → Type 0
+IsQuestionOf told relations name t outcome =
+    ((q : Question) × IsQuestionBound told relations t (Ok q) × (outcome ≡ Ok q))
+    ⊎ ((fault : BindFault) × IsQuestionBound told relations t (Err fault) × (outcome ≡ Err (bind_trouble name fault)))
+
+-- the question that a text says of a specification, with its tables
+abbrev pub IsQuestionSaid : List (List ℕ × List ℕ) → List Relation → List ℕ → List ℕ → Result Question Trouble → Type 0
+IsQuestionSaid told relations name bytes = Then (IsQuestionTree name bytes) (IsQuestionOf told relations name)
+
 -- the question
-abbrev pub IsQuestionRead : List (List ℕ × List ℕ) → List ℕ → Result Question Trouble → Type 0
-IsQuestionRead told name = Within text_bound (document told name) (IsQuestionSaid name (document told name))
+abbrev pub IsQuestionRead : List (List ℕ × List ℕ) → List Relation → List ℕ → Result Question Trouble → Type 0
+IsQuestionRead told relations name =
+    Within text_bound (document told name) (IsQuestionSaid told relations name (document told name))
 
 -- the report that a text says of a specification
 abbrev pub IsReportSaid : List Relation → List ℕ → List ℕ → Result ReadReport Trouble → Type 0
@@ -143,21 +150,22 @@ IsJudged s question name r outcome =
 abbrev pub IsVerifyDue : List (List ℕ × List ℕ) → VerifySaid → Result Kind Trouble → Type 0
 IsVerifyDue told v =
     Then (IsSpecRead told v.spec) (λ s.
-    Then (IsQuestionRead told v.question) (λ question.
+    Then (IsQuestionRead told s.relations v.question) (λ question.
     Then (IsReportRead told s.relations v.report) (IsJudged s question v.report)))
 
 -- ---- answers
 
 -- a report that answers a question within a budget: it shows its verdict, which is right if it is a decided one; its text is read
 -- as the same report; it lists and derives no more than is needed, or what a search that took the whole budget left; and it is
--- decided where the budget is enough
+-- decided where the budget is enough; and of asked pairs it names the first that fails
 pub record IsAnswer (s : Spec) (question : Question) (budget : ℕ) (r : Report) : Type 0 where
   pub shown : ShowsVerdict s question r
   pub right : is_decided (kind_of r.verdict) ≡ true → IsRight s question r.verdict
   pub lines : Lines
   pub reread : ReadsReport s.relations (text_of (report_pieces s.relations r)) (record { report = r; lines = lines })
-  pub within : IsAnswerWithin s budget r
-  pub enough : IsDecidedBy s budget r
+  pub within : IsAnswerWithin s question budget r
+  pub enough : IsDecidedBy s question budget r
+  pub first : NamesFirst s question r.verdict
 
 -- the text of a report: brief where that is asked and it is decided
 abbrev pub answer_text : List Relation → Bool → Report → List ℕ
@@ -172,7 +180,7 @@ IsAnswered s a question outcome =
 
 -- what is due for a question about a specification
 abbrev pub IsAskDue : List (List ℕ × List ℕ) → AskSaid → Result Done Trouble → Type 0
-IsAskDue told a = Then (IsSpecRead told a.spec) (λ s. Then (IsQuestionRead told a.question) (IsAnswered s a))
+IsAskDue told a = Then (IsSpecRead told a.spec) (λ s. Then (IsQuestionRead told s.relations a.question) (IsAnswered s a))
 
 -- the job: the forced pairs are told
 abbrev pub IsForcedTold : Spec → Result Done Trouble → Type 0
@@ -213,14 +221,28 @@ IsTableDue told name table = (length (document told name) ≤ text_bound) × IsS
 abbrev pub IsSpecDocumentDue : List (List ℕ × List ℕ) → List ℕ → List ℕ → Type 0
 IsSpecDocumentDue told spec name = (name ≡ spec) ⊎ IsTableDue told spec name
 
--- the question is due to be read, once the specification is
+-- a table is due to be read: these bytes of a question name it, and what stands before is bound
+abbrev pub IsQuestionSaidTableDue : List (List ℕ × List ℕ) → List Relation → List ℕ → List ℕ → List ℕ → Type 0
+IsQuestionSaidTableDue told relations name bytes table =
+    (t : QuestionTree) × IsQuestionTree name bytes (Ok t) × IsQuestionTableDue told relations t table
+
+-- a document is due to be read for a question: its text, or a table that it names, where the text is not too long
+abbrev pub IsQuestionDocumentDue : List (List ℕ × List ℕ) → List Relation → List ℕ → List ℕ → Type 0
+IsQuestionDocumentDue told relations question name =
+    (name ≡ question)
+    ⊎ ((length (document told question) ≤ text_bound)
+    × IsQuestionSaidTableDue told relations question (document told question) name)
+
+-- the same, once the specification is read
 abbrev pub IsQuestionDue : List (List ℕ × List ℕ) → List ℕ → List ℕ → List ℕ → Type 0
-IsQuestionDue told spec question name = (s : Spec) × IsSpecRead told spec (Ok s) × (name ≡ question)
+IsQuestionDue told spec question name =
+    (s : Spec) × IsSpecRead told spec (Ok s) × IsQuestionDocumentDue told s.relations question name
 
 -- the report is due to be read, once both are
 abbrev pub IsReportDue : List (List ℕ × List ℕ) → VerifySaid → List ℕ → Type 0
 IsReportDue told v name =
-    (s : Spec) × (q : Question) × IsSpecRead told v.spec (Ok s) × IsQuestionRead told v.question (Ok q) × (name ≡ v.report)
+    (s : Spec) × (q : Question) × IsSpecRead told v.spec (Ok s) × IsQuestionRead told s.relations v.question (Ok q)
+    × (name ≡ v.report)
 
 -- a document is due to be read for a command
 abbrev pub IsDocumentDue : List (List ℕ × List ℕ) → CommandSaid → List ℕ → Type 0

@@ -1,6 +1,7 @@
 -- How the program ends: with which status, and what its sink got.
-use Rattle.std.specs.Prelude.{◌≡◌, ◌⊎◌, ℕ, Bool, true, false, if◌then◌else◌, List, [], Option, Some, IfSome, Result, Ok, Err}
+use Rattle.std.specs.Prelude.{◌≡◌, ◌⊎◌, ℕ, Bool, true, false, if◌then◌else◌, List, Option, Some, IfSome, Result, Ok, Err}
 use Rattle.std.specs.Io.KnownBytes.{Appends}
+use Rattle.currency_ask.specs.Answered.{currents_of}
 use Rattle.currency_edge.specs.Fault.{Rose}
 use Rattle.currency_edge.specs.Sink.{AppendsPrefix}
 use Rattle.currency_report.specs.declared.report.ReadReport.{ReadReport}
@@ -67,7 +68,7 @@ pub record IsShownRight (told : List (List ℕ × List ℕ)) (v : VerifySaid) (k
   pub spec : Spec
   pub question : Question
   pub spec_read : IsSpecRead told v.spec (Ok spec)
-  pub question_read : IsQuestionRead told v.question (Ok question)
+  pub question_read : IsQuestionRead told spec.relations v.question (Ok question)
   pub report : IsReportShown told spec question v.report kind
 
 -- ---- ask
@@ -78,7 +79,7 @@ pub record IsAnswerTold (told : List (List ℕ × List ℕ)) (a : AskSaid) (text
   pub spec : Spec
   pub question : Question
   pub spec_read : IsSpecRead told a.spec (Ok spec)
-  pub question_read : IsQuestionRead told a.question (Ok question)
+  pub question_read : IsQuestionRead told spec.relations a.question (Ok question)
   pub report : Report
   pub answer : IsAnswer spec question a.budget report
   pub is_text : text ≡ answer_text spec.relations a.brief report
@@ -117,7 +118,7 @@ pub record IsUndecided (texts : Option (List (List ℕ × List ℕ))) (count : �
   pub said : command_for count words ≡ Some (AskFor ask)
   pub text : List ℕ
   pub told : IfSome texts (λ told. (t : IsAnswerTold told ask text true) × (t.report.verdict ≡ Undecided ask.budget)
-      × (IsEnough t.spec [] (λ c. 0) ask.budget → ⊥))
+      × (IsEnough t.spec (currents_of t.question) (λ c. 0) ask.budget → ⊥))
   pub written : Appends old new text
 
 -- ---- the other way round

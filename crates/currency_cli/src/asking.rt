@@ -4,7 +4,7 @@ ghost use Rattle.report_model.specs.Verdicts.{is_decided, kind_of};
 ghost use Rattle.report_write.specs.Writable.{IsWritableReport};
 ghost use Rattle.program_words.specs.Words.{AskFor};
 ghost use Rattle.spec_model.specs.Facts.{IsSpecification};
-ghost use Rattle.spec_model.specs.declared.question.Question.TheVariants as wanted;
+ghost use Rattle.spec_model.specs.Questions.{IsQuestionOn};
 ghost use Rattle.bound_spec.specs.Growth.{IsWithinLimits};
 ghost use Rattle.currency_cli.specs.Told.{IsOutcomeOf, IsTold};
 ghost use Rattle.currency_cli.specs.Due.{IsAskDue, IsAnswered, IsDocumentDue, answer_text};
@@ -79,7 +79,7 @@ fn reply(
     guides: &mut Guides,
 ) -> Result<Done, Trouble>
     requires within { IsWithinLimits spec.now }
-    requires consistent { question.now ≡ wanted.Consistent }
+    requires question { IsQuestionOn spec.now.relations question.now }
     ensures job { IsSettled result → IsAnswered spec.now (ask_said asked.entry) question.now result }
     ensures kind { IfOk result (IsOutcomeOf (AskFor (ask_said asked.entry))) }
     ensures inside { IsReadFault result → ⊥ }
@@ -114,7 +114,7 @@ pub fn ask_documents<S: Shelf>(
         Ok(spec) => spec,
         Err(trouble) => return Err(trouble),
     };
-    let question = match read_the_question(alloc, shelf, asked.question) {
+    let question = match read_the_question(alloc, shelf, &spec, asked.question) {
         Ok(question) => question,
         Err(trouble) => return Err(trouble),
     };

@@ -90,9 +90,9 @@ fn refuse<K: Sink>(alloc: Global, out: &mut K, trouble: &Trouble) -> u8
     }
 }
 
-/// Runs the program: reads the documents that the words name, does the job, and writes its text. The
-/// whole text is made first. The guides steer the search of `ask`, whatever they pick. The answer is the exit
-/// status:
+/// Runs the program: reads the documents that the words name, and the tables that the specification and the
+/// question name, does the job, and writes its text. The whole text is made first. The guides steer the search
+/// of `ask`, whatever they pick. The answer is the exit status:
 ///
 /// | status | comes |
 /// |---|---|
@@ -128,11 +128,11 @@ pub fn run<S: Shelf, K: Sink>(
         → (outcome : Result Done Trouble) → IfSome (S.texts shelf.old) (λ told.
         IsDue told (count_of guides.old) (map (λ w. string_bytes w) words.now) outcome → HasStatus outcome result ⊎ (result ≡ 9)) }
 
-    // A question about a specification is answered, where both are read.
+    // A question about a specification is answered, where both are read, whichever of the three it is.
     ensures answered { (Rose (S.faults shelf.old) (S.faults shelf.new) → ⊥) → (Rose (K.faults out.old) (K.faults out.new) → ⊥)
         → (a : AskSaid) → command_for (count_of guides.old) (map (λ w. string_bytes w) words.now) ≡ Some (AskFor a)
         → (s : Spec) (question : Question) → IfSome (S.texts shelf.old) (λ told.
-        IsSpecRead told a.spec (Ok s) → IsQuestionRead told a.question (Ok question) → ComesToAnswer result) }
+        IsSpecRead told a.spec (Ok s) → IsQuestionRead told s.relations a.question (Ok question) → ComesToAnswer result) }
 
     // A refusal of the words, a document, a bound or the report is due.
     ensures refused { IsRefusal result → IfSome (S.texts shelf.old) (λ told.
@@ -147,7 +147,8 @@ pub fn run<S: Shelf, K: Sink>(
     ensures done { result ≡ 0
         → IsDone (S.texts shelf.old) (count_of guides.old) (map (λ w. string_bytes w) words.now) (K.written out.old) (K.written out.new) }
 
-    // The budget is spent: so many clauses were learned, each new, and unit propagation does not refute them.
+    // The budget is spent: so many clauses were learned, each new, and unit propagation does not refute them. It is less than
+    // three to the number of the question's variables.
     ensures undecided { result ≡ 3
         → IsUndecided (S.texts shelf.old) (count_of guides.old) (map (λ w. string_bytes w) words.now) (K.written out.old) (K.written out.new) }
 

@@ -22,7 +22,8 @@ pub enum Trouble {
         document: Name,
         line: u32,
     },
-    /// A document is refused. For a table the line is the number of the record.
+    /// A document is refused: one that the words name, or a table that the specification or the question names.
+    /// For a table the line is the number of the record.
     Refused {
         code: ErrorCode,
         document: Name,
@@ -36,7 +37,9 @@ pub enum Trouble {
         target: Value,
         source: Value,
     },
-    /// A quantity is above its bound; the number is that of the limit.
+    /// A quantity is above its bound; the number is that of the limit: 1 is of the texts of a specification and
+    /// a question, 2 of the tables that they name, 12 of the pairs that a question asks about (more than
+    /// 10,000,000), and the others are of specifications.
     Limit(u8),
     /// The shelf could not give this document.
     ReadFault(Name),

@@ -86,7 +86,7 @@ fn of_difference(
     }
 }
 
-/// The trouble that a fault of binding a specification is; where it names no table it is in the text.
+/// The trouble that a fault of binding a specification or a question is; where it names no table it is in the text.
 pub fn of_binding(alloc: Global, name: &str, fault: BindFault) -> Trouble
     ensures due { (result ≡ Trouble.NoMemory) ⊎ (result ≡ bind_trouble name.now fault) }
     ensures not_words { result ≢ Trouble.Words }

@@ -6,8 +6,8 @@ ghost use Rattle.report_model.specs.Verdicts.{is_decided, kind_of};
 ghost use Rattle.report_verify.specs.Right.{IsRight};
 ghost use Rattle.report_verify.specs.Shown.{ShowsVerdict};
 ghost use Rattle.spec_model.specs.Completion.{HasShape};
+ghost use Rattle.spec_model.specs.Questions.{IsQuestionOn};
 ghost use Rattle.program_words.specs.Words.{VerifyOf};
-ghost use Rattle.spec_model.specs.declared.question.Question.TheVariants as asked;
 ghost use Rattle.currency_cli.specs.Ends.{IsReportShown, IsShownRight};
 ghost use Rattle.currency_cli.specs.Told.{IsOutcomeOf, IsTold};
 ghost use Rattle.currency_cli.specs.Due.{Then, IsReportSaid, IsReportRead, IsJudged, IsVerifyDue, IsDueFor, IsDocumentDue};
@@ -81,7 +81,7 @@ fn judge(
     question: &Question,
     read: &ReadReport,
 ) -> Result<Kind, Trouble>
-    requires consistent { question.now ≡ asked.Consistent }
+    requires question { IsQuestionOn spec.now.relations question.now }
     requires shape { All (HasShape spec.now.relations) read.now.report.completions }
     requires few { length read.now.report.completions < 2 ^ 32 }
     requires numbered { IsNumbered read.now.report.log.statements read.now.report.log.steps }
@@ -110,7 +110,7 @@ fn judge_document<S: Shelf>(
     spec: &Specification,
     question: &Question,
 ) -> Result<Kind, Trouble>
-    requires consistent { question.now ≡ asked.Consistent }
+    requires question { IsQuestionOn spec.now.relations question.now }
     ensures later { S.faults shelf.old ≤ S.faults shelf.new }
     ensures due { IsSettled result → IfSome (S.texts shelf.old) (λ told.
         Then (IsReportRead told spec.now.relations name.now) (IsJudged spec.now question.now name.now) result) }
@@ -143,7 +143,7 @@ fn verify_documents<S: Shelf>(
         Ok(spec) => spec,
         Err(trouble) => return Err(trouble),
     };
-    let question = match read_the_question(alloc, shelf, asked.question) {
+    let question = match read_the_question(alloc, shelf, &spec, asked.question) {
         Ok(question) => question,
         Err(trouble) => return Err(trouble),
     };

@@ -1,4 +1,4 @@
-mod Readable
-mod Pushed
+pub mod Readable
+pub mod Pushed
 mod Fronts
 mod OneInstance

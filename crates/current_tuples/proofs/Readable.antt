@@ -1,6 +1,6 @@
 -- The last row of a ranking, and the value that is read there.
-use Rattle.std.proofs.Common.{◌≡◌, ◌<◌, ℕ, zero, suc, List, [], ◌∷◌, Some, All, length, map, get_or, slice_get, sym, ap, ◌∙◌, refl, arith}
-use Rattle.std.proofs.lemmas.Option.{same_Some, none-some, slice_get_within, slice_get_read}
+use Rattle.std.proofs.Common.{◌≡◌, ◌-◌, ◌<◌, ℕ, zero, suc, List, [], ◌∷◌, Some, All, Contains, length, map, get_or, slice_get, sym, ap, subst, ◌∙◌, refl, arith}
+use Rattle.std.proofs.lemmas.Option.{same_Some, none-some, slice_get_within, slice_get_read, get_or_from_slice_get}
 use Rattle.std.proofs.lemmas.List.{length-map}
 use Rattle.std.proofs.lemmas.List.Elements.{Contains-get_or, All-get_or}
 use Rattle.currency_base.specs.Rows.{HasRowOf}
@@ -28,7 +28,7 @@ entity_of_row (r ∷ rows) zero row is = ap (λ (q : Row). Some q.entity.0) (sam
 entity_of_row (r ∷ rows) (suc at) row is = entity_of_row rows at row is
 
 -- a row that stands for an entity is one of the rows
-row_within : (rows : List Row) (row ent : ℕ) → entity_of rows row ≡ Some ent → row < length rows
+pub row_within : (rows : List Row) (row ent : ℕ) → entity_of rows row ≡ Some ent → row < length rows
 row_within [] row ent e = absurd (none-some ent e)
 row_within (r ∷ rows) zero ent e = omega arith
 row_within (r ∷ rows) (suc row) ent e = omega (arith, row_within rows row ent e)
@@ -75,3 +75,32 @@ pub current_read : (relations : List Relation) (c : Rankings) (rel attr ent : �
 current_read relations c rel attr ent r list value read is_list is_value q at =
     ap (λ (p : Relation). current_value c rel p.rows attr ent) (sym (same_read relations rel r q read at))
     ∙ ap (λ (rows : List RowId). field_value r.rows (last_row rows) attr) (sym is_list) ∙ is_value
+
+-- ---- the row that stands last
+
+own_ranking : (relations : List Relation) (c : Rankings) (rel attr ent : ℕ) → IsCompletion relations c
+    → (place : IsPlaceOf relations rel attr ent) → IsRanking place.relation.rows ent (ranking_of c rel attr ent)
+own_ranking relations c rel attr ent completion place =
+    completion.ranked rel place.relation place.is_relation attr ent place.attr_within place.ent_within
+
+-- the list at a place of a completion has a row
+pub some_ranked : (relations : List Relation) (c : Rankings) (rel attr ent : ℕ) → AreRelations relations → IsCompletion relations c
+    → IsPlaceOf relations rel attr ent → 0 < length (ranking_of c rel attr ent)
+some_ranked relations c rel attr ent are completion place =
+    let r = place.relation in
+    let within = slice_get_within relations rel r place.is_relation in
+    let is : IsRelation r =
+    subst IsRelation (get_or_from_slice_get relations rel r r place.is_relation) (All-get_or IsRelation relations rel r within are.each) in
+    ranked_some r.rows ent (ranking_of c rel attr ent) (own_ranking relations c rel attr ent completion place) (is.inhabited ent place.ent_within)
+
+-- what stands last in it is a row of the entity
+pub last_of_entity : (relations : List Relation) (c : Rankings) (rel attr ent : ℕ) → IsCompletion relations c
+    → IsPlaceOf relations rel attr ent → (row : RowId) → last_row (ranking_of c rel attr ent) ≡ Some row
+    → (r : Relation) → slice_get relations rel ≡ Some r → entity_of r.rows row.0 ≡ Some ent
+last_of_entity relations c rel attr ent completion place row last r at =
+    let list = ranking_of c rel attr ent in
+    let ranking = own_ranking relations c rel attr ent completion place in
+    let same : place.relation ≡ r = same_Some place.relation r (sym place.is_relation ∙ at) in
+    let there : Contains list row =
+    (length list - 1, slice_get_within list (length list - 1) row last, get_or_from_slice_get list (length list - 1) row row last) in
+    subst (λ (q : Relation). entity_of q.rows row.0 ≡ Some ent) same (ranking.only row there)

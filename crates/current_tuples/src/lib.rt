@@ -5,4 +5,4 @@ mod instance;
 mod value;
 
 pub use instance::{current, one_current_instance};
-pub use value::last;
+pub use value::{last, last_row};

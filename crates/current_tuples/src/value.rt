@@ -1,6 +1,7 @@
-ghost use Rattle.std.specs.Prelude.{◌≡◌, Some, slice_get};
+ghost use Rattle.std.specs.Prelude.{◌≡◌, ◌<◌, Some, length, slice_get};
 ghost use Rattle.denial_rules.specs.Instances.{field_value};
-ghost use Rattle.spec_model.specs.Completion.{IsCompletion};
+ghost use Rattle.spec_model.specs.Pairs.{entity_of};
+ghost use Rattle.spec_model.specs.Completion.{IsCompletion, ranking_of};
 ghost use Rattle.spec_model.specs.Current.{current_value, last_row};
 ghost use Rattle.spec_model.specs.declared.relation.Relation.{Relation};
 ghost use Rattle.current_tuples.specs.Places.{IsPlaceOf, IsReadable};
@@ -25,11 +26,37 @@ pub fn last<'a>(
     last_value(&relation.rows, completion.ranking(rel, attr, ent), attr)
 }
 
+/// The row that stands last in the list of an attribute of an entity, which is a row of this entity. Takes no
+/// memory.
+pub fn last_row(
+    spec: &Specification,
+    completion: &Completion,
+    rel: RelId,
+    attr: AttrId,
+    ent: EntId,
+) -> RowId
+    requires completion { IsCompletion spec.now.relations completion.now }
+    requires place { IsPlaceOf spec.now.relations rel.0 attr.0 ent.0 }
+    ensures last { last_row (ranking_of completion.now rel.0 attr.0 ent.0) ≡ Some result }
+    ensures of_entity { (r : Relation) → slice_get spec.now.relations rel.0 ≡ Some r → entity_of r.rows result.0 ≡ Some ent.0 }
+    ensures within { (r : Relation) → slice_get spec.now.relations rel.0 ≡ Some r → result.0 < length r.rows }
+{
+    let _ = spec.relations().len();
+    end_of(completion.ranking(rel, attr, ent))
+}
+
 // The value of an attribute in the last row of a list.
 fn last_value<'a>(rows: &'a Rows, list: &[RowId], attr: AttrId) -> &'a Value
     requires { IsReadable rows.now list.now attr.0 }
     ensures { field_value rows.now (last_row list.now) attr.0 ≡ Some result.now }
 {
-    let last = list[list.len() - 1];
-    rows.row(last).values.get(attr.0 as usize)
+    rows.row(end_of(list)).values.get(attr.0 as usize)
+}
+
+// The last row of a list.
+fn end_of(list: &[RowId]) -> RowId
+    requires { 0 < length list.now }
+    ensures { last_row list.now ≡ Some result }
+{
+    list[list.len() - 1]
 }

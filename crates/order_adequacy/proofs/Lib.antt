@@ -7,7 +7,7 @@ mod Lists
 mod Models
 mod OneClause
 pub mod OrderAxioms
-mod Orders
+pub mod Orders
 mod Rows
 pub mod Saids
 mod SameOrders

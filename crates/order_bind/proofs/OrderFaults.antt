@@ -35,7 +35,7 @@ all_reads (Err fault) rest a b h = a (same_read_fault (List Pair) Pair fault h)
 all_reads (Ok pair) (Ok pairs) a b h = h
 all_reads (Ok pair) (Err fault) a b h = b h
 
-pairs_reads : (rows : List (List ℕ)) (attr : ℕ) (pairs : List NamedPair) → IsReadFault (all_of (pair_named rows attr) pairs) → ⊥
+pub pairs_reads : (rows : List (List ℕ)) (attr : ℕ) (pairs : List NamedPair) → IsReadFault (all_of (pair_named rows attr) pairs) → ⊥
 pairs_reads rows attr [] h = h
 pairs_reads rows attr (p ∷ pairs) h =
     all_reads (pair_named rows attr p) (all_of (pair_named rows attr) pairs)
@@ -49,7 +49,7 @@ wrong_reads : (named : List NamedPair) (pairs : List Pair) (wrong : Option ℕ) 
 wrong_reads named pairs None h = h
 wrong_reads named pairs (Some wrong) h = one_entity_reads (List Pair) (slice_get named wrong) h
 
-checked_reads : (rows : List Row) (named : List NamedPair) (pairs : Result (List Pair) BindFault) → (IsReadFault pairs → ⊥) → IsReadFault (checked_pairs rows named pairs) → ⊥
+pub checked_reads : (rows : List Row) (named : List NamedPair) (pairs : Result (List Pair) BindFault) → (IsReadFault pairs → ⊥) → IsReadFault (checked_pairs rows named pairs) → ⊥
 checked_reads rows named (Err fault) a h = a h
 checked_reads rows named (Ok pairs) a h = wrong_reads named pairs (position (λ p. not (is_of_one_entity rows p)) pairs) h
 

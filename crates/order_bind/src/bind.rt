@@ -4,7 +4,7 @@ ghost use Rattle.spec_names.specs.Names.{names_of, all_names_of};
 ghost use Rattle.bind_faults.specs.Faults.{IsDue, IsReadFault};
 ghost use Rattle.order_bind.specs.Orders.{ordered, ordered_pairs, AddsAllGiven, Steps};
 
-use crate::resolve::{checked, resolve};
+use crate::resolve::{checked, resolve_all};
 use bind_faults::{BindFault, find};
 use currency_base::{AttrId, ErrorCode, NoMemory, Pair, PairList, RelId};
 use spec_model::{Relation, Specification};
@@ -26,7 +26,7 @@ fn pairs_of(
 {
     let named = ordering.pairs.as_slice();
     let attr = find(&names.attrs, &ordering.attr, ErrorCode::UnknownName)?;
-    let pairs = resolve(alloc, &names.rows, AttrId(attr as u32), named)?;
+    let pairs = resolve_all(alloc, &names.rows, AttrId(attr as u32), named)?;
     checked(relation.rows.as_slice(), named, pairs)
 }
 

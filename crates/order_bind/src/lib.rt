@@ -5,4 +5,4 @@ mod bind;
 mod resolve;
 
 pub use bind::{add_all, bind_order};
-pub use resolve::first_wrong;
+pub use resolve::{checked, first_wrong, resolve_all};

@@ -23,7 +23,7 @@ fn resolve_pair(rows: &NameIndex, attr: AttrId, pair: &NamedPair) -> Result<Pair
 }
 
 /// The pairs that pairs of names say, or the refusal of the first name that no row has.
-pub fn resolve(
+pub fn resolve_all(
     alloc: Global,
     rows: &NameIndex,
     attr: AttrId,

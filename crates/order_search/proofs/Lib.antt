@@ -3,3 +3,4 @@ mod Marking
 mod Cycles
 mod Models
 mod Beginning
+mod Rows

@@ -5,6 +5,7 @@ use Rattle.currency_base.specs.declared.ids.AttrId.{AttrId}
 use Rattle.currency_base.specs.declared.ids.RelId.{RelId}
 use Rattle.currency_base.specs.declared.ids.RowId.{RowId}
 use Rattle.currency_base.specs.declared.lit.Lit.{Lit}
+use Rattle.entity_lists.specs.Lists.{entities_of, rows_of}
 use Rattle.partial_orders.specs.Pairs.{entity_of}
 use Rattle.spec_model.specs.declared.relation.Relation.{Relation}
 use Rattle.refutation_log.specs.Steps.{clauses_of}
@@ -21,6 +22,8 @@ use Rattle.order_clauses.specs.Clauses.{IsAxiomStep, StandsAmong}
 use Rattle.order_clauses.specs.Subject.{Subject}
 use Rattle.completion_build.specs.Ranked.{IsCycle}
 use Rattle.completion_build.specs.declared.built.Cycle.{Cycle}
+use Rattle.order_links.specs.Lists.{IsListOf}
+use Rattle.order_links.specs.declared.list.ListId.{ListId}
 use Rattle.search_state.specs.States.{IsFit}
 use Rattle.watch_solver.specs.Decided.{Solver}
 use Rattle.search_logs.specs.SearchLogs.{variables}
@@ -95,6 +98,13 @@ search_of s solver = record {
 pub record IsHeld (s : Subject) (solver : Solver) (brought : List Bool) : Type 0 where
   pub search : IsSearch (search_of s solver)
   pub lists : AreBrought s solver.steps brought
+
+-- ---- rows of lists
+
+-- the rows of a list of the specification, ascending
+pub record AreRowsOf (s : Subject) (list : ListId) (rows : List RowId) : Type 0 where
+  pub is_list : IsListOf s.spec.relations list
+  pub rows_are : (r : Relation) → slice_get s.spec.relations list.rel.0 ≡ Some r → rows ≡ rows_of (entities_of r.rows) list.ent.0
 
 -- ---- cycles
 

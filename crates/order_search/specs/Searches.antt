@@ -1,12 +1,17 @@
 -- A search over the statements of a specification: what its log always has, and what a decision tells.
-use Rattle.std.specs.Prelude.{◌≡◌, ◌++◌, ℕ, Bool, false, List, [], ◌∷◌, Option, Some, IfSome, slice_get}
+use Rattle.std.specs.Prelude.{◌≡◌, ◌<◌, ◌++◌, ℕ, Bool, true, false, List, [], ◌∷◌, Option, Some, IfSome, length, slice_get}
+use Rattle.currency_base.specs.declared.ids.AttrId.{AttrId}
+use Rattle.currency_base.specs.declared.ids.RelId.{RelId}
+use Rattle.currency_base.specs.declared.ids.RowId.{RowId}
 use Rattle.currency_base.specs.declared.lit.Lit.{Lit}
 use Rattle.spec_model.specs.Completion.{Rankings}
 use Rattle.spec_model.specs.Spec.{Spec}
+use Rattle.spec_model.specs.declared.relation.Relation.{Relation}
 use Rattle.refutation_log.specs.Counted.{CountedAreNew, IsOpenLog, holds}
 use Rattle.refutation_log.specs.Steps.{clauses_of}
 use Rattle.refutation_log.specs.declared.log.Log.{Log}
 use Rattle.refutation_log.specs.declared.step.Step.{Step}
+use Rattle.order_literals.specs.Numbers
 use Rattle.order_literals.specs.declared.wanted.Wanted.{Wanted}
 use Rattle.order_clauses.specs.Clauses.{AreAxioms}
 use Rattle.order_adequacy.specs.Laws.{IsModelOf}
@@ -20,6 +25,14 @@ pub record Search : Type 0 where
   pub spec : Spec
   pub wanted : Wanted
   pub log : Log
+
+-- a row of a relation whose current values are wanted, and one of its attributes
+pub record IsWantedRow (s : Spec) (wanted : Wanted) (rel : RelId) (attr : AttrId) (row : RowId) : Type 0 where
+  pub relation : Relation
+  pub is_relation : slice_get s.relations rel.0 ≡ Some relation
+  pub attr_within : attr.0 < length relation.attrs
+  pub row_within : row.0 < length relation.rows
+  pub is_wanted : Numbers.is_wanted wanted.currents rel.0 ≡ true
 
 -- the log begins with exactly the axioms that are brought in from the start
 pub record BeginsWithAxioms (s : Spec) (wanted : Wanted) (steps : List Step) : Type 0 where
@@ -39,6 +52,7 @@ pub record IsSearch (s : Search) : Type 0 where
 pub record HasGone (old new : Search) : Type 0 where
   pub spec : new.spec ≡ old.spec
   pub wanted : new.wanted ≡ old.wanted
+  pub statements : new.log.statements ≡ old.log.statements
   pub added : List Step
   pub steps : new.log.steps ≡ old.log.steps ++ added
 

@@ -41,8 +41,8 @@ pub(crate) fn bring_all(
     Ok(())
 }
 
-// Brings in the list of a cycle, and marks the variable that says which of the first two rows stands before the other.
-fn bring_in(
+/// Brings in the list of a cycle, or of any three of its rows, and marks the variable that says which of the first two rows stands before the other.
+pub(crate) fn bring_in(
     subject: &Subject<'_>,
     progress: &mut Progress,
     alloc: Global,

@@ -3,6 +3,7 @@
 #![tactic(auto)]
 
 mod bringing;
+mod linked;
 mod outcome;
 mod progress;
 mod rounds;

@@ -1,16 +1,23 @@
-ghost use Rattle.std.specs.Prelude.{◌≡◌, ◌+◌, ◌<◌, List, IfOk, IfSome, false, length, replicate};
+ghost use Rattle.std.specs.Prelude.{◌≡◌, ◌+◌, ◌<◌, List, IfOk, IfSome, Some, false, length, replicate, slice_get};
 ghost use Rattle.currency_base.specs.Literals.{var_of};
 ghost use Rattle.refutation_log.specs.Counted.{counted_steps};
 ghost use Rattle.search_logs.specs.SearchLogs.{IsWithin};
 ghost use Rattle.order_search.specs.Kept.{IsHeld, vars_of};
-ghost use Rattle.order_search.specs.Searches.{IsSearch, HasGone, Tells};
+ghost use Rattle.order_search.specs.Searches.{IsSearch, HasGone, IsWantedRow, Tells};
+ghost use Rattle.order_clauses.specs.Subject.{IsPairIn};
+ghost use Rattle.order_links.specs.Lists.{IsListOf};
+ghost use Rattle.order_literals.specs.Said.{Says, before, last};
+ghost use Rattle.spec_model.specs.declared.relation.Relation.{Relation};
+ghost use Rattle.value_names.specs.Names.{name_of};
 
 use crate::Outcome;
+use crate::linked::bring_linked;
 use crate::progress::Progress;
 use crate::rounds::decided;
 use crate::subject::Subject;
-use currency_base::{Lit, NoMemory};
+use currency_base::{AttrId, Lit, NoMemory, RelId, RowId};
 use literal_laws::one_literal;
+use order_links::{Links, ListId};
 use order_literals::Wanted;
 use refutation_log::Log;
 use solver_guides::Guides;
@@ -24,11 +31,14 @@ use watch_solver::{Budget, Solver};
 pub struct Search<'a> {
     subject: Subject<'a>,
     progress: Progress,
+    // which lists were brought in for a goal
+    links: Links<'a>,
     // a call was refused memory
     failed: bool,
 }
 
 impl<'a> Model for Search<'a> {
+    ghost use Rattle.std.specs.Prelude.{◌≡◌};
     ghost use Rattle.order_search.specs.Kept.{IsHeld, search_of};
     ghost use Rattle.order_search.specs.Searches.{Search as Searches};
 
@@ -36,7 +46,7 @@ impl<'a> Model for Search<'a> {
 
     ghost view = { λ s. search_of s.subject s.progress.solver };
 
-    ghost invariant = { λ s. IsHeld s.subject s.progress.solver s.progress.brought.items };
+    ghost invariant = { λ s. IsHeld s.subject s.progress.solver s.progress.brought.items × (s.links ≡ s.subject.spec.relations) };
 }
 
 impl<'a> Search<'a> {
@@ -58,10 +68,15 @@ impl<'a> Search<'a> {
             Ok(subject) => subject,
             Err(error) => return Err(error),
         };
+        let links = match Links::new(alloc, spec) {
+            Ok(links) => links,
+            Err(error) => return Err(error),
+        };
         match begun(&subject, alloc, guides) {
             Ok(progress) => Ok(Search {
                 subject,
                 progress,
+                links,
                 failed: false,
             }),
             Err(error) => Err(error),
@@ -119,6 +134,67 @@ impl<'a> Search<'a> {
         self.failed = outcome.is_err();
         outcome
     }
+
+    /// Brings in a list that a goal is about, and those that it is linked with, so that no model is spent on finding
+    /// that they go round; those that are there stay. Tells the ring the list's variables. No unit is taken.
+    pub fn bring(
+        &mut self,
+        alloc: Global,
+        list: ListId,
+        guides: &mut Guides,
+    ) -> Result<(), NoMemory>
+        requires { IsListOf self.old.spec.relations list }
+        ensures gone { HasGone self.old self.new }
+        ensures units { counted_steps self.new.log.steps ≡ counted_steps self.old.log.steps }
+    {
+        if self.failed {
+            return Err(NoMemory);
+        }
+        let outcome = bring_linked(
+            &self.subject,
+            &mut self.progress,
+            &mut self.links,
+            alloc,
+            list,
+            guides,
+        );
+        self.failed = outcome.is_err();
+        outcome
+    }
+
+    /// Lets the guides begin from another guess at a model: one whose free pairs are turned round.
+    pub fn turn(&mut self, alloc: Global, guides: &mut Guides) -> Result<(), NoMemory>
+        ensures { self.new ≡ self.old }
+    {
+        guess(
+            &self.subject,
+            alloc,
+            &mut self.progress.solver,
+            true,
+            guides,
+        )
+    }
+
+    /// The literal that says that of two rows of one entity the first stands before the second.
+    pub fn before(&self, rel: RelId, attr: AttrId, earlier: RowId, later: RowId) -> Lit
+        requires { IsPairIn self.now.spec rel attr earlier later }
+        ensures says { Says self.now.log.statements result (before rel attr earlier later) }
+        ensures within { var_of result < length self.now.log.statements }
+    {
+        one_literal();
+        self.subject.before(rel, attr, earlier, later)
+    }
+
+    /// The literal that says that the value of a row of a wanted relation is current.
+    pub fn current(&self, rel: RelId, attr: AttrId, row: RowId) -> Lit
+        requires { IsWantedRow self.now.spec self.now.wanted rel attr row }
+        ensures says { (r : Relation) → slice_get self.now.spec.relations rel.0 ≡ Some r
+            → Says self.now.log.statements result (last rel attr (name_of r.rows attr.0 row)) }
+        ensures within { var_of result < length self.now.log.statements }
+    {
+        one_literal();
+        self.subject.current(rel, attr, row)
+    }
 }
 
 // The start of a search: the log with the axioms from the start, and the guides with a first guess at a model.
@@ -132,7 +208,7 @@ fn begun(subject: &Subject<'_>, alloc: Global, guides: &mut Guides) -> Result<Pr
         Ok(solver) => solver,
         Err(error) => return Err(error),
     };
-    match guess(subject, alloc, &mut solver, guides) {
+    match guess(subject, alloc, &mut solver, false, guides) {
         Ok(()) => {}
         Err(error) => return Err(error),
     }
@@ -161,11 +237,12 @@ fn solver_of(subject: &Subject<'_>, alloc: Global) -> Result<Solver, NoMemory>
     }
 }
 
-// The guides learn of a first guess at a model, made of what unit propagation finds.
+// The guides learn of a guess at a model, made of what unit propagation finds where nothing is assumed.
 fn guess(
     subject: &Subject<'_>,
     alloc: Global,
     solver: &mut Solver,
+    turned: bool,
     guides: &mut Guides,
 ) -> Result<(), NoMemory>
     requires { solver.old.frame.statements ≡ vars_of subject.now }
@@ -174,7 +251,7 @@ fn guess(
 {
     solver.settle(guides);
     solver.is_solver();
-    match subject.start(alloc, solver.trail().values()) {
+    match subject.start(alloc, solver.trail().values(), turned) {
         Ok(start) => {
             guides.fit_all(alloc, &start);
             Ok(())

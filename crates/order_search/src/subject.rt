@@ -1,23 +1,28 @@
 ghost use Rattle.std.specs.Prelude.{◌≡◌, ◌<◌, ◌^◌, [], length, take, Some, slice_get, IfOk};
 ghost use Rattle.spec_model.specs.declared.relation.Relation.{Relation};
 ghost use Rattle.order_literals.specs.Numbers.{IsPairOf, numbers_of};
-ghost use Rattle.order_literals.specs.Said.{Says, before};
+ghost use Rattle.order_literals.specs.Said.{Says, before, last};
+ghost use Rattle.order_links.specs.Lists.{IsListOf};
+ghost use Rattle.spec_model.specs.Facts.{IsRelation};
+ghost use Rattle.value_names.specs.Names.{name_of};
 ghost use Rattle.order_literals.specs.Statements.{statements_of};
 ghost use Rattle.order_clauses.specs.Clauses.{AreAxioms, AreTransitive};
 ghost use Rattle.completion_build.specs.Ranked.{IsBuilt};
 ghost use Rattle.order_start.specs.Guess.{IsGuess};
 ghost use Rattle.search_logs.specs.SearchLogs.{IsWithin};
-ghost use Rattle.order_search.specs.Kept.{vars_of};
+ghost use Rattle.order_search.specs.Kept.{AreRowsOf, vars_of};
+ghost use Rattle.order_search.specs.Searches.{IsWantedRow};
 
 use completion_build::{Built, rank};
 use currency_base::{Assignment, AttrId, EntId, Lit, NoMemory, RelId, RowId, TupleList};
 use order_clauses::{clauses, transitive};
 use order_limits::number;
+use order_links::ListId;
 use order_literals::{Numbering, Wanted};
 use order_start::start;
 use refutation_log::{Log, StatementList, Steps};
 use search_trail::Values;
-use spec_model::Specification;
+use spec_model::{Relation, Specification};
 use std::alloc::Global;
 use std::marker::Model;
 
@@ -92,12 +97,24 @@ impl<'a> Subject<'a> {
         })
     }
 
-    /// A first guess at a model.
-    pub(crate) fn start(&self, alloc: Global, known: &Values) -> Result<Assignment, NoMemory>
+    /// A guess at a model, from what is known; the pairs that are free are turned round where that is said.
+    pub(crate) fn start(
+        &self,
+        alloc: Global,
+        known: &Values,
+        turned: bool,
+    ) -> Result<Assignment, NoMemory>
         requires { length known.now ≡ length (vars_of self.now) }
         ensures { IfOk result (IsGuess (vars_of self.now)) }
     {
-        start(alloc, self.spec, &self.numbering, &self.wanted, known)
+        start(
+            alloc,
+            self.spec,
+            &self.numbering,
+            &self.wanted,
+            known,
+            turned,
+        )
     }
 
     /// What an assignment says of the order of the rows.
@@ -138,6 +155,34 @@ impl<'a> Subject<'a> {
         ensures { Says (vars_of self.now) result (before rel attr first second) }
     {
         self.numbering.before(rel, attr, first, second)
+    }
+
+    /// The literal that says that the value of a row of a wanted relation is current.
+    pub(crate) fn current(&self, rel: RelId, attr: AttrId, row: RowId) -> Lit
+        requires { IsWantedRow self.now.spec self.now.wanted rel attr row }
+        ensures { (r : Relation) → slice_get self.now.spec.relations rel.0 ≡ Some r
+            → Says (vars_of self.now) result (last rel attr (name_of r.rows attr.0 row)) }
+    {
+        let _relation = self.relation(rel);
+        let name = self.numbering.name(rel, attr, row);
+        self.numbering.last(rel, attr, name)
+    }
+
+    /// The rows of a list, ascending.
+    pub(crate) fn rows(&self, list: ListId) -> &[RowId]
+        requires { IsListOf self.now.spec.relations list }
+        ensures { AreRowsOf self.now list result.now }
+    {
+        self.numbering.lists(list.rel).of_entity(list.ent)
+    }
+
+    // A relation of the specification.
+    fn relation(&self, rel: RelId) -> &Relation
+        requires { rel.0 < length self.now.spec.relations }
+        ensures value { slice_get self.now.spec.relations rel.0 ≡ Some result.now }
+        ensures facts { IsRelation result.now }
+    {
+        &self.spec.relations()[rel.0 as usize]
     }
 }
 

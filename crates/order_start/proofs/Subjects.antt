@@ -59,11 +59,11 @@ pub rows_are : (s : Subject) (rel ent : ℕ) (r : Relation) (g : Grouping) (rows
     → rows ≡ rows_of (entities_of r.rows) ent
 rows_are s rel ent r g rows is at gives e = e ∙ ap (λ (h : Grouping). rows_of h.entities ent) (lists_of s rel r g is at gives)
 
-pub is_listed : (s : Subject) (rel : RelId) (attr : AttrId) (ent : ℕ) (g : Grouping) (rows : List RowId) → IsSubject s → rel.0 < length s.relations
+pub is_listed : (s : Subject) (rel : RelId) (attr : AttrId) (ent : ℕ) (g : Grouping) (rows : List RowId) (turned : Bool) → IsSubject s → rel.0 < length s.relations
     → ((r : Relation) → slice_get s.relations rel.0 ≡ Some r → attr.0 < length r.attrs)
     → ((table : Numbered) → slice_get s.numbers.tables rel.0 ≡ Some table → g ≡ table.rows) → rows ≡ rows_of g.entities ent
-    → IsListed (record { numbers = s.numbers; known = s.known; rel = rel; attr = attr; rows = rows })
-is_listed s rel attr ent g rows is within attr_within gives e =
+    → IsListed (record { numbers = s.numbers; known = s.known; rel = rel; attr = attr; rows = rows; turned = turned })
+is_listed s rel attr ent g rows turned is within attr_within gives e =
     let here = item_at s.relations rel.0 within in
     record {
       per_statement = is.per_statement;

@@ -1,5 +1,5 @@
 -- What a first guess is made from, list by list.
-use Rattle.std.specs.Prelude.{◌≡◌, ◌<◌, ℕ, Bool, List, Option, Some, length, slice_get}
+use Rattle.std.specs.Prelude.{◌≡◌, ◌<◌, ◌-◌, ℕ, Bool, List, Option, Some, if◌then◌else◌, length, slice_get}
 use Rattle.currency_base.specs.declared.ids.AttrId.{AttrId}
 use Rattle.currency_base.specs.declared.ids.RelId.{RelId}
 use Rattle.currency_base.specs.declared.ids.RowId.{RowId}
@@ -21,13 +21,18 @@ pub record IsSubject (s : Subject) : Type 0 where
   pub numbers_are : s.numbers ≡ numbers_of s.relations s.wanted
   pub per_statement : length s.known ≡ length (statements_of s.numbers)
 
--- an attribute of a relation, some of its rows, and the values that are known
+-- an attribute of a relation, some of its rows, whether they are taken from the last on, and the values that are known
 pub record Listed : Type 0 where
   pub numbers : Numbers
   pub known : List (Option Bool)
   pub rel : RelId
   pub attr : AttrId
   pub rows : List RowId
+  pub turned : Bool
+
+-- where the row at a place stands among the rows
+abbrev pub slot_of : Listed → ℕ → ℕ
+slot_of l place = if l.turned then length l.rows - 1 - place else place
 
 -- what is numbered has the attribute, the rows are those of an entity, and there is a place for the value of each statement
 pub record IsListed (l : Listed) : Type 0 where

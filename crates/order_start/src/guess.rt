@@ -15,14 +15,17 @@ use std::alloc::Global;
 
 /// A first guess at a model of the axioms of a specification. Each list is ranked by a topological order of the
 /// pairs of rows that have a value, rows with no such pair between them in their own order; a list whose pairs go
-/// round is ranked in the order of its rows. What stands last, and which values are current, follows from the
-/// ranking. Takes time in proportion to the pairs of rows of one entity in each attribute.
+/// round is ranked in the order of its rows. Where the guess is turned, rows are taken from the last on: rows with no
+/// such pair between them, and lists whose pairs go round, in the opposite order. So two guesses from the same values, one
+/// of them turned, rank a list with no such pair in opposite orders. What stands last, and which values are current,
+/// follows from the ranking. Takes time in proportion to the pairs of rows of one entity in each attribute.
 pub fn start(
     alloc: Global,
     spec: &Specification,
     numbering: &Numbering,
     wanted: &Wanted,
     known: &Values,
+    turned: bool,
 ) -> Result<Assignment, NoMemory>
     requires numbering { numbering.now ≡ numbers_of spec.now.relations wanted.now }
     requires known { length known.now ≡ length (statements_of numbering.now) }
@@ -33,6 +36,7 @@ pub fn start(
         wanted,
         numbering,
         known,
+        turned,
     };
     let mut order = Order::new(alloc);
     let mut guess = Assignment::new(alloc, numbering.vars())?;

@@ -1,6 +1,7 @@
 ghost use Rattle.std.specs.Prelude.{◌≡◌, ◌≢◌, ◌<◌, length, Some, slice_get};
 ghost use Rattle.currency_base.specs.Literals.{var_of};
 ghost use Rattle.order_literals.specs.Statements.{statements_of};
+ghost use Rattle.order_start.specs.Lists.{slot_of};
 
 use currency_base::{AttrId, Lit, RelId, RowId};
 use literal_laws::one_literal;
@@ -9,7 +10,7 @@ use search_trail::Values;
 use std::marker::Model;
 
 /// The rows of one list, and the values that are known of its pairs. Places are those of the rows among the rows of
-/// their entity.
+/// their entity, or counted from the last of them where the list is turned.
 #[derive(Drop)]
 pub(crate) struct Listed<'a> {
     pub numbering: &'a Numbering,
@@ -17,6 +18,7 @@ pub(crate) struct Listed<'a> {
     pub rel: RelId,
     pub attr: AttrId,
     pub rows: &'a [RowId],
+    pub turned: bool,
 }
 
 impl<'a> Model for Listed<'a> {
@@ -24,9 +26,9 @@ impl<'a> Model for Listed<'a> {
 
     ghost Value = { Listed };
 
-    ghost view = { λ l. record { numbers = l.numbering.now; known = l.known.now; rel = l.rel; attr = l.attr; rows = l.rows.now } };
+    ghost view = { λ l. record { numbers = l.numbering.now; known = l.known.now; rel = l.rel; attr = l.attr; rows = l.rows.now; turned = l.turned } };
 
-    ghost invariant = { λ l. IsListed (record { numbers = l.numbering.now; known = l.known.now; rel = l.rel; attr = l.attr; rows = l.rows.now }) };
+    ghost invariant = { λ l. IsListed (record { numbers = l.numbering.now; known = l.known.now; rel = l.rel; attr = l.attr; rows = l.rows.now; turned = l.turned }) };
 }
 
 impl Listed<'_> {
@@ -40,10 +42,14 @@ impl Listed<'_> {
     /// The row at a place.
     pub(crate) fn row(&self, place: usize) -> RowId
         requires { place < length self.now.rows }
-        ensures { slice_get self.now.rows place ≡ Some result }
+        ensures { slice_get self.now.rows (slot_of self.now place) ≡ Some result }
     {
         let rows = self.rows;
-        rows[place]
+        if self.turned {
+            rows[rows.len() - 1 - place]
+        } else {
+            rows[place]
+        }
     }
 
     /// The literal that says that the row at one place stands before the row at another.
@@ -55,7 +61,7 @@ impl Listed<'_> {
     {
         one_literal();
         self.numbering
-            .before(self.rel, self.attr, self.rows[first], self.rows[second])
+            .before(self.rel, self.attr, self.row(first), self.row(second))
     }
 
     /// Is the row at one place known to stand before the row at another?

@@ -14,13 +14,14 @@ use search_trail::Values;
 use spec_model::{Relation, Specification};
 use std::marker::Model;
 
-/// A specification, what is wanted and numbered of it, and the values that are known.
+/// A specification, what is wanted and numbered of it, the values that are known, and whether lists are turned.
 #[derive(Drop)]
 pub(crate) struct Source<'a> {
     pub spec: &'a Specification,
     pub wanted: &'a Wanted,
     pub numbering: &'a Numbering,
     pub known: &'a Values,
+    pub turned: bool,
 }
 
 impl<'a> Model for Source<'a> {
@@ -51,7 +52,7 @@ impl Source<'_> {
         &self.relations()[rel.0 as usize]
     }
 
-    /// The rows of an entity, in an attribute.
+    /// The rows of an entity, in an attribute, turned where lists are.
     pub(crate) fn list(&self, rel: RelId, attr: AttrId, ent: EntId) -> Listed<'_>
         requires rel { rel.0 < length self.now.relations }
         requires attr { (r : Relation) → slice_get self.now.relations rel.0 ≡ Some r → attr.0 < length r.attrs }
@@ -66,6 +67,7 @@ impl Source<'_> {
             rel,
             attr,
             rows,
+            turned: self.turned,
         }
     }
 

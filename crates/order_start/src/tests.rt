@@ -16,7 +16,7 @@ fn answers_are_false(rt: HostRuntime) -> Result<(), Fail> {
     };
     let numbering = Numbering::new(alloc, &spec, &wanted)?;
     let trail = Trail::new(alloc, numbering.vars())?;
-    let guess = start(alloc, &spec, &numbering, &wanted, trail.values())?;
+    let guess = start(alloc, &spec, &numbering, &wanted, trail.values(), true)?;
     assert_eq!(rt; guess.vars(), 1);
     Ok(())
 }

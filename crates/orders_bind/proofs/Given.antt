@@ -31,7 +31,7 @@ found_within : (table : List ℕ) (code : ErrorCode) (line : ℕ) (names : List 
 found_within table code line names name place is =
     place_within names name place (found_place (place_of names name) (refused_in table code line) place is)
 
-record_within : (table : List ℕ) (attrs : List (List ℕ)) (n : ℕ × List Value) (r : PairRecord) → record_in table attrs n ≡ Ok r
+pub record_within : (table : List ℕ) (attrs : List (List ℕ)) (n : ℕ × List Value) (r : PairRecord) → record_in table attrs n ≡ Ok r
     → r.attr.0 < length attrs
 record_within table attrs (place, tuple) r is = by (place_in table UnknownName (line_at place) attrs (text_at tuple 0)) refl is
   where
@@ -51,7 +51,7 @@ pub record IsWithin (attrs rows : ℕ) (p : Pair) : Type 0 where
   pub earlier : p.earlier.0 < rows
   pub later : p.later.0 < rows
 
-pair_within : (table : List ℕ) (rows : List (List ℕ)) (attrs : ℕ) (r : PairRecord) (p : Pair) → r.attr.0 < attrs → pair_in table rows r ≡ Ok p
+pub pair_within : (table : List ℕ) (rows : List (List ℕ)) (attrs : ℕ) (r : PairRecord) (p : Pair) → r.attr.0 < attrs → pair_in table rows r ≡ Ok p
     → IsWithin attrs (length rows) p
 pair_within table rows attrs r p attr is =
     by (place_in table UnknownRow r.line rows r.earlier) (place_in table UnknownRow r.line rows r.later) refl refl is

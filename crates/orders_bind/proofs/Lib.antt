@@ -1,4 +1,4 @@
-mod Answered
-mod Given
-mod Made
+pub mod Answered
+pub mod Given
+pub mod Made
 mod Said

@@ -35,18 +35,18 @@ place_reads table code line names name h = by (place_of names name) h
     by None none = none
     by (Some k) none = none
 
-record_reads : (table : List ℕ) (attrs : List (List ℕ)) (n : ℕ × List Value) → IsReadFault (record_in table attrs n) → ⊥
+pub record_reads : (table : List ℕ) (attrs : List (List ℕ)) (n : ℕ × List Value) → IsReadFault (record_in table attrs n) → ⊥
 record_reads table attrs (place, tuple) h =
     then_reads (place_in table UnknownName (line_at place) attrs (text_at tuple 0))
     (λ attr. Ok record { line = line_at place; attr = record { 0 = attr }; earlier = text_at tuple 1; later = text_at tuple 2 })
     (place_reads table UnknownName (line_at place) attrs (text_at tuple 0)) (λ attr none. none) h
 
-pair_in_reads : (table : List ℕ) (rows : List (List ℕ)) (r : PairRecord) → IsReadFault (pair_in table rows r) → ⊥
+pub pair_in_reads : (table : List ℕ) (rows : List (List ℕ)) (r : PairRecord) → IsReadFault (pair_in table rows r) → ⊥
 pair_in_reads table rows r h =
     pair_reads r.attr.0 (place_in table UnknownRow r.line rows r.earlier) (place_in table UnknownRow r.line rows r.later)
     (place_reads table UnknownRow r.line rows r.earlier) (place_reads table UnknownRow r.line rows r.later) h
 
-checked_reads : (table : List ℕ) (rows : List Row) (pairs : List Pair) → IsReadFault (checked table rows pairs) → ⊥
+pub checked_reads : (table : List ℕ) (rows : List Row) (pairs : List Pair) → IsReadFault (checked table rows pairs) → ⊥
 checked_reads table rows pairs h = by (position (λ p. not (is_of_one_entity rows p)) pairs) h
   where
     by : (wrong : Option ℕ) → IsReadFault (unless_wrong table pairs wrong) → ⊥

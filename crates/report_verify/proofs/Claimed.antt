@@ -10,6 +10,7 @@ use Rattle.currency_base.specs.declared.ids.RelId.{RelId}
 use Rattle.currency_base.specs.declared.value.Value.{Value}
 use Rattle.log_axioms.specs.Truth.{ClauseHolds}
 use Rattle.log_checker.specs.Accepted.{IsAccepted}
+use Rattle.log_units.specs.Units.{HasLastUnit}
 use Rattle.refutation_log.specs.Steps.{clauses_of}
 use Rattle.refutation_log.specs.declared.log.Log.{Log}
 use Rattle.report_model.specs.Verdicts.{is_decided, kind_of}
@@ -17,9 +18,10 @@ use Rattle.report_model.specs.declared.report.Part.TheVariants as part
 use Rattle.report_model.specs.declared.verdict.Current.{Current}
 use Rattle.report_model.specs.declared.verdict.Verdict.{Verdict}
 use Rattle.report_model.specs.declared.verdict.Verdict.TheVariants as verdict
-use Rattle.report_verify.specs.Asked.{HasValues, IsAskedPair, IsQuestionOn}
+use Rattle.spec_model.specs.Questions.{IsAskedPair, IsQuestionOn}
+use Rattle.report_verify.specs.Asked.{HasValues}
 use Rattle.report_verify.specs.Right.{EachConsistent, IsCurrentIn, IsRight, PairHolds}
-use Rattle.report_verify.specs.Supported.{HasLastUnit, HasValue, Holds, IsDerived, IsOneOf, IsSupported, Need, item_needs, pair_needs, value_needs}
+use Rattle.report_verify.specs.Supported.{HasValue, Holds, IsDerived, IsOneOf, IsSupported, Need, item_needs, pair_needs, value_needs}
 use Rattle.report_verify.proofs.Claims.{empty_there, pair_holds, value_holds}
 use Rattle.spec_model.specs.Completion.{Rankings}
 use Rattle.spec_model.specs.Consistent.{IsConsistent, IsSatisfiable}

@@ -20,14 +20,15 @@ use Rattle.log_axioms.specs.Axioms.{before, last, is_said, lit_says, same_entity
 use Rattle.log_axioms.specs.Truth.{ClauseHolds, HoldsIn, IsLast, IsTrueIn, LitHolds, meaning, rows_in}
 use Rattle.log_axioms.specs.declared.signed.Signed.{Signed}
 use Rattle.log_checker.specs.Shown.{is_empty, is_unit}
+use Rattle.log_units.specs.Units.{HasLastUnit, HasUnit}
 use Rattle.partial_orders.specs.Pairs.{entity_of}
 use Rattle.refutation_log.specs.Steps.{clauses_of}
 use Rattle.refutation_log.specs.declared.log.Log.{Log}
 use Rattle.refutation_log.specs.declared.statement.Statement.{Statement}
 use Rattle.refutation_log.specs.declared.statement.Statement.TheVariants as says
-use Rattle.report_verify.specs.Asked.{IsAskedPair}
+use Rattle.spec_model.specs.Questions.{IsAskedPair}
 use Rattle.report_verify.specs.Right.{PairHolds}
-use Rattle.report_verify.specs.Supported.{HasEmpty, HasLastUnit, HasUnit}
+use Rattle.report_verify.specs.Supported.{HasEmpty}
 use Rattle.spec_model.specs.Completion.{Rankings, lists_of, IsCompletion, Before}
 use Rattle.spec_model.specs.Current.{current_value}
 use Rattle.spec_model.specs.Facts.{AreRelations, IsRelation}

@@ -33,7 +33,7 @@ claims (verdict.Same items) = true
 claims v = false
 
 -- the others make none
-nothing_claimed : (q : Question) (v : Verdict) → claims v ≡ false → needs_of q v ≡ []
+pub nothing_claimed : (q : Question) (v : Verdict) → claims v ≡ false → needs_of q v ≡ []
 nothing_claimed asked.Consistent verdict.Inconsistent e = refl
 nothing_claimed asked.Consistent verdict.Consistent e = refl
 nothing_claimed asked.Consistent verdict.Certain e = absurd (false≢true (sym e))
@@ -59,7 +59,7 @@ nothing_claimed (asked.Same rels) (verdict.NotSame rel attr ent) e = refl
 nothing_claimed (asked.Same rels) (verdict.Answers tuples) e = refl
 nothing_claimed (asked.Same rels) (verdict.Undecided counted) e = refl
 
-none_in : {A : Type 0} (xs : List A) (i : ℕ) (x : A) → xs ≡ [] → slice_get xs i ≡ Some x → ⊥
+pub none_in : {A : Type 0} (xs : List A) (i : ℕ) (x : A) → xs ≡ [] → slice_get xs i ≡ Some x → ⊥
 none_in xs i x none at = let past : slice_get [] i ≡ Some x = subst (λ ys. slice_get ys i ≡ Some x) none at in none-some x past
 
 not_in_none : {A : Type 0} (x : A) → Contains [] x → ⊥

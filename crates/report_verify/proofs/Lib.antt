@@ -1,6 +1,11 @@
 mod Claimed
 mod Claims
 mod Counting
+mod Differing
 mod FirstUnshown
 mod Firsts
+mod Fronts
 mod Lacks
+mod Meeting
+mod Needing
+mod Refusing

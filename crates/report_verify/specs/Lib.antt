@@ -3,6 +3,8 @@ pub mod Right
 pub mod Supported
 pub mod Shown
 pub mod Judged
+pub mod Listed
+pub mod Shaped
 pub use Rattle.spec_model.specs.Consistent
 pub use Rattle.spec_model.specs.Completion
 pub use Rattle.spec_model.specs.Current

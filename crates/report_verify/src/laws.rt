@@ -2,7 +2,7 @@ ghost use Rattle.std.specs.Prelude.{◌≡◌, true};
 ghost use Rattle.report_model.specs.Verdicts.{is_decided, kind_of};
 ghost use Rattle.report_model.specs.declared.report.Part.{Part};
 ghost use Rattle.report_model.specs.declared.report.Report.{Report};
-ghost use Rattle.report_verify.specs.Asked.{IsQuestionOn};
+ghost use Rattle.spec_model.specs.Questions.{IsQuestionOn};
 ghost use Rattle.report_verify.specs.Right.{IsRight};
 ghost use Rattle.report_verify.specs.Shown.{ShowsVerdict, IsFirstUnshown};
 ghost use Rattle.report_verify.specs.declared.fault.Unshown.{Unshown};

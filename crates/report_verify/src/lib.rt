@@ -4,9 +4,13 @@
 mod claim;
 mod completions;
 mod fault;
+mod items;
 mod judge;
 mod laws;
+mod listed;
 mod log;
+mod needs;
+mod shape;
 
 pub use fault::{Missing, Unshown, VerifyFault};
 pub use judge::verify;

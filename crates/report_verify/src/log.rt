@@ -3,29 +3,34 @@ ghost use Rattle.std.specs.List.{list_any};
 ghost use Rattle.log_checker.specs.Accepted.{IsAccepted, IsNumbered};
 ghost use Rattle.log_checker.specs.Shown.{is_empty};
 ghost use Rattle.refutation_log.specs.Steps.{clauses_of};
-ghost use Rattle.report_verify.specs.Judged.{IsBadIn};
+ghost use Rattle.refutation_log.specs.declared.log.Log.{Log as LogOf};
+ghost use Rattle.report_verify.specs.Judged.{IsBadIn, IsShownOf};
 ghost use Rattle.report_verify.specs.Shown.{step_of_fault};
 
 use crate::{Unshown, VerifyFault};
-use log_checker::{LogFault, check};
+use log_checker::{Checked, LogFault, check};
 use refutation_log::Log;
 use report_model::Part;
 use spec_model::Specification;
 use std::alloc::Global;
 
-// Is the log accepted, and has it then the empty clause? Otherwise what it fails first. A log with no step
-// needs no check, which would index the rows of the specification.
-pub(crate) fn check_log(alloc: Global, spec: &Specification, log: &Log) -> Result<bool, VerifyFault>
+// Is the log accepted, and what does it then show? Otherwise what it fails first. A log with no step needs no
+// check, which would index the rows of the specification.
+pub(crate) fn check_log(
+    alloc: Global,
+    spec: &Specification,
+    log: &Log,
+) -> Result<Option<Checked>, VerifyFault>
     requires { IsNumbered log.now.statements log.now.steps }
     ensures accepted { IfOk result (λ _. IsAccepted spec.now log.now.statements log.now.steps) }
-    ensures empty { IfOk result (λ has. has ≡ list_any is_empty (clauses_of log.now.steps)) }
+    ensures shown { IfOk result (IsShownOf log.now) }
     ensures bad { IfErr result (IsBadIn spec.now log.now) }
 {
     if log.steps.len() == 0 {
-        return Ok(false);
+        return Ok(None);
     }
     match check(alloc, spec, log) {
-        Ok(checked) => Ok(checked.has_empty()),
+        Ok(checked) => Ok(Some(checked)),
         Err(fault) => match step_of(fault) {
             Some(step) => Err(VerifyFault::Refused {
                 part: Part::Step(step),
@@ -33,6 +38,16 @@ pub(crate) fn check_log(alloc: Global, spec: &Specification, log: &Log) -> Resul
             }),
             None => Err(VerifyFault::NoMemory),
         },
+    }
+}
+
+// Has a log the empty clause, where this is what it shows?
+pub(crate) fn has_empty(checked: &Option<Checked>) -> bool
+    ensures { (log : LogOf) → IsShownOf log checked.now → result ≡ list_any is_empty (clauses_of log.steps) }
+{
+    match checked {
+        Some(checked) => checked.has_empty(),
+        None => false,
     }
 }
 

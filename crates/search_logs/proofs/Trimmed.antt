@@ -134,6 +134,15 @@ module _ (log : Log) (goals : List ℕ) (trimmed : Trimmed) (t : IsTrimmed log g
             subst IsPlainStep was.2 (new_step_plain from.place was.0 from.there from.kept (plain.steps from.place was.0 from.there));
       }
 
+  -- its statements stood in the log
+  pub still_among : (relations : List Relation) → IsPlain relations log → (st : Statement) → IsIn trimmed.log.statements st → IsIn log.statements st
+  still_among relations plain st at =
+      let kept = kept_of t.statement_kept log.statements in
+      let on : (st : Statement) → IsIn kept st → IsOnRows relations st =
+      λ st at. plain.statements st (kept_in t.statement_kept log.statements st at) in
+      let same : trimmed.log.statements ≡ kept = t.statements ∙ all_stay relations t.answer_kept kept on in
+      kept_in t.statement_kept log.statements st (subst (λ (statements : List Statement). IsIn statements st) same at)
+
   -- ---- steps that are reached
 
   new_hints : (step : Step) → hints_of (renumbered_step t.step_kept t.statement_kept step) ≡ map (rank t.step_kept) (hints_of step)

@@ -1,5 +1,5 @@
 -- What holds of the log of a search: it is accepted, and can be trimmed and written.
-use Rattle.std.specs.Prelude.{◌≡◌, ◌<◌, ℕ, List, None, All, length}
+use Rattle.std.specs.Prelude.{◌≡◌, ◌<◌, ℕ, List, None, All, Contains, length}
 use Rattle.spec_model.specs.Completion.{Rankings, IsCompletion}
 use Rattle.spec_model.specs.Spec.{Spec}
 use Rattle.refutation_log.specs.declared.log.Log.{Log}
@@ -10,7 +10,7 @@ use Rattle.log_trim.specs.declared.trimming.Trimmed.{Trimmed}
 use Rattle.log_write.specs.Writable.{IsWritable}
 use Rattle.report_write.specs.Writable.{IsWritableCompletion}
 use Rattle.order_literals.specs.declared.wanted.Wanted.{Wanted}
-use Rattle.search_logs.specs.SearchLogs.{IsSearchLog, IsWithin, HasFewSteps}
+use Rattle.search_logs.specs.SearchLogs.{IsSearchLog, IsWithin, HasFewSteps, variables}
 
 -- it is accepted
 abbrev pub LogsAreAccepted : Type 0
@@ -35,6 +35,12 @@ TrimmedAreWritable =
     (s : Spec) (wanted : Wanted) (log : Log) (goals : List ℕ) (trimmed : Trimmed) → IsWithin s → IsSearchLog s wanted log → HasFewSteps log
     → All (λ goal. goal < length log.steps) goals → IsTrimmed log goals trimmed
     → IsWritable trimmed.log × (first_fault s.relations trimmed.log ≡ None)
+
+-- the statements of what a log is trimmed to are among those that are numbered
+abbrev pub TrimmedAreAmong : Type 0
+TrimmedAreAmong =
+    (s : Spec) (wanted : Wanted) (log : Log) (goals : List ℕ) (trimmed : Trimmed) → IsWithin s → IsSearchLog s wanted log → HasFewSteps log
+    → IsTrimmed log goals trimmed → All (Contains (variables s wanted)) trimmed.log.statements
 
 -- each step of what a log is trimmed to is reached from its goals
 abbrev pub TrimmedAreReached : Type 0

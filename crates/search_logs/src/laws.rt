@@ -1,4 +1,4 @@
-ghost use Rattle.search_logs.specs.Laws.{LogsAreAccepted, LogsAreInPlace, LogsAreWritable, TrimmedAreWritable, TrimmedAreReached, CompletionsAreWritable};
+ghost use Rattle.search_logs.specs.Laws.{LogsAreAccepted, LogsAreInPlace, LogsAreWritable, TrimmedAreWritable, TrimmedAreAmong, TrimmedAreReached, CompletionsAreWritable};
 
 use axiom_agreement::axioms_agree;
 use order_limits::statements_are_few;
@@ -19,10 +19,11 @@ pub fn search_logs_are_writable()
     statements_are_few();
 }
 
-/// Laws: what the log of a search is trimmed to can be written, and is well formed; each step of it is reached
-/// from its goals.
+/// Laws: what the log of a search is trimmed to can be written, and is well formed; its statements are among those
+/// that are numbered; each step of it is reached from its goals.
 pub fn trimmed_logs_are_writable()
     ensures writable { TrimmedAreWritable }
+    ensures among { TrimmedAreAmong }
     ensures reached { TrimmedAreReached }
 {
     statements_are_few();

@@ -6,6 +6,7 @@ pub mod Satisfies
 pub mod Compatible
 pub mod Consistent
 pub mod FirstFlaw
+pub mod Questions
 pub mod Current
 pub use Rattle.partial_orders.specs.Pairs
 pub use Rattle.currency_base.specs.Lists

@@ -1,17 +1,17 @@
 -- The rules of the grammars are read as they are spelled.
-use Rattle.std.proofs.Common.{◌≡◌, Bool, true, false, not, ◌||◌, cond, List, inl, inr, refl, ap, subst, Option, Some, None, codes}
+use Rattle.std.proofs.Common.{◌≡◌, Bool, true, false, not, cond, List, inl, inr, refl, ap, subst, Option, Some, None, codes}
 use Rattle.text_tokens.specs.Lexeme.{Lexeme}
 use Rattle.text_tokens.specs.declared.token.TokenKind.TheVariants.{Word, Symbol}
 use Rattle.text_grammar.specs.Words.{is_word, is_symbol, named, quoted}
 use Rattle.text_grammar.specs.Grammar.{Language, ◌⋅◌, Says, IsWord, IsSymbol, SpellsName, SpellsString, Maybe, Listed}
 use Rattle.text_grammar.specs.Reading.{one, both, after, choose}
-use Rattle.text_grammar.specs.Laws.{IsReader, IsPlain, Tells, AtFirst}
+use Rattle.text_grammar.specs.Laws.{IsReader, IsPlain, Tells}
 use Rattle.text_grammar.specs.declared.named.Named.{Named}
 use Rattle.text_grammar.proofs.Readers.{always, Begins, Ended, FirstIs, Image, begins_image, first_then, reads_one, reads_two, reads_then, reads_made, reads_mapped, reads_same}
-use Rattle.text_grammar.proofs.Choices.{Either, maybe_ends, reads_maybe, reads_choose, reads_only}
+use Rattle.text_grammar.proofs.Choices.{Either, maybe_ends, reads_maybe, reads_choose}
 use Rattle.text_grammar.proofs.ListReaders.{unless, reads_many_plain}
-use Rattle.text_grammar.proofs.FixedTokens.{a_fixed, a_fixed_is, apart, reads_name, reads_string, reads_symbol, after_word, after_symbol, before_symbol, listed_symbol, begins_fixed}
-use Rattle.text_grammar.proofs.Tellings.{plain_one, plain_passing, plain_both, plain_after, plain_before, plain_mapped, plain_maybe, plain_choose, plain_many, plain_listed, tells_only}
+use Rattle.text_grammar.proofs.FixedTokens.{a_fixed, a_fixed_is, apart, reads_name, reads_string, after_word, after_symbol, before_symbol, listed_symbol, begins_fixed}
+use Rattle.text_grammar.proofs.Tellings.{plain_one, plain_both, plain_after, plain_before, plain_mapped, plain_maybe, plain_choose, plain_many, plain_listed}
 use Rattle.text_grammar.proofs.TextLaws.{tells_never}
 use Rattle.rule_syntax.specs.Grammar.{SpellsRule}
 use Rattle.rule_syntax.proofs.Rules.{begins_rule, plain_rule, reads_rule}
@@ -22,11 +22,9 @@ use Rattle.spec_syntax.specs.declared.trees.AttrTree.{AttrTree}
 use Rattle.spec_syntax.specs.declared.trees.OrderingTree.{OrderingTree}
 use Rattle.spec_syntax.specs.declared.trees.StatementTree.{StatementTree}
 use Rattle.spec_syntax.specs.declared.trees.StatementTree.TheVariants.{Relation, Order, Orders, Rule, Copy}
-use Rattle.spec_syntax.specs.declared.trees.QuestionTree.{QuestionTree}
-use Rattle.spec_syntax.specs.declared.trees.QuestionTree.TheVariants.{Consistent}
 use Rattle.spec_syntax.specs.Grammar
 use Rattle.spec_syntax.specs.Texts.{NeverOpens}
-use Rattle.spec_syntax.specs.Reading.{attr_at, pair_at, ordering_at, ended_ordering_at, row_at, attrs_at, relation_at, order_at, orders_at, constraint_at, copying_at, statement_at, ended_statement_at, spec_at, question_at}
+use Rattle.spec_syntax.specs.Reading.{attr_at, pair_at, ordering_at, ended_ordering_at, row_at, attrs_at, relation_at, order_at, orders_at, constraint_at, copying_at, statement_at, ended_statement_at, spec_at}
 
 -- ---- attributes
 
@@ -266,31 +264,7 @@ reads_spec =
     reads_made (reads_many_plain reads_ended_statement (λ t. true) begins_ended_statement) (λ s. record { statements = s }) (unless (λ t. true))
     (λ a t. refl) (λ x tokens h. h) (λ spec tokens h. record { tree = spec.statements; is = refl; spelled = h })
 
--- ---- questions
-
-abbrev SpellsConsistent : Unit {0} → Language
-SpellsConsistent u = IsWord (codes "consistent") ⋅ IsSymbol (codes ";")
-
-spelled_question : (q : QuestionTree) (tokens : List Lexeme) → Grammar.SpellsQuestion q tokens → Image (λ (u : Unit {0}). Consistent) SpellsConsistent q tokens
-spelled_question Consistent tokens h = record { tree = tt; is = refl; spelled = h }
-
-begins_question : Begins (is_word (codes "consistent")) true Grammar.SpellsQuestion
-begins_question Consistent tokens h = begins_fixed (λ (u : Unit {0}). IsSymbol (codes ";")) Word (codes "consistent") (is_word (codes "consistent")) true (λ t e. e) tt tokens h
-
-pub reads_question : IsReader Grammar.SpellsQuestion always question_at
-unfolding question_at
-reads_question =
-    reads_only
-    (reads_made (after_word (codes "consistent") (reads_symbol (codes ";"))) (λ (u : Unit {0}). Consistent) always
-    (λ a t. refl) (λ u tokens h. h) spelled_question)
-    (is_word (codes "consistent")) Grammar.is_unbuilt_question begins_question
-
 -- ---- words of forms that aren't built
-
-one_of_three : (a b c d : Bool) → a || b || c ≡ true → (a ≡ true → d ≡ false) → (b ≡ true → d ≡ false) → (c ≡ true → d ≡ false) → d ≡ false
-one_of_three true b c d e f g h = f refl
-one_of_three false true c d e f g h = g refl
-one_of_three false false c d e f g h = h e
 
 plain_attr : IsPlain attr_at
 unfolding attr_at
@@ -300,7 +274,7 @@ plain_pair : IsPlain pair_at
 unfolding pair_at
 plain_pair = plain_mapped (λ x. record { first = x.0; second = x.1 }) (plain_both (plain_one named) (plain_after (is_symbol (codes "<")) (plain_one named)))
 
-plain_ordering : IsPlain ordering_at
+pub plain_ordering : IsPlain ordering_at
 unfolding ordering_at
 plain_ordering = plain_mapped (λ x. record { relation = x.0; attr = x.1.0; pairs = x.1.1 })
     (plain_both (plain_one named) (plain_after (is_symbol (codes ".")) (plain_both (plain_one named) (plain_after (is_symbol (codes ":")) (plain_listed (is_symbol (codes ",")) plain_pair)))))
@@ -359,11 +333,3 @@ plain_ended_ordering = plain_before (is_symbol (codes ";")) plain_ordering
 
 pub tells_ordering : Tells NeverOpens ended_ordering_at
 tells_ordering = tells_never plain_ended_ordering
-
-pub tells_question : Tells (AtFirst Grammar.is_unbuilt_question) question_at
-unfolding question_at
-tells_question = tells_only (is_word (codes "consistent")) Grammar.is_unbuilt_question
-    (plain_mapped (λ (u : Unit {0}). Consistent) (plain_after (is_word (codes "consistent")) (plain_passing (is_symbol (codes ";")))))
-    (λ t e. one_of_three (is_word (codes "certain") t) (is_word (codes "same") t) (is_word (codes "answers") t) (is_word (codes "consistent") t) e
-    (apart Word (codes "certain") Word (codes "consistent") refl t) (apart Word (codes "same") Word (codes "consistent") refl t)
-    (apart Word (codes "answers") Word (codes "consistent") refl t))

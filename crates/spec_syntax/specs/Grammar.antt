@@ -1,5 +1,5 @@
--- The grammars of specifications, orderings and questions.
-use Rattle.std.specs.Prelude.{Bool, ◌||◌, if◌then◌else◌, Option, Some, None, codes}
+-- The grammars of specifications and orderings.
+use Rattle.std.specs.Prelude.{if◌then◌else◌, Option, Some, None, codes}
 use Rattle.text_tokens.specs.Lexeme.{Lexeme}
 use Rattle.text_grammar.specs.Words.{is_word}
 use Rattle.text_grammar.specs.Grammar.{Language, ◌⋅◌, Says, IsWord, IsSymbol, SpellsName, SpellsString, Maybe, Many, Listed}
@@ -13,8 +13,6 @@ use Rattle.spec_syntax.specs.declared.trees.OrderingTree.{OrderingTree}
 use Rattle.spec_syntax.specs.declared.trees.StatementTree.{StatementTree}
 use Rattle.spec_syntax.specs.declared.trees.StatementTree.TheVariants.{Relation, Order, Orders, Rule, Copy}
 use Rattle.spec_syntax.specs.declared.trees.SpecTree.{SpecTree}
-use Rattle.spec_syntax.specs.declared.trees.QuestionTree.{QuestionTree}
-use Rattle.spec_syntax.specs.declared.trees.QuestionTree.TheVariants.{Consistent}
 
 -- ---- specifications
 
@@ -62,13 +60,3 @@ SpellsEndedStatement s = SpellsStatement s ⋅ IsSymbol (codes ";")
 -- spec = { statement ";" }
 abbrev pub SpellsSpec : SpecTree → Language
 SpellsSpec spec = Many SpellsEndedStatement spec.statements
-
--- ---- questions
-
--- question = "consistent" ";"
-abbrev pub SpellsQuestion : QuestionTree → Language
-SpellsQuestion Consistent = IsWord (codes "consistent") ⋅ IsSymbol (codes ";")
-
--- the words of the questions that aren't built
-abbrev pub is_unbuilt_question : Lexeme → Bool
-is_unbuilt_question t = is_word (codes "certain") t || is_word (codes "same") t || is_word (codes "answers") t

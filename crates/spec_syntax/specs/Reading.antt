@@ -1,7 +1,7 @@
 -- How the rules of the grammars are read.
 use Rattle.std.specs.Prelude.{List, true, Option, codes}
 use Rattle.text_grammar.specs.Words.{is_word, is_symbol, named, quoted}
-use Rattle.text_grammar.specs.Reading.{Parser, one, passing, both, after, before, mapped, maybe, choose, only, many, listed}
+use Rattle.text_grammar.specs.Reading.{Parser, one, both, after, before, mapped, maybe, choose, many, listed}
 use Rattle.text_grammar.specs.declared.named.Named.{Named}
 use Rattle.text_grammar.specs.declared.named.NamedPair.{NamedPair}
 use Rattle.rule_syntax.specs.Reading.{rule_at}
@@ -11,9 +11,7 @@ use Rattle.spec_syntax.specs.declared.trees.OrderingTree.{OrderingTree}
 use Rattle.spec_syntax.specs.declared.trees.StatementTree.{StatementTree}
 use Rattle.spec_syntax.specs.declared.trees.StatementTree.TheVariants.{Relation, Order, Orders, Rule, Copy}
 use Rattle.spec_syntax.specs.declared.trees.SpecTree.{SpecTree}
-use Rattle.spec_syntax.specs.declared.trees.QuestionTree.{QuestionTree}
-use Rattle.spec_syntax.specs.declared.trees.QuestionTree.TheVariants.{Consistent}
-use Rattle.spec_syntax.specs.Grammar.{kind_named, is_unbuilt_question}
+use Rattle.spec_syntax.specs.Grammar.{kind_named}
 
 unfoldable pub attr_at : Parser AttrTree
 attr_at = mapped (λ x. record { name = x.0; kind = x.1 }) (both (one named) (after (is_symbol (codes ":")) (one kind_named)))
@@ -70,8 +68,3 @@ ended_statement_at = before statement_at (is_symbol (codes ";"))
 
 unfoldable pub spec_at : Parser SpecTree
 spec_at = mapped (λ s. record { statements = s }) (many (λ t. true) ended_statement_at)
-
-unfoldable pub question_at : Parser QuestionTree
-question_at =
-    only (is_word (codes "consistent")) is_unbuilt_question
-    (mapped (λ u. Consistent) (after (is_word (codes "consistent")) (passing (is_symbol (codes ";")))))

@@ -2,12 +2,10 @@
 use Rattle.std.specs.Prelude.{ℕ, List}
 use Rattle.text_tokens.specs.Lexeme.{Lexeme}
 use Rattle.text_tokens.specs.declared.token.TextFault.{TextFault}
-use Rattle.text_grammar.specs.Laws.{AtFirst}
 use Rattle.text_grammar.specs.Texts.{ReadsText, RefusesText}
 use Rattle.spec_syntax.specs.declared.trees.OrderingTree.{OrderingTree}
 use Rattle.spec_syntax.specs.declared.trees.SpecTree.{SpecTree}
-use Rattle.spec_syntax.specs.declared.trees.QuestionTree.{QuestionTree}
-use Rattle.spec_syntax.specs.Grammar.{SpellsSpec, SpellsEndedOrdering, SpellsQuestion, is_unbuilt_question}
+use Rattle.spec_syntax.specs.Grammar.{SpellsSpec, SpellsEndedOrdering}
 
 -- a text is read as this specification: it is UTF-8, and its tokens spell the specification
 abbrev pub ReadsSpec : List ℕ → SpecTree → Type 0
@@ -16,10 +14,6 @@ ReadsSpec source tree = ReadsText SpellsSpec source tree
 -- a text is read as this ordering
 abbrev pub ReadsOrdering : List ℕ → OrderingTree → Type 0
 ReadsOrdering source tree = ReadsText SpellsEndedOrdering source tree
-
--- a text is read as this question
-abbrev pub ReadsQuestion : List ℕ → QuestionTree → Type 0
-ReadsQuestion source tree = ReadsText SpellsQuestion source tree
 
 -- no token is the word of a form that isn't built: every form is
 abbrev pub NeverOpens : List Lexeme → Lexeme → Type 0
@@ -32,8 +26,3 @@ RefusesSpec source e = RefusesText SpellsSpec NeverOpens source e
 -- a text is refused as an ordering with this fault, which is never Unbuilt
 abbrev pub RefusesOrdering : List ℕ → TextFault → Type 0
 RefusesOrdering source e = RefusesText SpellsEndedOrdering NeverOpens source e
-
--- a text is refused as a question with this fault. It is Unbuilt where the refused token is the word of a question that
--- isn't built and stands first, and else Syntax
-abbrev pub RefusesQuestion : List ℕ → TextFault → Type 0
-RefusesQuestion source e = RefusesText SpellsQuestion (AtFirst is_unbuilt_question) source e

@@ -1,8 +1,7 @@
 ghost use Rattle.std.specs.Prelude.{◌≡◌, ℕ, List};
 ghost use Rattle.text_tokens.specs.declared.token.TextFault.{TextFault};
-ghost use Rattle.spec_syntax.specs.Texts.{ReadsOrdering, ReadsQuestion, ReadsSpec, RefusesOrdering, RefusesQuestion, RefusesSpec};
+ghost use Rattle.spec_syntax.specs.Texts.{ReadsOrdering, ReadsSpec, RefusesOrdering, RefusesSpec};
 ghost use Rattle.spec_syntax.specs.declared.trees.OrderingTree.{OrderingTree};
-ghost use Rattle.spec_syntax.specs.declared.trees.QuestionTree.{QuestionTree};
 ghost use Rattle.spec_syntax.specs.declared.trees.SpecTree.{SpecTree};
 
 /// A law: a text is read as one specification at most, is refused as one with one fault at most, and
@@ -19,12 +18,4 @@ pub fn one_ordering()
     ensures one_tree { (source : List ℕ) (a b : OrderingTree) → ReadsOrdering source a → ReadsOrdering source b → a ≡ b }
     ensures one_refusal { (source : List ℕ) (e f : TextFault) → RefusesOrdering source e → RefusesOrdering source f → e ≡ f }
     ensures not_both { (source : List ℕ) (tree : OrderingTree) (e : TextFault) → ReadsOrdering source tree → RefusesOrdering source e → ⊥ }
-{}
-
-/// A law: a text is read as one question at most, is refused as one with one fault at most, and not
-/// both.
-pub fn one_question()
-    ensures one_tree { (source : List ℕ) (a b : QuestionTree) → ReadsQuestion source a → ReadsQuestion source b → a ≡ b }
-    ensures one_refusal { (source : List ℕ) (e f : TextFault) → RefusesQuestion source e → RefusesQuestion source f → e ≡ f }
-    ensures not_both { (source : List ℕ) (tree : QuestionTree) (e : TextFault) → ReadsQuestion source tree → RefusesQuestion source e → ⊥ }
 {}

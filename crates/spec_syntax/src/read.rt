@@ -1,10 +1,9 @@
 ghost use Rattle.std.specs.Prelude.{◌≡◌, ◌⊎◌, IfOk, IfErr};
-ghost use Rattle.spec_syntax.specs.Texts.{ReadsSpec, ReadsOrdering, ReadsQuestion, RefusesSpec, RefusesOrdering, RefusesQuestion};
+ghost use Rattle.spec_syntax.specs.Texts.{ReadsSpec, ReadsOrdering, RefusesSpec, RefusesOrdering};
 
 use crate::ordering::EndedOrderingRule;
-use crate::question::QuestionRule;
 use crate::statement::SpecRule;
-use crate::{OrderingTree, QuestionTree, SpecTree, TextFault};
+use crate::{OrderingTree, SpecTree, TextFault};
 use std::alloc::Global;
 use text_grammar::read_text;
 
@@ -28,15 +27,4 @@ pub fn read_ordering(alloc: Global, source: &[u8]) -> Result<OrderingTree, TextF
     ensures refused { IfErr result (λ e. (e ≡ TextFault.NoMemory) ⊎ RefusesOrdering source.now e) }
 {
     read_text::<EndedOrderingRule>(alloc, source)
-}
-
-/// Reads a question.
-///
-/// The faults are those of [`read_spec`]. In the place of Syntax, Unbuilt comes where the text begins with
-/// the word of a question that is not built yet (`certain`, `same`, `answers`).
-pub fn read_question(alloc: Global, source: &[u8]) -> Result<QuestionTree, TextFault>
-    ensures read { IfOk result (λ tree. ReadsQuestion source.now tree) }
-    ensures refused { IfErr result (λ e. (e ≡ TextFault.NoMemory) ⊎ RefusesQuestion source.now e) }
-{
-    read_text::<QuestionRule>(alloc, source)
 }

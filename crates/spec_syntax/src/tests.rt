@@ -1,9 +1,8 @@
-use crate::TextFault::{NotUtf8, Syntax, Unbuilt};
+use crate::TextFault::{NotUtf8, Syntax};
 use crate::{
     AttrTree, AttrTreeList, ConclusionTree, Const, CopyTree, Mappings, Named, NamedList, NamedPair,
-    NamedPairList, OrderAtomTree, OrderingTree, PredicateTree, PredicateTreeList, QuestionTree,
-    RuleTree, SpecTree, StatementTree, StatementTreeList, TermTree, TextFault, read_ordering,
-    read_question, read_spec,
+    NamedPairList, OrderAtomTree, OrderingTree, PredicateTree, PredicateTreeList, RuleTree,
+    SpecTree, StatementTree, StatementTreeList, TermTree, TextFault, read_ordering, read_spec,
 };
 use currency_base::{Cmp, Kind, Name, NoMemory, Value};
 use std::alloc::Global;
@@ -439,34 +438,6 @@ fn reads_and_refuses_orderings(rt: HostRuntime) -> Result<(), Fail> {
     for (source, wanted) in rows {
         assert_eq!(rt;
             read_ordering(rt.alloc(), source).err(),
-            Some(wanted),
-            "{source:?}"
-        );
-    }
-    Ok(())
-}
-
-#[test]
-fn reads_and_refuses_questions(rt: HostRuntime) -> Result<(), Fail> {
-    assert_eq!(rt;
-        read_question(rt.alloc(), b"consistent; # so?\n")?,
-        QuestionTree::Consistent
-    );
-    let rows: [(&[u8], TextFault); 10] = [
-        (b"", Syntax { line: 1 }),
-        (b"consistent", Syntax { line: 1 }),
-        (b"consistent\n", Syntax { line: 2 }),
-        (b"consistent;\nconsistent;", Syntax { line: 2 }),
-        (b"consistent certain;", Syntax { line: 1 }),
-        (b"order R.a: x < y;", Syntax { line: 1 }),
-        (b"certain R.a: x < y;", Unbuilt { line: 1 }),
-        (b"# it\nsame R;", Unbuilt { line: 2 }),
-        (b"answers () where R(x);", Unbuilt { line: 1 }),
-        (b"consistent;\n\n\xC0", NotUtf8 { line: 3 }),
-    ];
-    for (source, wanted) in rows {
-        assert_eq!(rt;
-            read_question(rt.alloc(), source).err(),
             Some(wanted),
             "{source:?}"
         );

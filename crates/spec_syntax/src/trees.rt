@@ -54,10 +54,3 @@ pub struct OrderingTree {
     pub attr: Named,
     pub pairs: NamedPairList,
 }
-
-/// A question.
-#[derive(Debug, Drop, PartialEq)]
-pub enum QuestionTree {
-    /// Is the specification consistent?
-    Consistent,
-}

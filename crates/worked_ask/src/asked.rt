@@ -121,18 +121,17 @@ fn refusals_are_told(rt: HostRuntime) -> Result<(), Fail> {
     ] {
         expect(&rt, first(), words, 2, refused)?;
     }
-    for question in [
-        "certain R.a: r1 < r2;\n",
-        "same R;\n",
-        "answers (x) where R(e, x);\n",
+    for (question, refusal) in [
+        ("answers (x) where R(e, x);\n", "error E16 q 1\n"),
+        ("certain;\n", "error E02 q 1\n"),
+        ("certain R.a;\n", "error E02 q 1\n"),
+        ("certain R.b: r1 < r2;\n", "error E03 q 1\n"),
+        ("certain R.a:\nr1 < r9;\n", "error E10 q 2\n"),
+        ("certain R.a: r1 < r2,\nr1 < r1;\n", "error E11 q 2\n"),
+        ("same Q;\n", "error E03 q 1\n"),
+        ("same R,\nR;\n", "error E04 q 2\n"),
     ] {
-        expect(
-            &rt,
-            with(2, question.as_bytes()),
-            &ASK,
-            5,
-            "error E16 q 1\n",
-        )?;
+        expect(&rt, with(2, question.as_bytes()), &ASK, 5, refusal)?;
     }
     expect(&rt, with(2, b"\xFF"), &ASK, 5, "error E01 q 1\n")?;
     expect(
@@ -142,4 +141,77 @@ fn refusals_are_told(rt: HostRuntime) -> Result<(), Fail> {
         5,
         "error E08 r.csv 2\n",
     )
+}
+
+// Tables of pairs: one that asks nothing, two that are in order, and others at fault.
+const TABLES: [(&str, &[u8]); 5] = [
+    ("none.csv", b"attribute,earlier,later\n"),
+    ("one.csv", b"attribute,earlier,later\na,r1,r2\n"),
+    ("row.csv", b"attribute,earlier,later\na,r1,r2\na,r1,r9\n"),
+    ("attr.csv", b"attribute,earlier,later\nb,r1,r9\n"),
+    ("head.csv", b"attribute,earlier\na,r1\n"),
+];
+
+#[test]
+fn tables_of_pairs_are_refused(rt: HostRuntime) -> Result<(), Fail> {
+    for (question, status, refusal) in [
+        ("orders R from \"none.csv\"", 5, "error E02 q 1\n"),
+        (
+            "orders R from \"none.csv\" and orders R from \"none.csv\"",
+            5,
+            "error E02 q 1\n",
+        ),
+        ("R.a: r1 < r1", 5, "error E11 q 1\n"),
+        ("orders R from \"head.csv\"", 5, "error E07 head.csv 1\n"),
+        ("orders R from \"row.csv\"", 5, "error E10 row.csv 3\n"),
+        ("orders R from \"gone.csv\"", 7, "read fault gone.csv\n"),
+        // with one table, each step goes over all parts before the next
+        (
+            "R.a: r1 < r9 and orders R from \"attr.csv\"",
+            5,
+            "error E03 attr.csv 2\n",
+        ),
+        (
+            "orders R from \"attr.csv\" and Q.a: r1 < r2",
+            5,
+            "error E03 q 1\n",
+        ),
+        (
+            "orders R from \"gone.csv\" and\nR.b: r1 < r2",
+            5,
+            "error E03 q 2\n",
+        ),
+        // with two, each part is checked whole before the next
+        (
+            "orders R from \"row.csv\" and orders Q from \"one.csv\"",
+            5,
+            "error E10 row.csv 3\n",
+        ),
+        (
+            "R.a: r1 < r9 and orders R from \"one.csv\" and orders R from \"attr.csv\"",
+            5,
+            "error E10 q 1\n",
+        ),
+        (
+            "orders R from \"one.csv\" and orders R from \"gone.csv\"",
+            7,
+            "read fault gone.csv\n",
+        ),
+    ] {
+        let asked = format!(in rt.alloc(); "certain {question};\n")?;
+        let documents = Documents {
+            q: asked.as_bytes(),
+            tables: &TABLES,
+            ..first()
+        };
+        expect(&rt, documents, &ASK, status, refusal)?;
+    }
+    let two = Documents {
+        q: b"certain orders R from \"one.csv\" and orders R from \"none.csv\" and R.a: r2 < r3;\n",
+        tables: &TABLES,
+        ..first()
+    };
+    let text =
+        "currency brief 2;\nverdict not certain R.a: r1 < r2;\ncompletion;\nranking R.a of x: r3 < r2 < r1;\nend;\n";
+    expect(&rt, two, &BRIEF, 0, text)
 }

@@ -65,7 +65,25 @@ rule n on E (s, t): s before t in a;
     verdict: "consistent",
 };
 
-/// The history of an employee, and a department whose managers were copied from it.
+const EMP: &[u8] = b"id,eid,status,last,salary,address
+s1,mary,single,Smith,50,2 Small St
+s2,mary,married,Dupont,50,10 Elm Ave
+s3,mary,married,Dupont,80,6 Main St
+";
+
+/// The history of an employee.
+pub const HISTORY: Case<'static> = Case {
+    spec: "relation Emp from \"emp.csv\" row id entity eid (status: text, last: text, salary: int, address: text);
+rule pay on Emp (s, t): if s.salary > t.salary then t before s in salary;
+rule wed on Emp (s, t): if s.status = \"married\" and t.status = \"single\" then t before s in status;
+rule name on Emp (s, t): if t before s in status then t before s in last;
+rule move on Emp (s, t): if t before s in salary then t before s in address;
+",
+    tables: &[("emp.csv", EMP)],
+    verdict: "consistent",
+};
+
+/// The same, and a department whose managers were copied from it.
 pub const STAFF: Case<'static> = Case {
     spec: "relation Emp from \"emp.csv\" row id entity eid (status: text, last: text, salary: int, address: text);
 rule pay on Emp (s, t): if s.salary > t.salary then t before s in salary;
@@ -76,20 +94,38 @@ relation Dept from \"dept.csv\" row id entity eid (mgr: text, budget: int);
 copy c into Dept (mgr) from Emp (last): d1 from s1, d2 from s3;
 ",
     tables: &[
-        (
-            "emp.csv",
-            b"id,eid,status,last,salary,address
-s1,mary,single,Smith,50,2 Small St
-s2,mary,married,Dupont,50,10 Elm Ave
-s3,mary,married,Dupont,80,6 Main St
-",
-        ),
+        ("emp.csv", EMP),
         (
             "dept.csv",
             b"id,eid,mgr,budget
 d1,rd,Smith,6500
 d2,rd,Dupont,6000
 ",
+        ),
+    ],
+    verdict: "consistent",
+};
+
+/// Badges whose names were printed from staff records: the example of the README.
+pub const BADGES: Case<'static> = Case {
+    spec: "relation Staff from \"staff.csv\" row record entity person (name: text, salary: int);
+rule raises on Staff (s, t): if s.salary < t.salary then s before t in salary;
+rule names on Staff (s, t): if s before t in salary then s before t in name;
+relation Badge from \"badges.csv\" row badge entity holder (name: text);
+copy printed into Badge (name) from Staff (name): b1 from s3, b2 from s1;
+",
+    tables: &[
+        (
+            "staff.csv",
+            b"record,person,name,salary\ns1,mary,Smith,50\ns2,mary,Smith,60\ns3,mary,Dupont,80\n",
+        ),
+        (
+            "badges.csv",
+            b"badge,holder,name\nb1,4711,Dupont\nb2,4711,Smith\n",
+        ),
+        (
+            "pairs.csv",
+            b"attribute,earlier,later\nname,s1,s3\nsalary,s2,s3\n",
         ),
     ],
     verdict: "consistent",

@@ -4,6 +4,8 @@
 #[cfg(test)]
 mod asked;
 #[cfg(test)]
+mod briefs;
+#[cfg(test)]
 mod cases;
 #[cfg(test)]
 mod forced;
@@ -15,3 +17,5 @@ mod guides;
 mod large;
 #[cfg(test)]
 mod outside;
+#[cfg(test)]
+mod questions;

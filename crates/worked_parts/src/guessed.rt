@@ -69,7 +69,7 @@ fn guessed(
     requires { numbering.now ≡ numbers_of spec.now.relations wanted.now }
 {
     let trail = known(alloc, numbering.vars(), literals)?;
-    start(alloc, spec, numbering, wanted, trail.values())
+    start(alloc, spec, numbering, wanted, trail.values(), false)
 }
 
 // So many variables, of which these have these values.

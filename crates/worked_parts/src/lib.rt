@@ -1,5 +1,5 @@
 //! Rows on the way from a specification to clauses and back, over whole documents: what is numbered, the
-//! grounds, the clauses, and what assignments say of the order of rows.
+//! grounds, the clauses, which lists are linked, and what assignments say of the order of rows.
 #![tactic(auto)]
 
 #[cfg(test)]
@@ -8,6 +8,8 @@ mod forced;
 mod grounded;
 #[cfg(test)]
 mod guessed;
+#[cfg(test)]
+mod linked;
 #[cfg(test)]
 mod ordered;
 #[cfg(test)]

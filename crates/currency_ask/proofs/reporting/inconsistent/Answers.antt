@@ -9,6 +9,7 @@ trim-requires c =
       trimmed_accepted = c.trimmed_logs_are_accepted.ensures.accepted;
       clauses = c.trimmed_logs_are_accepted.ensures.clauses;
       writable = c.trimmed_logs_are_writable.ensures.writable;
+      among = c.trimmed_logs_are_writable.ensures.among;
       reached = c.trimmed_logs_are_writable.ensures.reached;
     } in
     can_trim laws c.args.search c.into_log-log.result c.args.place record {
@@ -19,13 +20,14 @@ trim-requires c =
     }
 
 pub returns : goal.returns
-returns c = λ budget.
+returns c = λ q budget wants.
     let laws : EmptyLaws = record {
       accepted = c.search_logs_are_accepted.ensures.accepted;
       in_place = c.search_logs_are_accepted.ensures.in_place;
       trimmed_accepted = c.trimmed_logs_are_accepted.ensures.accepted;
       clauses = c.trimmed_logs_are_accepted.ensures.clauses;
       writable = c.trimmed_logs_are_writable.ensures.writable;
+      among = c.trimmed_logs_are_writable.ensures.among;
       reached = c.trimmed_logs_are_writable.ensures.reached;
     } in
     let has : HasEmptyStep c.args.search c.into_log-log.result c.args.place = record {
@@ -34,4 +36,4 @@ returns c = λ budget.
       few = c.requires.few;
       empty = c.requires.empty;
     } in
-    empty_reported laws c.args.search c.into_log-log.result c.args.place c.in-Ok.trimmed budget c.new.result has c.in-Ok.ensures c.new.ensures
+    empty_reported laws c.args.search c.into_log-log.result c.args.place c.in-Ok.trimmed q budget c.new.result wants has c.in-Ok.ensures c.new.ensures

@@ -12,6 +12,7 @@ returns-in-Ok-clause-job g c =
       writable = c.in-Ok.ensures.writable;
       within = c.in-Ok.ensures.lists;
       enough = c.in-Ok.ensures.enough;
+      first = c.in-Ok.ensures.first;
     })
     c.told_report.ensures.told c.told_report.ensures.memory
 

@@ -11,6 +11,7 @@ returns c = one_due record {
     question_refusal = c.one_question.ensures.one_refusal;
     question_not_both = c.one_question.ensures.not_both;
     binding = c.one_outcome.ensures;
+    question_binding = c.one_bound_question.ensures;
   };
   report_tree = c.one_report.ensures.one_tree;
   report_refusal = c.one_report.ensures.one_refusal;

@@ -10,6 +10,7 @@ returns-clause-specs c = spec_read_one record {
   question_refusal = c.one_question.ensures.one_refusal;
   question_not_both = c.one_question.ensures.not_both;
   binding = c.one_outcome.ensures;
+  question_binding = c.one_bound_question.ensures;
 }
 
 pub returns-clause-questions : goal.returns-clause-questions
@@ -21,4 +22,5 @@ returns-clause-questions c = question_read_one record {
   question_refusal = c.one_question.ensures.one_refusal;
   question_not_both = c.one_question.ensures.not_both;
   binding = c.one_outcome.ensures;
+  question_binding = c.one_bound_question.ensures;
 }

@@ -1,13 +1,12 @@
 use Rattle.std.proofs.Common.{arith, ap, length}
 use Rattle.currency_cli.specs.Due.{IsQuestionSaid, text_bound}
-use Rattle.currency_cli.proofs.WholeTexts.{of_document, anyway}
+use Rattle.currency_cli.proofs.WholeTexts.{of_document}
 use Rattle.currency_cli.proofs.stages.read_the_question.Goals as goal
 
 pub returns-clause-stage : goal.returns-clause-stage
 returns-clause-stage g c settled =
     of_document (g.S.Shelf.texts c.args.shelf.now) c.args.name.now c.in_ok-bytes.bytes.items text_bound
-    (λ t b. IsQuestionSaid c.args.name.now b) c.question_said.result
+    (λ t b. IsQuestionSaid t c.args.spec.now.relations c.args.name.now b) c.question_said.result
     c.in_ok-bytes.ensures.whole
     (omega (arith, c.in_ok-bytes.ensures.within, c.as_slice.ensures.len, ap length c.as_slice.ensures.value))
-    (anyway (g.S.Shelf.texts c.args.shelf.now) (IsQuestionSaid c.args.name.now c.in_ok-bytes.bytes.items c.question_said.result)
-    (rw c.as_slice.ensures.value at (c.question_said.ensures.said settled)))
+    (rw c.as_slice.ensures.value at (rw c.in_ok-bytes.ensures.kept at (c.question_said.ensures.said settled)))

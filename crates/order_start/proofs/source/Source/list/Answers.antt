@@ -23,7 +23,7 @@ pub invariant_of-result : goal.invariant_of-result
 invariant_of-result c =
     let fields = c.self.inside in
     let seen : Subject = record { relations = fields.spec.now.relations; wanted = fields.wanted.now; numbers = fields.numbering.now; known = fields.known.now } in
-    is_listed seen c.args.rel c.args.attr c.args.ent.0 c.lists.result.now c.of_entity-rows.result.now c.self.invariant
+    is_listed seen c.args.rel c.args.attr c.args.ent.0 c.lists.result.now c.of_entity-rows.result.now fields.turned c.self.invariant
     (subst (λ (s : Subject). c.args.rel.0 < length s.relations) (sym c.self.view_is) c.requires.rel)
     (subst (λ (s : Subject). (r : Relation) → slice_get s.relations c.args.rel.0 ≡ Some r → c.args.attr.0 < length r.attrs) (sym c.self.view_is) c.requires.attr)
     c.lists.ensures c.of_entity-rows.ensures

@@ -1,0 +1,155 @@
+ghost use Rattle.std.specs.Prelude.{◌≡◌, ◌+◌, All, IfOk};
+ghost use Rattle.refutation_log.specs.Counted.{counted_steps};
+ghost use Rattle.order_search.specs.Searches.{HasGone, IsWantedRow};
+ghost use Rattle.spec_model.specs.Questions.{IsAskedPair};
+ghost use Rattle.order_links.specs.Lists.{IsListOf};
+ghost use Rattle.currency_ask.specs.Goals.{IsCurrentGoal, IsGoalOn, TellsGoal, TellsGoals};
+
+use crate::goal::{Goal, GoalList};
+use currency_base::NoMemory;
+use current_claims::CurrentRow;
+use order_links::ListId;
+use order_search::{Outcome, Search};
+use refutation_log::HintList;
+use solver_guides::Guides;
+use spec_model::{Asked, Completion, Specification};
+use std::alloc::Global;
+use watch_solver::Budget;
+
+/// What deciding goals one after another came to.
+#[derive(Debug, Drop)]
+pub(crate) enum Decided {
+    /// Each holds in every consistent completion: the steps that are their units.
+    Proved(HintList),
+    /// The goal at a place fails in this consistent completion.
+    Fails {
+        place: usize,
+        completion: Completion,
+    },
+    /// The search came to an end.
+    Ended(Outcome),
+}
+
+/// Decides goals one after another, up to the first that fails.
+pub(crate) fn decide_all(
+    alloc: Global,
+    spec: &Specification,
+    search: &mut Search<'_>,
+    goals: &GoalList,
+    units: &mut Budget,
+    guides: &mut Guides,
+) -> Result<Decided, NoMemory>
+    requires spec { search.old.spec ≡ spec.now }
+    requires goals { All (IsGoalOn search.old.spec search.old.wanted) goals.now }
+    ensures gone { HasGone search.old search.new }
+    ensures units { counted_steps search.new.log.steps + units.new ≡ counted_steps search.old.log.steps + units.old }
+    ensures told { IfOk result (TellsGoals search.new goals.now units.new) }
+{
+    let mut steps = HintList::new(alloc);
+    for place in 0..goals.len() {
+        match decide(alloc, spec, search, *goals.get(place), units, guides) {
+            Ok(Outcome::Proved(step)) => match steps.push(step) {
+                Ok(()) => {}
+                Err(error) => return Err(error),
+            },
+            Ok(Outcome::Model { completion, .. }) => {
+                return Ok(Decided::Fails { place, completion });
+            }
+            Ok(outcome) => return Ok(Decided::Ended(outcome)),
+            Err(error) => return Err(error),
+        }
+    }
+    Ok(Decided::Proved(steps))
+}
+
+// Decides a goal.
+fn decide(
+    alloc: Global,
+    spec: &Specification,
+    search: &mut Search<'_>,
+    goal: Goal,
+    units: &mut Budget,
+    guides: &mut Guides,
+) -> Result<Outcome, NoMemory>
+    requires spec { search.old.spec ≡ spec.now }
+    requires goal { IsGoalOn search.old.spec search.old.wanted goal }
+    ensures gone { HasGone search.old search.new }
+    ensures units { counted_steps search.new.log.steps + units.new ≡ counted_steps search.old.log.steps + units.old }
+    ensures told { IfOk result (TellsGoal search.new goal units.new) }
+{
+    match goal {
+        Goal::Pair(asked) => decide_pair(alloc, spec, search, asked, units, guides),
+        Goal::Current(place) => decide_current(alloc, search, place, units, guides),
+    }
+}
+
+// Decides whether an asked pair holds, once the list of its rows is brought in.
+fn decide_pair(
+    alloc: Global,
+    spec: &Specification,
+    search: &mut Search<'_>,
+    asked: Asked,
+    units: &mut Budget,
+    guides: &mut Guides,
+) -> Result<Outcome, NoMemory>
+    requires spec { search.old.spec ≡ spec.now }
+    requires pair { IsAskedPair search.old.spec.relations asked }
+    ensures gone { HasGone search.old search.new }
+    ensures units { counted_steps search.new.log.steps + units.new ≡ counted_steps search.old.log.steps + units.old }
+    ensures told { IfOk result (TellsGoal search.new (Goal.Pair asked) units.new) }
+{
+    search.is_search();
+    let list = list_of(spec, asked);
+    match search.bring(alloc, list, guides) {
+        Ok(()) => {}
+        Err(error) => return Err(error),
+    }
+    let pair = asked.pair;
+    let lit = search.before(asked.rel, pair.attr, pair.earlier, pair.later);
+    let outcome = search.decide(alloc, Some(lit), units, guides);
+    search.is_search();
+    outcome
+}
+
+// The list in which the rows of an asked pair stand.
+fn list_of(spec: &Specification, asked: Asked) -> ListId
+    requires { IsAskedPair spec.now.relations asked }
+    ensures { IsListOf spec.now.relations result }
+{
+    let rows = &spec.relations()[asked.rel.0 as usize].rows;
+    ListId {
+        rel: asked.rel,
+        attr: asked.pair.attr,
+        ent: rows.row(asked.pair.earlier).entity,
+    }
+}
+
+// Decides whether the value of a row is the current one of its entity, once the list of its rows is brought in.
+fn decide_current(
+    alloc: Global,
+    search: &mut Search<'_>,
+    place: CurrentRow,
+    units: &mut Budget,
+    guides: &mut Guides,
+) -> Result<Outcome, NoMemory>
+    requires { IsCurrentGoal search.old.spec search.old.wanted place }
+    ensures gone { HasGone search.old search.new }
+    ensures units { counted_steps search.new.log.steps + units.new ≡ counted_steps search.old.log.steps + units.old }
+    ensures told { IfOk result (TellsGoal search.new (Goal.Current place) units.new) }
+{
+    search.is_search();
+    let CurrentRow {
+        rel,
+        attr,
+        ent,
+        row,
+    } = place;
+    match search.bring(alloc, ListId { rel, attr, ent }, guides) {
+        Ok(()) => {}
+        Err(error) => return Err(error),
+    }
+    let lit = search.current(rel, attr, row);
+    let outcome = search.decide(alloc, Some(lit), units, guides);
+    search.is_search();
+    outcome
+}

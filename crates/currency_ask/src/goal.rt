@@ -1,0 +1,15 @@
+use currency_base::ItemList;
+use current_claims::CurrentRow;
+use spec_model::Asked;
+
+/// What is decided: does it hold in every consistent completion?
+#[derive(Clone, Copy, Debug, PartialEq, Eq)]
+pub(crate) enum Goal {
+    /// An asked pair holds.
+    Pair(Asked),
+    /// The value of a row is the current one of its entity.
+    Current(CurrentRow),
+}
+
+/// Goals, in the order in which they are decided.
+pub(crate) type GoalList = ItemList<Goal>;

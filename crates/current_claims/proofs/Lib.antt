@@ -1,0 +1,6 @@
+mod Lists
+mod ReadRelations
+mod OfEntity
+mod OfNeeds
+mod Places
+mod Differing

@@ -1,0 +1,4 @@
+mod Keys
+mod Changes
+mod Noting
+mod Says

@@ -1,0 +1,11 @@
+use Rattle.std.proofs.Common.{◌∙◌}
+use Rattle.order_search.proofs.Growing.{added_then}
+use Rattle.order_search.proofs.linked.bring_lists.Goals as goal
+
+pub loop-place-preserved : goal.loop-place-preserved
+loop-place-preserved g c = record {
+  held = c.bring_list.ensures.held;
+  added = added_then c.args.progress.now.solver.steps c.loop-place.progress.solver.steps c.bring_list.new.progress.solver.steps c.loop-place.invariant.added
+      c.bring_list.ensures.added;
+  units = c.bring_list.ensures.units ∙ c.loop-place.invariant.units;
+}

@@ -1,0 +1,12 @@
+mod Again
+mod Fit
+mod GroupSteps
+mod Known
+mod Lists
+mod OneQuestion
+mod Parts
+mod Pushed
+mod ReadGroup
+mod Stages
+mod TablesRead
+mod Unread

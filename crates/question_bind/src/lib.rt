@@ -1,0 +1,20 @@
+//! Binding of questions: a question's tree and the tables that it names become a question on a
+//! specification.
+#![tactic(auto)]
+
+mod asked;
+mod bind;
+mod certain;
+mod checked;
+mod group;
+mod heads;
+mod laws;
+mod pairs;
+mod records;
+mod same;
+mod tables;
+#[cfg(test)]
+mod tests;
+
+pub use bind::bind_question;
+pub use laws::one_bound_question;

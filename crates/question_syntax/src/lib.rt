@@ -1,0 +1,15 @@
+//! The language of questions: their trees, and the reading of their texts.
+#![tactic(auto)]
+
+mod asked;
+mod laws;
+mod question;
+mod read;
+#[cfg(test)]
+mod tests;
+mod trees;
+
+pub use laws::one_question;
+pub use read::read_question;
+pub use text_tokens::TextFault;
+pub use trees::{AskedTree, AskedTreeList, QuestionTree};

@@ -1,0 +1,99 @@
+ghost use Rattle.std.specs.Prelude.{◌≡◌, map};
+ghost use Rattle.text_tokens.specs.Lexeme.{lexeme_of};
+ghost use Rattle.text_grammar.specs.Reading.{Gives, one};
+ghost use Rattle.question_syntax.specs.Grammar;
+ghost use Rattle.question_syntax.specs.Reading.{certain_at, consistent_at, same_at};
+
+use crate::QuestionTree;
+use crate::asked::AskedRule;
+use std::alloc::Global;
+use text_grammar::{NameRule, Refusal, Rule, is_fixed, listed, symbol, word};
+use text_tokens::{Token, TokenKind};
+
+/// A question and the semicolon that ends it.
+pub enum QuestionRule {}
+
+impl Rule for QuestionRule {
+    ghost use Rattle.question_syntax.specs.Reading.{question_at};
+
+    type Tree = QuestionTree;
+
+    ghost reader = { question_at };
+
+    #[tactic(auto, unfolding(crate::specs::Reading::question_at))]
+    fn read<'a>(
+        alloc: Global,
+        tokens: &'a [Token<'a>],
+    ) -> Result<(QuestionTree, &'a [Token<'a>]), Refusal<'a>> {
+        match tokens {
+            [] => Err(Refusal::Syntax(tokens)),
+            [first, ..] => {
+                if is_fixed(TokenKind::Word, b"consistent", first) {
+                    consistent(tokens)
+                } else if is_fixed(TokenKind::Word, b"certain", first) {
+                    certain(alloc, tokens)
+                } else if is_fixed(TokenKind::Word, b"same", first) {
+                    same(alloc, tokens)
+                } else if is_fixed(TokenKind::Word, b"answers", first) {
+                    Err(Refusal::Unbuilt(tokens))
+                } else {
+                    Err(Refusal::Syntax(tokens))
+                }
+            }
+        }
+    }
+}
+
+/// Reads the question whether the specification is consistent.
+#[tactic(auto, unfolding(crate::specs::Reading::consistent_at))]
+fn consistent<'a>(tokens: &'a [Token<'a>]) -> Result<(QuestionTree, &'a [Token<'a>]), Refusal<'a>>
+    ensures { Gives (λ x. (x.0, map lexeme_of x.1.now)) result (consistent_at (map lexeme_of tokens.now)) }
+{
+    let rest = word(b"consistent", tokens)?;
+    let rest = symbol(b";", rest)?;
+    Ok((QuestionTree::Consistent, rest))
+}
+
+/// Reads the question whether pairs are certain.
+#[tactic(auto, unfolding(crate::specs::Reading::certain_at))]
+fn certain<'a>(
+    alloc: Global,
+    tokens: &'a [Token<'a>],
+) -> Result<(QuestionTree, &'a [Token<'a>]), Refusal<'a>>
+    ensures { Gives (λ x. (x.0, map lexeme_of x.1.now)) result (certain_at (map lexeme_of tokens.now)) }
+{
+    let (line, rest) = certain_word(tokens)?;
+    let (asked, rest) = listed::<AskedRule>(alloc, TokenKind::Word, b"and", rest)?;
+    let rest = symbol(b";", rest)?;
+    Ok((QuestionTree::Certain { line, asked }, rest))
+}
+
+/// Takes the word `certain` from the front of the tokens: its line, and the tokens after it.
+fn certain_word<'a>(tokens: &'a [Token<'a>]) -> Result<(u32, &'a [Token<'a>]), Refusal<'a>>
+    ensures { Gives (λ x. (x.0, map lexeme_of x.1.now)) result (one Grammar.certain_line (map lexeme_of tokens.now)) }
+{
+    match tokens {
+        [] => Err(Refusal::Syntax(tokens)),
+        [first, rest @ ..] => {
+            if is_fixed(TokenKind::Word, b"certain", first) {
+                Ok((first.line, rest))
+            } else {
+                Err(Refusal::Syntax(tokens))
+            }
+        }
+    }
+}
+
+/// Reads the question whether current tuples are the same in every consistent completion.
+#[tactic(auto, unfolding(crate::specs::Reading::same_at))]
+fn same<'a>(
+    alloc: Global,
+    tokens: &'a [Token<'a>],
+) -> Result<(QuestionTree, &'a [Token<'a>]), Refusal<'a>>
+    ensures { Gives (λ x. (x.0, map lexeme_of x.1.now)) result (same_at (map lexeme_of tokens.now)) }
+{
+    let rest = word(b"same", tokens)?;
+    let (names, rest) = listed::<NameRule>(alloc, TokenKind::Symbol, b",", rest)?;
+    let rest = symbol(b";", rest)?;
+    Ok((QuestionTree::Same(names), rest))
+}

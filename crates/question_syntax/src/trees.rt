@@ -1,0 +1,26 @@
+use currency_base::ItemList;
+use spec_syntax::OrderingTree;
+use text_grammar::{Named, NamedList};
+
+/// A question.
+#[derive(Debug, Drop, PartialEq)]
+pub enum QuestionTree {
+    /// Is the specification consistent?
+    Consistent,
+    /// Do these pairs hold in every consistent completion? The line is that of the word `certain`.
+    Certain { line: u32, asked: AskedTreeList },
+    /// Are the current tuples of these relations the same in every consistent completion?
+    Same(NamedList),
+}
+
+/// Pairs that are asked about.
+#[derive(Debug, Drop, PartialEq)]
+pub enum AskedTree {
+    /// Pairs of one attribute of a relation.
+    Ordering(OrderingTree),
+    /// A relation, and the document of the pairs.
+    Table { relation: Named, document: Named },
+}
+
+/// Asked parts, in the order of the text.
+pub type AskedTreeList = ItemList<AskedTree>;

@@ -1,0 +1,15 @@
+mod Alike
+mod Among
+mod Ascending
+mod Bindings
+mod Collecting
+mod Determined
+mod GoingOn
+mod Listed
+mod Matches
+mod Meaning
+mod Planning
+mod Searching
+mod Union
+mod Values
+mod Zipped

@@ -1,0 +1,7 @@
+use Rattle.std.proofs.Common.{take}
+use Rattle.std.specs.List.{All}
+use Rattle.ucq_answers.proofs.Union.{NoAnswerBy}
+use Rattle.ucq_answers.proofs.indexed.first_match.Given as goal
+
+abbrev pub invariant-loop-place : goal.invariant-loop-place
+invariant-loop-place l = All (NoAnswerBy l.relations l.tuple) (take l.place l.disjuncts)

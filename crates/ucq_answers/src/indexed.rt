@@ -1,0 +1,178 @@
+ghost use Rattle.std.specs.Prelude.{◌≡◌, ◌≤◌, IfOk, IfSome, IfNone, length};
+ghost use Rattle.query_model.specs.Answers.{AreAnswers, HasMore, IsAnswer, IsMatch};
+ghost use Rattle.query_model.specs.Fitting.{IsQuery};
+ghost use Rattle.ucq_answers.specs.Found.{Adds, IsAnswerBy, IsAnswerOf, IsMatchOf};
+
+use crate::answer_set::AnswerSet;
+use crate::binding::Binding;
+use crate::matching::disjunct_match;
+use crate::plan::{LookedUp, PlannedDisjunct};
+use crate::relation_index::RelationIndex;
+use crate::search::collect;
+use currency_base::{NoMemory, Tuple, TupleList};
+use query_model::{Match, Query};
+use spec_model::Instance;
+use std::alloc::Global;
+use std::marker::Model;
+
+/// A query and an instance, with the tuples indexed by their values at the places at which the query looks
+/// them up. Contracts see the query, and for each relation its tuples.
+#[derive(Drop)]
+pub struct IndexedInstance<'a> {
+    disjuncts: Vec<PlannedDisjunct<'a>>,
+    relations: Vec<RelationIndex<'a>>,
+}
+
+impl<'a> Model for IndexedInstance<'a> {
+    ghost use Rattle.ucq_answers.specs.Planned.{IndexedQuery};
+
+    ghost Value = { IndexedQuery };
+
+    ghost view = { λ i. record { query = record { disjuncts = i.disjuncts.items }; instance = i.relations.items } };
+}
+
+impl<'a> IndexedInstance<'a> {
+    /// Makes the indexes, in time in proportion to n log n for n tuples.
+    pub fn new(
+        alloc: Global,
+        query: &'a Query,
+        instance: &'a Instance,
+    ) -> Result<IndexedInstance<'a>, NoMemory>
+        requires { IsQuery query.now }
+        ensures { IfOk result (λ indexed. indexed ≡ record { query = query.now; instance = instance.now.relations }) }
+    {
+        let mut looked_up = Vec::new(alloc);
+        let disjuncts = planned_disjuncts(alloc, query, &mut looked_up)?;
+        looked_up.sort_unstable();
+        looked_up.dedup();
+        let relations = indexed_relations(alloc, instance, &looked_up)?;
+        Ok(IndexedInstance {
+            disjuncts,
+            relations,
+        })
+    }
+
+    /// All answers, ascending; none, if there are more than `at_most`. Of these no more than one more than
+    /// `at_most` are held at a time.
+    pub fn answers(&self, alloc: Global, at_most: usize) -> Result<Option<TupleList>, NoMemory>
+        ensures all { IfOk result (λ answers. IfSome answers (AreAnswers self.now.query self.now.instance)) }
+        ensures few { IfOk result (λ answers. IfSome answers (λ tuples. length tuples ≤ at_most)) }
+        ensures more { IfOk result (λ answers. IfNone answers (HasMore self.now.query self.now.instance at_most)) }
+    {
+        let mut answers = AnswerSet::new(alloc, at_most);
+        let _ = collect_all(alloc, &self.relations, &self.disjuncts, &mut answers)?;
+        let tuples = answers.into_tuples(alloc)?;
+        if tuples.len() > at_most {
+            return Ok(None);
+        }
+        Ok(Some(tuples))
+    }
+
+    /// How a tuple is an answer: by the first disjunct by which it is; none, if it is none.
+    pub fn match_of(&self, alloc: Global, tuple: &Tuple) -> Result<Option<Match>, NoMemory>
+        ensures some { IfOk result (λ found. IfSome found (IsMatch self.now.query self.now.instance tuple.now)) }
+        ensures none { IfOk result (λ found. IfNone found (IsAnswer self.now.query self.now.instance tuple.now → ⊥)) }
+    {
+        first_match(alloc, &self.relations, &self.disjuncts, tuple)
+    }
+}
+
+// The plans of the disjuncts. Adds the places at which values are looked up.
+fn planned_disjuncts<'a>(
+    alloc: Global,
+    query: &'a Query,
+    looked_up: &mut Vec<LookedUp>,
+) -> Result<Vec<PlannedDisjunct<'a>>, NoMemory>
+    requires { IsQuery query.now }
+    ensures { IfOk result (λ planned. planned.items ≡ query.now.disjuncts) }
+{
+    let mut all = Vec::new(alloc);
+    for disjunct in query.disjuncts.as_slice() {
+        all.push(PlannedDisjunct::new(alloc, disjunct, looked_up)?)?;
+    }
+    Ok(all)
+}
+
+// The relations, each with indexes by its values at the places at which they are looked up.
+fn indexed_relations<'a>(
+    alloc: Global,
+    instance: &'a Instance,
+    looked_up: &[LookedUp],
+) -> Result<Vec<RelationIndex<'a>>, NoMemory>
+    ensures { IfOk result (λ relations. relations.items ≡ instance.now.relations) }
+{
+    let mut all = Vec::new(alloc);
+    for (relation, tuples) in instance.relations.as_slice().iter().enumerate() {
+        let places = places_of(alloc, looked_up, relation)?;
+        all.push(RelationIndex::new(alloc, tuples.as_slice(), &places)?)?;
+    }
+    Ok(all)
+}
+
+// The places of a relation at which its values are looked up.
+fn places_of(
+    alloc: Global,
+    looked_up: &[LookedUp],
+    relation: usize,
+) -> Result<Vec<usize>, NoMemory> {
+    let mut places = Vec::new(alloc);
+    for one in looked_up {
+        if one.relation.0 as usize == relation {
+            places.push(one.place)?;
+        }
+    }
+    Ok(places)
+}
+
+// Adds the answers by each disjunct, and says whether it stopped since there are too many.
+fn collect_all<'a>(
+    alloc: Global,
+    relations: &'a [RelationIndex<'a>],
+    disjuncts: &'a [PlannedDisjunct<'a>],
+    answers: &mut AnswerSet,
+) -> Result<bool, NoMemory>
+    ensures { IfOk result (Adds (IsAnswerOf disjuncts.now relations.now) answers.old answers.new) }
+{
+    for planned in disjuncts {
+        if collect_disjunct(alloc, relations, planned, answers)? {
+            return Ok(true);
+        }
+    }
+    Ok(false)
+}
+
+// Adds the answers by a disjunct, and says whether it stopped since there are too many.
+fn collect_disjunct<'a>(
+    alloc: Global,
+    relations: &'a [RelationIndex<'a>],
+    planned: &'a PlannedDisjunct<'a>,
+    answers: &mut AnswerSet,
+) -> Result<bool, NoMemory>
+    ensures { IfOk result (Adds (IsAnswerBy relations.now planned.now) answers.old answers.new) }
+{
+    let none = Binding::new(alloc, planned.vars())?;
+    let (tests, head) = (planned.tests(), planned.head());
+    let steps = planned.from_nothing();
+    let full = collect(alloc, relations, tests, head, steps, &none, answers)?;
+    Ok(full)
+}
+
+// How a tuple is an answer by the first disjunct by which it is.
+fn first_match<'a>(
+    alloc: Global,
+    relations: &'a [RelationIndex<'a>],
+    disjuncts: &'a [PlannedDisjunct<'a>],
+    tuple: &'a Tuple,
+) -> Result<Option<Match>, NoMemory>
+    ensures { IfOk result (IsMatchOf disjuncts.now relations.now tuple.now) }
+{
+    for (place, planned) in disjuncts.iter().enumerate() {
+        let Ok(number) = u32::try_from(place) else {
+            return Err(NoMemory);
+        };
+        if let Some(found) = disjunct_match(alloc, relations, planned, number, tuple)? {
+            return Ok(Some(found));
+        }
+    }
+    Ok(None)
+}

@@ -1,0 +1,22 @@
+//! The answers of a query over an instance, and how a tuple is an answer.
+#![tactic(auto)]
+
+mod answer_set;
+mod binding;
+mod comparisons;
+mod fits;
+mod fitting;
+mod indexed;
+mod laws;
+mod matching;
+mod place_index;
+mod plan;
+mod relation_index;
+mod search;
+
+pub use fits::is_query;
+pub use indexed::IndexedInstance;
+pub use laws::laws_of_answers;
+
+#[cfg(test)]
+mod tests;

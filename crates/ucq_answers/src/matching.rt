@@ -1,0 +1,108 @@
+ghost use Rattle.std.specs.Prelude.{◌≡◌, List, None, Some, IfOk, replicate};
+ghost use Rattle.currency_base.specs.declared.value.Value.{Value};
+ghost use Rattle.ucq_answers.specs.Found.{AreEntities, IsEntity, IsMatchFound, IsMetFound};
+ghost use Rattle.ucq_answers.specs.Partly.{bind_all};
+
+use crate::binding::Binding;
+use crate::fitting::bound;
+use crate::plan::PlannedDisjunct;
+use crate::relation_index::RelationIndex;
+use crate::search::{candidates, find, fit_atom};
+use currency_base::{EntId, EntList, NoMemory, Tuple};
+use query_model::{Atom, Match};
+use std::alloc::Global;
+
+/// How a tuple is an answer by a disjunct, if it is; `number` is the disjunct's.
+pub(crate) fn disjunct_match<'a>(
+    alloc: Global,
+    relations: &'a [RelationIndex<'a>],
+    planned: &'a PlannedDisjunct<'a>,
+    number: u32,
+    tuple: &'a Tuple,
+) -> Result<Option<Match>, NoMemory>
+    ensures { IfOk result (IsMatchFound relations.now planned.now number tuple.now) }
+{
+    let Some(values) = head_values(alloc, planned, tuple)? else {
+        return Ok(None);
+    };
+    let Some(values) = met_values(alloc, relations, planned, &values)? else {
+        return Ok(None);
+    };
+    let Some(entities) = entities_of(alloc, relations, planned.atoms(), &values)? else {
+        return Ok(None);
+    };
+    let values = values.values(alloc)?;
+    Ok(Some(Match {
+        disjunct: number,
+        entities,
+        values,
+    }))
+}
+
+// The values of the head's variables, where they are those of a tuple; none, if they cannot be.
+fn head_values<'a>(
+    alloc: Global,
+    planned: &PlannedDisjunct<'a>,
+    tuple: &'a Tuple,
+) -> Result<Option<Binding<'a>>, NoMemory>
+    ensures { IfOk result (λ values. values ≡ bind_all (replicate planned.now.vars None) planned.now.head tuple.now) }
+{
+    let none = Binding::new(alloc, planned.vars())?;
+    Ok(bound(none, planned.head(), tuple.as_slice()))
+}
+
+// Values that meet a disjunct and go on from those of the head's variables.
+fn met_values<'a>(
+    alloc: Global,
+    relations: &'a [RelationIndex<'a>],
+    planned: &'a PlannedDisjunct<'a>,
+    values: &Binding<'a>,
+) -> Result<Option<Binding<'a>>, NoMemory>
+    ensures { IfOk result (λ met. (tuple : List Value) → bind_all (replicate planned.now.vars None) planned.now.head tuple ≡ Some values.now
+        → IsMetFound relations.now planned.now tuple met) }
+{
+    let found = find(
+        alloc,
+        relations,
+        planned.tests(),
+        planned.from_head(),
+        values,
+    )?;
+    Ok(found)
+}
+
+// For each atom the place of a tuple that it fits.
+fn entities_of<'a>(
+    alloc: Global,
+    relations: &'a [RelationIndex<'a>],
+    atoms: &'a [Atom],
+    values: &Binding<'a>,
+) -> Result<Option<EntList>, NoMemory>
+    ensures { IfOk result (AreEntities relations.now values.now atoms.now) }
+{
+    let mut entities = EntList::new(alloc);
+    for atom in atoms {
+        let Some(ent) = entity_of(alloc, relations, atom, values)? else {
+            return Ok(None);
+        };
+        entities.push(ent)?;
+    }
+    Ok(Some(entities))
+}
+
+// The place of a tuple that an atom fits.
+fn entity_of<'a>(
+    alloc: Global,
+    relations: &'a [RelationIndex<'a>],
+    atom: &'a Atom,
+    values: &Binding<'a>,
+) -> Result<Option<EntId>, NoMemory>
+    ensures { IfOk result (IsEntity relations.now values.now atom.now) }
+{
+    for ent in candidates(relations, atom, values) {
+        if let Some(_) = fit_atom(alloc, relations, atom, *ent, values)? {
+            return Ok(Some(*ent));
+        }
+    }
+    Ok(None)
+}
