@@ -9,6 +9,3 @@ mod watches;
 
 pub use arena::Arena;
 pub use clause::ClauseNo;
-
-#[cfg(test)]
-mod tests;

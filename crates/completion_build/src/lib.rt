@@ -14,6 +14,3 @@ mod tournament;
 
 pub use built::{Built, Cycle, CycleList};
 pub use ranking::rank;
-
-#[cfg(test)]
-mod tests;

@@ -13,6 +13,3 @@ mod resolving;
 mod writing;
 
 pub use analysis::Analysis;
-
-#[cfg(test)]
-mod tests;

@@ -8,8 +8,6 @@ mod copy_map;
 mod difference;
 mod fault;
 mod place;
-#[cfg(test)]
-mod tests;
 
 pub use copy_map::{CopyList, CopyMap};
 pub use fault::CopyFault;

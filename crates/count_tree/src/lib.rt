@@ -5,6 +5,3 @@ mod tournament;
 mod tree;
 
 pub use tree::CountTree;
-
-#[cfg(test)]
-mod tests;

@@ -14,6 +14,3 @@ mod search;
 pub use copied_pairs::{CopiedPair, CopiedPairList};
 pub use grounds::{Grounds, instances};
 pub use plain::plain_grounds;
-
-#[cfg(test)]
-mod tests;

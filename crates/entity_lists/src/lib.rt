@@ -5,6 +5,3 @@ mod counting;
 mod lists;
 
 pub use lists::EntityLists;
-
-#[cfg(test)]
-mod tests;

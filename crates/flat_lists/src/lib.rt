@@ -5,6 +5,3 @@ mod lists;
 mod spans;
 
 pub use lists::FlatLists;
-
-#[cfg(test)]
-mod tests;

@@ -15,6 +15,3 @@ mod telling;
 
 pub use closure::{Closure, close};
 pub use forced::{Forced, Why};
-
-#[cfg(test)]
-mod tests;

@@ -14,6 +14,3 @@ mod uses;
 pub use closing::{Clauses, least};
 pub use derived::{Derived, Why};
 pub use laws::derived_are_least;
-
-#[cfg(test)]
-mod tests;

@@ -10,6 +10,3 @@ mod statements;
 mod steps;
 
 pub use form::{FormFault, first_fault, literals_are_of_statements};
-
-#[cfg(test)]
-mod tests;

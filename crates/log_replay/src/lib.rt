@@ -11,8 +11,6 @@ mod fault;
 mod laws;
 mod marks;
 mod replay;
-#[cfg(test)]
-mod tests;
 
 pub use fault::StepFault;
 pub use laws::one_step_end;

@@ -10,8 +10,6 @@ mod many;
 mod number;
 mod statement;
 mod step;
-#[cfg(test)]
-mod tests;
 mod values;
 mod write;
 

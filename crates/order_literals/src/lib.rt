@@ -15,6 +15,3 @@ mod wanted;
 pub use block::Block;
 pub use numbering::Numbering;
 pub use wanted::Wanted;
-
-#[cfg(test)]
-mod tests;

@@ -10,6 +10,3 @@ mod squares;
 
 pub use square::Square;
 pub use squares::Squares;
-
-#[cfg(test)]
-mod tests;

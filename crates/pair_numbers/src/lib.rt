@@ -6,6 +6,3 @@ mod pair;
 
 pub use numbers::PairNumbers;
 pub use pair::RowPair;
-
-#[cfg(test)]
-mod tests;

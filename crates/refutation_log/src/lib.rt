@@ -14,6 +14,3 @@ pub use log::Log;
 pub use statement::{Statement, StatementList};
 pub use step::{HintList, Label, LabelRef, Step, StepRef};
 pub use steps::Steps;
-
-#[cfg(test)]
-mod tests;

@@ -11,8 +11,6 @@ mod laws;
 mod ranking;
 mod read;
 mod report;
-#[cfg(test)]
-mod tests;
 mod tree;
 mod verdict;
 

@@ -9,8 +9,6 @@ mod completions;
 mod names;
 mod ranking;
 mod shown;
-#[cfg(test)]
-mod tests;
 mod verdict;
 mod writing;
 

@@ -9,6 +9,3 @@ mod state;
 mod steps;
 
 pub use state::State;
-
-#[cfg(test)]
-mod tests;

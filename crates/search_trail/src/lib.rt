@@ -6,6 +6,3 @@ mod values;
 
 pub use trail::Trail;
 pub use values::Values;
-
-#[cfg(test)]
-mod tests;

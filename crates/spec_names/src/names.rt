@@ -148,28 +148,3 @@ impl SpecNames {
         &self.each[place]
     }
 }
-
-#[cfg(test)]
-mod tests {
-    use super::*;
-    use std::test::Fail;
-
-    fn name(alloc: Global, text: &str) -> Result<Name, NoMemory> {
-        Name::from_bytes(alloc, text.as_bytes())
-    }
-
-    #[test]
-    fn a_relation_is_added(rt: HostRuntime) -> Result<(), Fail> {
-        let alloc = rt.alloc();
-        let mut names = SpecNames::new(alloc);
-        let parts = RelationNames {
-            attrs: NameIndex::new(alloc),
-            rows: NameIndex::new(alloc),
-            entities: NameIndex::new(alloc),
-        };
-        names.add(name(alloc, "dept")?, parts)?;
-        assert_eq!(rt; names.relations().find(&name(alloc, "dept")?), Some(0));
-        assert_eq!(rt; names.relation(0).rows.names().len(), 0);
-        Ok(())
-    }
-}

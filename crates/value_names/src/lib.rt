@@ -4,6 +4,3 @@
 mod names;
 
 pub use names::{ValueNames, first_rows, value_names};
-
-#[cfg(test)]
-mod tests;

@@ -6,6 +6,3 @@ mod links;
 mod writes;
 
 pub use links::WatchLinks;
-
-#[cfg(test)]
-mod tests;

@@ -8,6 +8,3 @@ mod truths;
 pub use laws::{reasons_are_kept, watch_rule_is_kept, watched_are_at_rest};
 pub use propagation::propagate;
 pub use truths::truth;
-
-#[cfg(test)]
-mod tests;

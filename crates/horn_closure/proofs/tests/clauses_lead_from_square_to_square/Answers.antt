@@ -1,8 +1,0 @@
-use Rattle.std.proofs.Common.{arith}
-use Rattle.horn_closure.proofs.SmallHorns.{one_below, two_below, small_horn}
-use Rattle.horn_closure.proofs.tests.clauses_lead_from_square_to_square.Goals as goal
-
-pub least-requires : goal.least-requires
-least-requires g c =
-    rw (c.in_ok-clauses.ensures.premises, c.in_ok-clauses.ensures.conclusions)
-    (small_horn _ _ _ _ _ _ (omega arith) (one_below 8 1 (omega arith)) (two_below 8 1 6 (omega arith) (omega arith)) (one_below 8 1 (omega arith)) (omega arith) (omega arith))
