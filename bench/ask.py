@@ -3,8 +3,10 @@
 how it compares with an outside solver on the same clauses.
 
 The first family has rows in entities of 8: given chains (some of them broken), a value rule, two order rules and a copy. Asked of it
-are `consistent`, and `certain` of one pair of each entity of one relation, which follows from two known pairs and a rule. In the second family
-each value is determined, and `same` is asked of all relations. The third is near the limits on pairs of rows and on instances: entities of 4 and of 64. At last
+are `consistent`, `certain` of one pair of each entity of one relation, which follows from two known pairs and a rule, and `answers` of a query with one
+answer for each entity of it, of which half are certain. In the second family
+each value is determined, and `same` is asked of all relations. The third is near the limits on pairs of rows and on instances: entities of 4 and of 64. Then comes a query with
+more answers than are gone through. At last
 as many pairs are asked about as may be, and one more. Runs the program as
 built, and prints per command and N the time per row, its ratio to the smallest N, and the peak memory; and where the
 program `bench_ask` is built (`rt run` in its folder), what the log of the search came to, with how many axioms on three rows
@@ -29,6 +31,7 @@ MARKS = {
     "ask": (3, 10, 1_300),
     "ask certain": (4, 60, 1_600),
     "ask same": (4, 60, 1_600),
+    "ask answers": (4, 120, 1_600),
 }
 MOST_RATIO = 3
 OUTSIDE = 10_000
@@ -103,6 +106,11 @@ def write_pairs(folder, rows):
         "attribute,earlier,later",
         (f"c,r{e}_{x},r{e}_{y}" for e in range(rows // 2 // ENTITY) for x, y in [asked_of(e)]),
     )
+
+
+def write_query(folder):
+    """A query with one answer for each entity; it is the same in every consistent completion where the entity's chain is whole."""
+    (folder / "query").write_text("answers (e, y) where item(e, _, y, _, _);\n")
 
 
 DETERMINED = """relation item from "item.csv" row id entity eid (a: int, b: int, c: int);
@@ -221,7 +229,21 @@ VALUES = {
     "ask same": ["ask", "s", "values"],
     "verify same": ["verify", "s", "values", "p"],
 }
-VERDICTS = {"ask": b"consistent", "ask certain": b"certain", "ask same": b"same"}
+ANSWERS = {
+    "ask answers --brief": ["ask", "s", "query", "--brief"],
+    "ask answers": ["ask", "s", "query"],
+    "verify answers": ["verify", "s", "query", "p"],
+}
+VERDICTS = {"ask": b"consistent", "ask certain": b"certain", "ask same": b"same", "ask answers": b"answers"}
+
+
+def told_of(said, rows, above):
+    """How many answers a report prints, completions it lists, and units its log has; half of the entities have a certain answer."""
+    lines = said.split(b"\n")
+    counts = {word: sum(line.startswith(word + b" ") or line == word + b";" for line in lines) for word in (b"answer", b"completion", b"learn", b"demand")}
+    print("  " + ", ".join(f"{count} {word.decode()}" for word, count in counts.items()))
+    if counts[b"answer"] != (rows // 2 // ENTITY + 1) // 2:
+        above.append(f"ask answers at {rows} rows: {counts[b'answer']} answers")
 
 
 def measure(commands, folder, rows, first, above):
@@ -244,6 +266,8 @@ def measure(commands, folder, rows, first, above):
             above.append(f"{name} at {rows} rows: {spent:.1f} s")
         if rows == SIZES[-1] and most_megabytes and megabytes > most_megabytes:
             above.append(f"{name} at {rows} rows: {megabytes:.0f} MB")
+        if name == "ask answers":
+            told_of(said, rows, above)
         if name == "ask" and SEARCH.exists():
             print("  " + subprocess.run([SEARCH, "s"], cwd=folder, capture_output=True, text=True).stdout.strip())
         if name == "ask --brief" and rows == OUTSIDE:
@@ -258,8 +282,10 @@ def measure_sizes(above):
             folder = pathlib.Path(made)
             write_documents(folder, rows)
             write_pairs(folder, rows)
+            write_query(folder)
             measure(CONSISTENT, folder, rows, first, above)
             measure(PAIRS, folder, rows, first, above)
+            measure(ANSWERS, folder, rows, first, above)
         with tempfile.TemporaryDirectory() as made:
             folder = pathlib.Path(made)
             write_determined(folder, rows)
@@ -304,11 +330,25 @@ def measure_pairs(above):
                 above.append(f"asked pairs, {name}: {said!r}")
 
 
+def measure_many(above):
+    """A query of which 32 entities at four places are more answers than are gone through: 1,048,576."""
+    with tempfile.TemporaryDirectory() as made:
+        folder = pathlib.Path(made)
+        (folder / "s").write_text('relation R from "r.csv" row id entity id (a: int);\n')
+        table(folder / "r.csv", "id,a", (f"r{number},1" for number in range(32)))
+        (folder / "q").write_text("answers (a, b, c, d) where R(a, _) and R(b, _) and R(c, _) and R(d, _);\n")
+        spent, megabytes, said = timed(folder, ["ask", "s", "q"], (6,))
+        print(f"1,048,576 answers: {said.decode().strip()}, {spent:.1f} s, {megabytes:.0f} MB")
+        if said != b"limit 3\n" or megabytes > MARKS["ask answers"][2]:
+            above.append(f"1,048,576 answers: {said!r}, {megabytes:.0f} MB")
+
+
 def main():
     build()
     above = []
     measure_sizes(above)
     measure_limits()
+    measure_many(above)
     measure_pairs(above)
     end(above)
 

@@ -10,11 +10,11 @@ use Rattle.spec_model.specs.Spec.{Spec}
 use Rattle.spec_model.specs.declared.relation.Relation.{Relation}
 use Rattle.refutation_log.specs.declared.step.Label.TheVariants as label
 use Rattle.log_axioms.specs.Axioms as judged
-use Rattle.log_axioms.specs.Axioms.{are_two, place_clause, copy_clause, in_relation, of_copy, axiom_of}
+use Rattle.log_axioms.specs.Axioms.{are_two, place_clause, copy_clause, in_relation, of_copy}
 use Rattle.log_axioms.specs.declared.signed.Signed.{Signed}
 use Rattle.order_literals.specs.Axioms.{IsCopyAxiom, IsAxiom}
 use Rattle.order_literals.specs.Said.{Said, before, not_before}
-use Rattle.axiom_agreement.proofs.Sayings.{IsJudged, HasAxiom, order_agrees}
+use Rattle.axiom_agreement.proofs.Sayings.{IsJudged, HasAxiom, judged_of, order_agrees}
 use Rattle.axiom_agreement.proofs.Tests.{two_pass, passed_two, given_if, then_given, in_relation_at, in_relation_is}
 
 pub copy_made : (s : Spec) (k : CopyId) (place : ℕ) (first second : RowId) (clause : List Said) → IsAxiom s (label.Copy k place first second) clause
@@ -84,7 +84,7 @@ copy_parts copy place first second target source clause e = by (source_at copy f
           sources = both.1;
         }
 
-pub copy_has : (s : Spec) (k : CopyId) (place : ℕ) (first second : RowId) (clause : List Signed) → axiom_of s (label.Copy k place first second) ≡ Some clause
+pub copy_has : (s : Spec) (k : CopyId) (place : ℕ) (first second : RowId) (clause : List Signed) → judged_of s (label.Copy k place first second) ≡ Some clause
     → HasAxiom s (label.Copy k place first second)
 copy_has s k place first second clause e = by (slice_get s.copies k.0) refl e
   where

@@ -1,6 +1,6 @@
-mod Agreeing
-mod Tests
-mod Sayings
+pub mod Agreeing
+pub mod Tests
+pub mod Sayings
 mod Orders
 mod Ruled
 mod Copied

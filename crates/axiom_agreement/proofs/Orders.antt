@@ -10,11 +10,11 @@ use Rattle.partial_orders.proofs.PairOrder.{has_is_contained}
 use Rattle.spec_model.specs.Spec.{Spec}
 use Rattle.refutation_log.specs.declared.step.Label.TheVariants as label
 use Rattle.log_axioms.specs.Axioms as judged
-use Rattle.log_axioms.specs.Axioms.{is_attr, are_two, given_clause, transitive_clause, above_clause, axiom_of}
+use Rattle.log_axioms.specs.Axioms.{is_attr, are_two, given_clause, transitive_clause, above_clause}
 use Rattle.log_axioms.specs.declared.signed.Signed.{Signed}
 use Rattle.order_literals.specs.Axioms.{IsAxiom}
 use Rattle.order_literals.specs.Said.{Said, before, not_before, not_top}
-use Rattle.axiom_agreement.proofs.Sayings.{IsJudged, HasAxiom, order_agrees, top_agrees}
+use Rattle.axiom_agreement.proofs.Sayings.{IsJudged, HasAxiom, judged_of, order_agrees, top_agrees}
 use Rattle.axiom_agreement.proofs.Tests.{attr_passes, passed_attr, two_pass, passed_two, given_passes, given_if, then_given, in_relation_at, in_relation_is}
 
 -- ---- given pairs
@@ -33,7 +33,7 @@ given_made s rel attr earlier later clause x =
     } in
     subst (IsJudged s (label.Given rel attr earlier later)) (sym x.2.1) made
 
-pub given_has : (s : Spec) (rel : RelId) (attr : AttrId) (earlier later : RowId) (clause : List Signed) → axiom_of s (label.Given rel attr earlier later) ≡ Some clause
+pub given_has : (s : Spec) (rel : RelId) (attr : AttrId) (earlier later : RowId) (clause : List Signed) → judged_of s (label.Given rel attr earlier later) ≡ Some clause
     → HasAxiom s (label.Given rel attr earlier later)
 given_has s rel attr earlier later clause e =
     let p : Pair = record { attr = attr; earlier = earlier; later = later } in
@@ -63,7 +63,7 @@ transitive_made s rel attr a b c clause x =
     } in
     subst (IsJudged s (label.Transitive rel attr a b c)) (sym x.2.4) made
 
-pub transitive_has : (s : Spec) (rel : RelId) (attr : AttrId) (a b c : RowId) (clause : List Signed) → axiom_of s (label.Transitive rel attr a b c) ≡ Some clause
+pub transitive_has : (s : Spec) (rel : RelId) (attr : AttrId) (a b c : RowId) (clause : List Signed) → judged_of s (label.Transitive rel attr a b c) ≡ Some clause
     → HasAxiom s (label.Transitive rel attr a b c)
 transitive_has s rel attr a b c clause e =
     let found = in_relation_is s.relations rel (transitive_clause rel attr a b c) clause e in
@@ -94,7 +94,7 @@ above_made s rel attr row other clause x =
     } in
     subst (IsJudged s (label.Above rel attr row other)) (sym x.2.2) made
 
-pub above_has : (s : Spec) (rel : RelId) (attr : AttrId) (row other : RowId) (clause : List Signed) → axiom_of s (label.Above rel attr row other) ≡ Some clause
+pub above_has : (s : Spec) (rel : RelId) (attr : AttrId) (row other : RowId) (clause : List Signed) → judged_of s (label.Above rel attr row other) ≡ Some clause
     → HasAxiom s (label.Above rel attr row other)
 above_has s rel attr row other clause e =
     let found = in_relation_is s.relations rel (above_clause rel attr row other) clause e in

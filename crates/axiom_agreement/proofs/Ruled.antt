@@ -14,13 +14,13 @@ use Rattle.spec_model.specs.Spec.{Spec}
 use Rattle.spec_model.specs.declared.relation.Relation.{Relation}
 use Rattle.refutation_log.specs.declared.step.Label.TheVariants as label
 use Rattle.log_axioms.specs.Axioms as judged
-use Rattle.log_axioms.specs.Axioms.{of_one_entity, concluded_clause, rule_clause, of_rule, axiom_of}
+use Rattle.log_axioms.specs.Axioms.{of_one_entity, concluded_clause, rule_clause, of_rule}
 use Rattle.log_axioms.specs.declared.signed.Signed.{Signed}
 use Rattle.order_literals.specs.Axioms.{conclusion_clause, instance_clause, IsAxiom}
 use Rattle.order_literals.specs.Said.{Said, not_before}
 use Rattle.order_clauses.proofs.Reading.{all_at}
 use Rattle.axiom_agreement.proofs.Agreeing.{AllAgree, all_agree_map, all_agree_both}
-use Rattle.axiom_agreement.proofs.Sayings.{IsJudged, HasAxiom, order_agrees}
+use Rattle.axiom_agreement.proofs.Sayings.{IsJudged, HasAxiom, judged_of, order_agrees}
 use Rattle.axiom_agreement.proofs.Tests.{choice_passes, passed_choice, given_if, then_given, in_relation_at, in_relation_is}
 
 -- ---- the clause of an instance
@@ -68,7 +68,7 @@ rule_made s k rows clause are x =
     } in
     subst (IsJudged s (label.Rule k rows)) (sym x.2.2.3) made
 
-pub rule_has : (s : Spec) (k : RuleId) (rows : List RowId) (clause : List Signed) → axiom_of s (label.Rule k rows) ≡ Some clause → HasAxiom s (label.Rule k rows)
+pub rule_has : (s : Spec) (k : RuleId) (rows : List RowId) (clause : List Signed) → judged_of s (label.Rule k rows) ≡ Some clause → HasAxiom s (label.Rule k rows)
 rule_has s k rows clause e = by (slice_get s.rules k.0) refl e
   where
     by : (o : Option Rule) → slice_get s.rules k.0 ≡ o → of_rule s rows o ≡ Some clause → HasAxiom s (label.Rule k rows)

@@ -1,5 +1,5 @@
 -- Each kind of statement that is made says the same for the judge.
-use Rattle.std.proofs.Common.{◌≡◌, ◌==◌, ◌&&◌, ◌||◌, ◌<◌, Bool, true, false, not, List, Some, length, slice_get, refl, ap, ◌∙◌}
+use Rattle.std.proofs.Common.{◌≡◌, ◌==◌, ◌&&◌, ◌||◌, ◌<◌, Bool, true, false, not, List, [], Option, Some, None, length, slice_get, refl, ap, ◌∙◌}
 use Rattle.std.proofs.lemmas.Bool.{and_from, and_parts, or_right}
 use Rattle.currency_base.specs.declared.ids.AttrId.{AttrId}
 use Rattle.currency_base.specs.declared.ids.RelId.{RelId}
@@ -118,10 +118,14 @@ last_agrees relations rel attr row n r is =
 
 -- ---- a label
 
+-- what the judge has where nothing is posed
+abbrev pub judged_of : Spec → Label → Option (List Signed)
+judged_of s l = axiom_of s (record { query = None; answers = [] }) l
+
 -- the judge has a clause for the label, which agrees with this one
 pub record IsJudged (s : Spec) (l : Label) (clause : List Said) : Type 0 where
   pub signed : List Signed
-  pub is : axiom_of s l ≡ Some signed
+  pub is : judged_of s l ≡ Some signed
   pub agree : AllAgree s.relations clause signed
 
 -- a label has a clause for those who make axioms

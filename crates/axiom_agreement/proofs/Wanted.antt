@@ -11,7 +11,7 @@ use Rattle.spec_model.specs.Spec.{Spec}
 use Rattle.spec_model.specs.declared.relation.Relation.{Relation}
 use Rattle.refutation_log.specs.declared.step.Label.TheVariants as label
 use Rattle.log_axioms.specs.Axioms as judged
-use Rattle.log_axioms.specs.Axioms.{is_attr, same_entity, top_clause, last_clause, value_clause, axiom_of}
+use Rattle.log_axioms.specs.Axioms.{is_attr, same_entity, top_clause, last_clause, value_clause}
 use Rattle.log_axioms.specs.declared.signed.Signed.{Signed}
 use Rattle.order_literals.specs.Axioms.{others, alike, IsAxiom}
 use Rattle.order_literals.specs.Said.{Said, not_before, top, not_top, last, not_last}
@@ -20,7 +20,7 @@ use Rattle.order_clauses.proofs.GivenPairs.{entity_there}
 use Rattle.order_clauses.proofs.Members.{row_within}
 use Rattle.order_clauses.proofs.Reading.{all_at}
 use Rattle.axiom_agreement.proofs.Agreeing.{AllAgree, all_agree_map}
-use Rattle.axiom_agreement.proofs.Sayings.{IsRowIn, IsJudged, HasAxiom, order_agrees, top_agrees, last_agrees}
+use Rattle.axiom_agreement.proofs.Sayings.{IsRowIn, IsJudged, HasAxiom, judged_of, order_agrees, top_agrees, last_agrees}
 use Rattle.axiom_agreement.proofs.Tests.{attr_passes, passed_attr, entity_passes, passed_entity, others_are, alike_are, given_if, then_given, in_relation_at, in_relation_is}
 
 -- ---- a row stands last, or another does not stand before it
@@ -53,7 +53,7 @@ top_made s rel attr row clause x =
     } in
     subst (IsJudged s (label.Top rel attr row)) (sym x.2.3) made
 
-pub top_has : (s : Spec) (rel : RelId) (attr : AttrId) (row : RowId) (clause : List Signed) → axiom_of s (label.Top rel attr row) ≡ Some clause
+pub top_has : (s : Spec) (rel : RelId) (attr : AttrId) (row : RowId) (clause : List Signed) → judged_of s (label.Top rel attr row) ≡ Some clause
     → HasAxiom s (label.Top rel attr row)
 top_has s rel attr row clause e =
     let found = in_relation_is s.relations rel (top_clause rel attr row) clause e in
@@ -93,7 +93,7 @@ last_made s rel attr row clause are x =
     } in
     subst (IsJudged s (label.Last rel attr row)) (sym x.2.2) made
 
-pub last_has : (s : Spec) (rel : RelId) (attr : AttrId) (row : RowId) (clause : List Signed) → axiom_of s (label.Last rel attr row) ≡ Some clause
+pub last_has : (s : Spec) (rel : RelId) (attr : AttrId) (row : RowId) (clause : List Signed) → judged_of s (label.Last rel attr row) ≡ Some clause
     → HasAxiom s (label.Last rel attr row)
 last_has s rel attr row clause e =
     let found = in_relation_is s.relations rel (last_clause rel attr row) clause e in
@@ -135,7 +135,7 @@ value_made s rel attr row clause are x =
     } in
     subst (IsJudged s (label.Value rel attr row)) (sym x.2.3) made
 
-pub value_has : (s : Spec) (rel : RelId) (attr : AttrId) (row : RowId) (clause : List Signed) → axiom_of s (label.Value rel attr row) ≡ Some clause
+pub value_has : (s : Spec) (rel : RelId) (attr : AttrId) (row : RowId) (clause : List Signed) → judged_of s (label.Value rel attr row) ≡ Some clause
     → HasAxiom s (label.Value rel attr row)
 value_has s rel attr row clause e =
     let found = in_relation_is s.relations rel (value_clause rel attr row) clause e in

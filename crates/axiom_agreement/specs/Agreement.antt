@@ -15,6 +15,7 @@ use Rattle.refutation_log.specs.declared.step.Step.{Step}
 use Rattle.refutation_log.specs.declared.step.Step.TheVariants as step
 use Rattle.log_axioms.specs.Axioms as judged
 use Rattle.log_axioms.specs.Axioms.{axiom_of, is_axiom, lit_says}
+use Rattle.log_axioms.specs.Posed.{Posed}
 use Rattle.order_literals.specs.Numbers.{numbers_of}
 use Rattle.order_literals.specs.Said as made
 use Rattle.order_literals.specs.Said.{Said, Says}
@@ -24,17 +25,23 @@ use Rattle.order_literals.specs.Axioms.{IsAxiom}
 use Rattle.order_literals.specs.declared.wanted.Wanted.{Wanted}
 use Rattle.order_clauses.specs.Clauses.{IsAxiomStep, AreAxioms}
 
--- a step that is made as the axiom of a label has, for the judge, the clause of its label
+-- a step that is made as the axiom of a label has, for the judge, the clause of its label, whatever is posed
 abbrev pub StepsAreAxioms : Type 0
 StepsAreAxioms =
-    (s : Spec) (wanted : Wanted) (l : Label) (lits : List Lit) (taken : Step) → IsSpecification s
+    (s : Spec) (posed : Posed) (wanted : Wanted) (l : Label) (lits : List Lit) (taken : Step) → IsSpecification s
     → IsAxiomStep s (statements_of (numbers_of s.relations wanted)) l lits taken
-    → is_axiom s (statements_of (numbers_of s.relations wanted)) l lits ≡ true
+    → is_axiom s posed (statements_of (numbers_of s.relations wanted)) l lits ≡ true
 
--- a label that has a clause for the judge has one for those who make axioms
+-- a label of anything but a match
+abbrev pub IsNoMatch : Label → Type 0
+IsNoMatch (label.Match disjunct entities values) = ⊥
+IsNoMatch other = Unit {0}
+
+-- such a label that has a clause for the judge has one for those who make axioms
 abbrev pub ClausesAreAxioms : Type 0
 ClausesAreAxioms =
-    (s : Spec) (l : Label) (clause : List Signed) → IsSpecification s → axiom_of s l ≡ Some clause → (said : List Said) × IsAxiom s l said
+    (s : Spec) (posed : Posed) (l : Label) (clause : List Signed) → IsSpecification s → IsNoMatch l → axiom_of s posed l ≡ Some clause
+    → (said : List Said) × IsAxiom s l said
 
 -- a label of a given pair, of a rule or of a copy function
 abbrev pub IsOfSpecification : Label → Type 0
@@ -43,11 +50,11 @@ IsOfSpecification (label.Rule rule rows) = Unit {0}
 IsOfSpecification (label.Copy copy place first second) = Unit {0}
 IsOfSpecification other = ⊥
 
--- of each given pair, each choice for which a rule has an instance, and each two rows that were copied together, the axiom
--- stands among the steps
+-- of each given pair, each choice for which a rule has an instance, and each two rows that were copied together, the axiom,
+-- which is the same whatever is posed, stands among the steps
 abbrev pub HasAxioms : Spec → List Step → Type 0
 HasAxioms s steps =
-    (l : Label) (clause : List Signed) → IsOfSpecification l → axiom_of s l ≡ Some clause
+    (posed : Posed) (l : Label) (clause : List Signed) → IsOfSpecification l → axiom_of s posed l ≡ Some clause
     → (lits : List Lit) × Contains steps (step.Axiom l lits)
 
 -- so it is with the axioms that are brought in from the start

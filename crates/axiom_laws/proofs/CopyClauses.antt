@@ -35,19 +35,19 @@ record AreMappedRows (copy : CopyFunction) (target source : Relation) (first sec
   sources : are_two source.rows s w ≡ true
 
 -- the order of the sources is denied, or kept
-order_kept : (relations : List Relation) (c : Rankings) (copy : CopyFunction) (target source : Relation) (at : ℕ)
+order_kept : (relations : List Relation) (c : Rankings) (answers : ℕ → Type 0) (copy : CopyFunction) (target source : Relation) (at : ℕ)
     (place : Place) (first second s w : RowId)
     → IsCopyCase relations c copy target source → slice_get copy.places at ≡ Some place
     → AreMappedRows copy target source first second s w
     → Decided (Before (lists_of c copy.source.0 place.source.0) s w)
-    → HasTrue relations c (not_before copy.source place.source s w ∷ before copy.target place.target first second ∷ [])
-order_kept relations c copy target source at place first second s w is is_place rows (inr n) =
+    → HasTrue relations c answers (not_before copy.source place.source s w ∷ before copy.target place.target first second ∷ [])
+order_kept relations c answers copy target source at place first second s w is is_place rows (inr n) =
     let between = all_at (IsPlaceBetween target source) copy.places at place is.places is_place in
     let long = length-map source.attrs (λ a. a.kind) in
     let listed = slice_get_within (kinds_of source) place.source.0 between.kind between.in_source in
     let inside : place.source.0 < length source.attrs = omega (arith, long, listed) in
     true_first (two_are relations copy.source.0 source place.source.0 s w is.case.facts is.is_source inside rows.sources) n
-order_kept relations c copy target source at place first second s w is is_place rows (inl h) =
+order_kept relations c answers copy target source at place first second s w is is_place rows (inl h) =
     let targets = two_in target first second rows.targets in
     let sources = two_in source s w rows.sources in
     let together : AreCopiedTogether copy target.rows source.rows first second = record {
@@ -70,16 +70,16 @@ order_kept relations c copy target source at place first second s w is is_place 
         let both = and_parts (same_entity r.rows a b) (not (a.0 == b.0)) e in
         one_is (entity_of r.rows a.0) (entity_of r.rows b.0) both.0
 
-at_place : (relations : List Relation) (c : Rankings) (copy : CopyFunction) (target source : Relation) (at : ℕ)
+at_place : (relations : List Relation) (c : Rankings) (answers : ℕ → Type 0) (copy : CopyFunction) (target source : Relation) (at : ℕ)
     (first second s w : RowId) (clause : List Signed)
     → IsCopyCase relations c copy target source → AreMappedRows copy target source first second s w
     → (o : Option Place) → slice_get copy.places at ≡ o → place_clause copy first second s w o ≡ Some clause
-    → HasTrue relations c clause
-at_place relations c copy target source at first second s w clause is rows None is_place e = absurd (none-some clause e)
-at_place relations c copy target source at first second s w clause is rows (Some place) is_place e =
-    subst (HasTrue relations c)
+    → HasTrue relations c answers clause
+at_place relations c answers copy target source at first second s w clause is rows None is_place e = absurd (none-some clause e)
+at_place relations c answers copy target source at first second s w clause is rows (Some place) is_place e =
+    subst (HasTrue relations c answers)
     (same_Some (not_before copy.source place.source s w ∷ before copy.target place.target first second ∷ []) clause e)
-    (order_kept relations c copy target source at place first second s w is is_place rows
+    (order_kept relations c answers copy target source at place first second s w is is_place rows
     (before_or (lists_of c copy.source.0 place.source.0) s w))
 
 -- the clause of two rows whose sources are these
@@ -89,21 +89,21 @@ sources_clause copy place first second target source (Some s) (Some w) =
     (place_clause copy first second s w (slice_get copy.places place)) None
 sources_clause copy place first second target source s w = None
 
-pub copy_true : (relations : List Relation) (c : Rankings) (copy : CopyFunction) (place : ℕ) (first second : RowId)
+pub copy_true : (relations : List Relation) (c : Rankings) (answers : ℕ → Type 0) (copy : CopyFunction) (place : ℕ) (first second : RowId)
     (target source : Relation) (clause : List Signed)
     → IsCopyCase relations c copy target source → copy_clause copy place first second target source ≡ Some clause
-    → HasTrue relations c clause
+    → HasTrue relations c answers clause
 unfolding sources_clause
-copy_true relations c copy place first second target source clause is e =
+copy_true relations c answers copy place first second target source clause is e =
     by (source_at copy first) (source_at copy second) refl refl e
   where
     by : (x y : Option RowId) → source_at copy first ≡ x → source_at copy second ≡ y
-        → sources_clause copy place first second target source x y ≡ Some clause → HasTrue relations c clause
+        → sources_clause copy place first second target source x y ≡ Some clause → HasTrue relations c answers clause
     by None y f g e = absurd (none-some clause e)
     by (Some s) None f g e = absurd (none-some clause e)
     by (Some s) (Some w) f g e =
         let parts = given_if (are_two target.rows first second && are_two source.rows s w)
         (place_clause copy first second s w (slice_get copy.places place)) clause e in
         let both = and_parts (are_two target.rows first second) (are_two source.rows s w) parts.0 in
-        at_place relations c copy target source place first second s w clause is
+        at_place relations c answers copy target source place first second s w clause is
         record { first_is = f; second_is = g; targets = both.0; sources = both.1 } (slice_get copy.places place) refl parts.1

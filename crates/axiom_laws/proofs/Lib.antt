@@ -1,6 +1,8 @@
-mod Chosen
+pub mod Chosen
+mod ClaimedRows
 mod CopyClauses
 pub mod Decisions
+pub mod MatchClauses
 mod OrderClauses
 mod RuleClauses
 pub mod SaysSame

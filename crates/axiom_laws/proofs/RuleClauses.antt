@@ -168,7 +168,7 @@ premises_are vars kinds rows (Compare left cmp right ∷ more) qs e are =
     premises_are vars kinds rows more qs e (All-tail (IsPredicate vars kinds) (Compare left cmp right) more are)
 
 -- all items have a decided property, or one has not
-all_or : {A : Type 0} (P : A → Type 0) (xs : List A) → ((x : A) → Decided (P x))
+pub all_or : {A : Type 0} (P : A → Type 0) (xs : List A) → ((x : A) → Decided (P x))
     → All P xs ⊎ ((x : A) × Contains xs x × (P x → ⊥))
 all_or P [] choose = inl (All-nil P)
 all_or {A} P (x ∷ xs) choose = by (choose x) (all_or P xs choose)
@@ -199,24 +199,24 @@ instance_parts rel (Some i) clause e = (i, refl, same_Some (all_of rel i) clause
 instance_parts rel None clause e = absurd (none-some clause e)
 
 -- what a rule concludes stands in the clause, and is true
-concluded_true : (relations : List Relation) (c : Rankings) (rel : RelId) (rows : List RowId) (q : Conclusion)
+concluded_true : (relations : List Relation) (c : Rankings) (answers : ℕ → Type 0) (rel : RelId) (rows : List RowId) (q : Conclusion)
     (front : List Signed) → IsCompletion relations c
-    → ConclusionHolds (slice_index_or c rel.0 []) rows q → HasTrue relations c (front ++ concluded_clause rel (concluded rows q))
-concluded_true relations c rel rows conclusion.Never front completion holds = absurd holds
-concluded_true relations c rel rows (conclusion.Order atom) front completion holds =
+    → ConclusionHolds (slice_index_or c rel.0 []) rows q → HasTrue relations c answers (front ++ concluded_clause rel (concluded rows q))
+concluded_true relations c answers rel rows conclusion.Never front completion holds = absurd holds
+concluded_true relations c answers rel rows (conclusion.Order atom) front completion holds =
     let x = slice_get rows atom.earlier in
     let y = slice_get rows atom.later in
     let s = pair_standing relations c rel.0 atom.attr x y completion holds in
-    subst (λ o. HasTrue relations c (front ++ concluded_clause rel o)) (sym s.pair_is)
-    (true_behind relations c front (concluded_clause rel (Some s.pair)) (true_first tt s.stands))
+    subst (λ o. HasTrue relations c answers (front ++ concluded_clause rel o)) (sym s.pair_is)
+    (true_behind relations c answers front (concluded_clause rel (Some s.pair)) (true_first tt s.stands))
 
 -- a premise that does not hold stands in the clause, denied
-premise_true : (relations : List Relation) (c : Rankings) (rel : RelId) (r : Relation) (vars : ℕ) (rows : List RowId)
+premise_true : (relations : List Relation) (c : Rankings) (answers : ℕ → Type 0) (rel : RelId) (r : Relation) (vars : ℕ) (rows : List RowId)
     (qs : List Pair) (end : List Signed) (p : Pair) → IsCase relations c
     → slice_get relations rel.0 ≡ Some r → IsChoice r.rows vars rows → Contains qs p → IsPremise (kinds_of r) rows p
     → (Stands c rel.0 p → ⊥)
-    → HasTrue relations c (denied rel qs ++ end)
-premise_true relations c rel r vars rows qs end p is at choice is_in premise n =
+    → HasTrue relations c answers (denied rel qs ++ end)
+premise_true relations c answers rel r vars rows qs end p is at choice is_in premise n =
     let facts = relation_facts relations rel.0 r is.facts at in
     let long = length-map r.attrs (λ a. a.kind) in
     let of_entity : (row : RowId) → Contains rows row → entity_of r.rows row.0 ≡ Some choice.ent =
@@ -232,15 +232,15 @@ premise_true relations c rel r vars rows qs end p is at choice is_in premise n =
       second_of = of_entity p.later premise.later_in;
       differ = premise.differ;
     } in
-    true_in_front relations c (denied rel qs) end
-    (true_mapped relations c (λ q. not_before rel q.attr q.earlier q.later) qs p is_in two n)
+    true_in_front relations c answers (denied rel qs) end
+    (true_mapped relations c answers (λ q. not_before rel q.attr q.earlier q.later) qs p is_in two n)
 
-pub rule_true : (relations : List Relation) (c : Rankings) (rule : Rule) (rows : List RowId) (r : Relation)
+pub rule_true : (relations : List Relation) (c : Rankings) (answers : ℕ → Type 0) (rule : Rule) (rows : List RowId) (r : Relation)
     (clause : List Signed) → IsCase relations c
     → slice_get relations rule.relation.0 ≡ Some r → IsRuleOn (kinds_of r) rule
     → SatisfiesRule r.rows (slice_index_or c rule.relation.0 []) rule
-    → rule_clause rule rows r ≡ Some clause → HasTrue relations c clause
-rule_true relations c rule rows r clause is at fits satisfied e =
+    → rule_clause rule rows r ≡ Some clause → HasTrue relations c answers clause
+rule_true relations c answers rule rows r clause is at fits satisfied e =
     let instance = instance_of rule r.rows rows in
     let fit = (length rows == rule.vars) && of_one_entity r.rows rows in
     let chosen = given_if fit (instance_clause rule.relation instance) clause e in
@@ -253,8 +253,8 @@ rule_true relations c rule rows r clause is at fits satisfied e =
     let stand = all_or (Stands c rule.relation.0) premises.0
     (λ p. before_or (lists_of c rule.relation.0 p.attr.0) p.earlier p.later) in
     let here = by premises.0 choice valued.0 premises.1 stand in
-    subst (HasTrue relations c) of_instance.2
-    (subst (λ (i : RuleInstance). HasTrue relations c (all_of rule.relation i)) premises.2 here)
+    subst (HasTrue relations c answers) of_instance.2
+    (subst (λ (i : RuleInstance). HasTrue relations c answers (all_of rule.relation i)) premises.2 here)
   where
     made : List Pair → RuleInstance
     made premises = record { premises = premises; conclusion = concluded rows rule.conclusion }
@@ -262,12 +262,12 @@ rule_true relations c rule rows r clause is at fits satisfied e =
     by : (qs : List Pair) → IsChoice r.rows rule.vars rows → values_hold rule r.rows rows ≡ true
         → premises_of rows rule.predicates ≡ Some qs
         → All (Stands c rule.relation.0) qs ⊎ ((p : Pair) × Contains qs p × (Stands c rule.relation.0 p → ⊥))
-        → HasTrue relations c (denied rule.relation qs ++ concluded_clause rule.relation (concluded rows rule.conclusion))
+        → HasTrue relations c answers (denied rule.relation qs ++ concluded_clause rule.relation (concluded rows rule.conclusion))
     by qs choice values premises (inl all) =
-        concluded_true relations c rule.relation rows rule.conclusion (denied rule.relation qs) is.completion
+        concluded_true relations c answers rule.relation rows rule.conclusion (denied rule.relation qs) is.completion
         (satisfied rows choice (predicates_hold r.rows c rule.relation.0 rows rule.predicates qs values premises all))
     by qs choice values premises (inr (p, is_in, n)) =
         let are = premises_are rule.vars (kinds_of r) rows rule.predicates qs premises fits.predicates in
         let end = concluded_clause rule.relation (concluded rows rule.conclusion) in
-        premise_true relations c rule.relation r rule.vars rows qs end p is at choice is_in
+        premise_true relations c answers rule.relation r rule.vars rows qs end p is at choice is_in
         (All-contains (IsPremise (kinds_of r) rows) qs p are is_in) n

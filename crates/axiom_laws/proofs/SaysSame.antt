@@ -88,27 +88,27 @@ last_moves c rel attr ent rows value a b of_a of_b value_a value_b last =
 -- ---- statements
 
 -- of the order of two rows, said the other way round
-turned : (relations : List Relation) (c : Rankings) (rel : RelId) (attr : AttrId) (a b : RowId) (p q : Bool)
+turned : (relations : List Relation) (c : Rankings) (answers : ℕ → Type 0) (rel : RelId) (attr : AttrId) (a b : RowId) (p q : Bool)
     → IsCompletion relations c → not (same_sign p q) ≡ true
-    → IsSound relations (signed (says.Before rel attr b a) q) → HoldsIn relations c (signed (says.Before rel attr b a) q)
-    → HoldsIn relations c (signed (says.Before rel attr a b) p)
-turned relations c rel attr a b true true completion e sound h = absurd (false≢true e)
-turned relations c rel attr a b false false completion e sound h = absurd (false≢true e)
-turned relations c rel attr a b true false completion e sound h = λ s. not_both_ways relations c rel.0 attr.0 a b completion s h
-turned relations c rel attr a b false true completion e sound h =
+    → IsSound relations (signed (says.Before rel attr b a) q) → HoldsIn relations c answers (signed (says.Before rel attr b a) q)
+    → HoldsIn relations c answers (signed (says.Before rel attr a b) p)
+turned relations c answers rel attr a b true true completion e sound h = absurd (false≢true e)
+turned relations c answers rel attr a b false false completion e sound h = absurd (false≢true e)
+turned relations c answers rel attr a b true false completion e sound h = λ s. not_both_ways relations c rel.0 attr.0 a b completion s h
+turned relations c answers rel attr a b false true completion e sound h =
     ⊎_elim (λ s. absurd (h s)) (λ s. s) (either_before relations c rel.0 attr.0 b a completion sound)
 
-last_either : (relations : List Relation) (c : Rankings) (rel : RelId) (attr : AttrId) (a b : RowId) (negative : Bool)
+last_either : (relations : List Relation) (c : Rankings) (answers : ℕ → Type 0) (rel : RelId) (attr : AttrId) (a b : RowId) (negative : Bool)
     → same_entity (rows_in (slice_get relations rel.0)) a b ≡ true
     → same_value (rows_in (slice_get relations rel.0)) attr.0 a b ≡ true
-    → HoldsIn relations c (signed (says.Last rel attr b) negative) → HoldsIn relations c (signed (says.Last rel attr a) negative)
-last_either relations c rel attr a b negative entity value h = by negative h
+    → HoldsIn relations c answers (signed (says.Last rel attr b) negative) → HoldsIn relations c answers (signed (says.Last rel attr a) negative)
+last_either relations c answers rel attr a b negative entity value h = by negative h
   where
     rows : List Row
     rows = rows_in (slice_get relations rel.0)
 
-    by : (n : Bool) → HoldsIn relations c (signed (says.Last rel attr b) n)
-        → HoldsIn relations c (signed (says.Last rel attr a) n)
+    by : (n : Bool) → HoldsIn relations c answers (signed (says.Last rel attr b) n)
+        → HoldsIn relations c answers (signed (says.Last rel attr a) n)
     by false h =
         let ent = one_is (entity_of rows a.0) (entity_of rows b.0) entity in
         let v = equal_is (field_value rows (Some a) attr.0) (field_value rows (Some b) attr.0) value in
@@ -119,23 +119,23 @@ last_either relations c rel attr a b negative entity value h = by negative h
         h (last_moves c rel.0 attr.0 ent.0 rows v.0 a b ent.1 ent.2 v.1 v.2 last)
 
 -- a statement with a sign is true where an equal one with an equal sign is
-moves : (relations : List Relation) (c : Rankings) (s t : Statement) (p q : Bool) → s ≡ t → p ≡ q
-    → HoldsIn relations c (signed t q) → HoldsIn relations c (signed s p)
-moves relations c s t p q e f h =
-    subst (λ (u : Statement). HoldsIn relations c (signed u p)) (sym e)
-    (subst (λ n. HoldsIn relations c (signed t n)) (sym f) h)
+moves : (relations : List Relation) (c : Rankings) (answers : ℕ → Type 0) (s t : Statement) (p q : Bool) → s ≡ t → p ≡ q
+    → HoldsIn relations c answers (signed t q) → HoldsIn relations c answers (signed s p)
+moves relations c answers s t p q e f h =
+    subst (λ (u : Statement). HoldsIn relations c answers (signed u p)) (sym e)
+    (subst (λ n. HoldsIn relations c answers (signed t n)) (sym f) h)
 
 before_is : (rel rel' : RelId) (attr attr' : AttrId) (a a' b b' : RowId) → rel ≡ rel' → attr ≡ attr' → a ≡ a' → b ≡ b'
     → says.Before rel attr a b ≡ says.Before rel' attr' a' b'
 before_is rel rel' attr attr' a a' b b' r t e f = cc
 
 -- the order of two rows, said in either way
-orders_agree : (relations : List Relation) (c : Rankings) (rel rel' : RelId) (attr attr' : AttrId) (a b a' b' : RowId)
+orders_agree : (relations : List Relation) (c : Rankings) (answers : ℕ → Type 0) (rel rel' : RelId) (attr attr' : AttrId) (a b a' b' : RowId)
     (p q : Bool) → IsCompletion relations c
     → says_same relations (signed (says.Before rel attr a b) p) (signed (says.Before rel' attr' a' b') q) ≡ true
     → IsSound relations (signed (says.Before rel' attr' a' b') q)
-    → HoldsIn relations c (signed (says.Before rel' attr' a' b') q) → HoldsIn relations c (signed (says.Before rel attr a b) p)
-orders_agree relations c rel rel' attr attr' a b a' b' p q completion e sound h =
+    → HoldsIn relations c answers (signed (says.Before rel' attr' a' b') q) → HoldsIn relations c answers (signed (says.Before rel attr a b) p)
+orders_agree relations c answers rel rel' attr attr' a b a' b' p q completion e sound h =
     let split = and_parts (same_place rel attr rel' attr')
     (((a.0 == a'.0) && (b.0 == b'.0) && same_sign p q) || ((a.0 == b'.0) && (b.0 == a'.0) && not (same_sign p q))) e in
     let place = place_is rel rel' attr attr' split.0 in
@@ -145,41 +145,41 @@ orders_agree relations c rel rel' attr attr' a b a' b' p q completion e sound h 
     (or_cases ((a.0 == a'.0) && (b.0 == b'.0) && same_sign p q) ((a.0 == b'.0) && (b.0 == a'.0) && not (same_sign p q)) split.1)
   where
     along : rel ≡ rel' → attr ≡ attr' → ((a.0 == a'.0) && (b.0 == b'.0) && same_sign p q) ≡ true
-        → HoldsIn relations c (signed (says.Before rel attr a b) p)
+        → HoldsIn relations c answers (signed (says.Before rel attr a b) p)
     along r t e =
         let parts = three_parts (a.0 == a'.0) (b.0 == b'.0) (same_sign p q) e in
         let first = row_is a a' (eqb-true a.0 a'.0 parts.0) in
         let second = row_is b b' (eqb-true b.0 b'.0 parts.1) in
         let same = before_is rel rel' attr attr' a a' b b' r t first second in
-        moves relations c (says.Before rel attr a b) (says.Before rel' attr' a' b') p q same (sign_is p q parts.2) h
+        moves relations c answers (says.Before rel attr a b) (says.Before rel' attr' a' b') p q same (sign_is p q parts.2) h
 
     back : rel ≡ rel' → attr ≡ attr' → ((a.0 == b'.0) && (b.0 == a'.0) && not (same_sign p q)) ≡ true
-        → HoldsIn relations c (signed (says.Before rel attr a b) p)
+        → HoldsIn relations c answers (signed (says.Before rel attr a b) p)
     back r t e =
         let parts = three_parts (a.0 == b'.0) (b.0 == a'.0) (not (same_sign p q)) e in
         let first = row_is b a' (eqb-true b.0 a'.0 parts.1) in
         let second = row_is a b' (eqb-true a.0 b'.0 parts.0) in
         let same = before_is rel rel' attr attr' b a' a b' r t first second in
-        turned relations c rel attr a b p q completion parts.2
+        turned relations c answers rel attr a b p q completion parts.2
         (subst (λ (u : Statement). IsSound relations (signed u q)) (sym same) sound)
-        (subst (λ (u : Statement). HoldsIn relations c (signed u q)) (sym same) h)
+        (subst (λ (u : Statement). HoldsIn relations c answers (signed u q)) (sym same) h)
 
-tops_agree : (relations : List Relation) (c : Rankings) (rel rel' : RelId) (attr attr' : AttrId) (a b : RowId) (p q : Bool)
+tops_agree : (relations : List Relation) (c : Rankings) (answers : ℕ → Type 0) (rel rel' : RelId) (attr attr' : AttrId) (a b : RowId) (p q : Bool)
     → says_same relations (signed (says.Top rel attr a) p) (signed (says.Top rel' attr' b) q) ≡ true
-    → HoldsIn relations c (signed (says.Top rel' attr' b) q) → HoldsIn relations c (signed (says.Top rel attr a) p)
-tops_agree relations c rel rel' attr attr' a b p q e h =
+    → HoldsIn relations c answers (signed (says.Top rel' attr' b) q) → HoldsIn relations c answers (signed (says.Top rel attr a) p)
+tops_agree relations c answers rel rel' attr attr' a b p q e h =
     let parts = three_parts (same_place rel attr rel' attr') (a.0 == b.0) (same_sign p q) e in
     let place = place_is rel rel' attr attr' parts.0 in
     let r : rel ≡ rel' = place.0 in
     let t : attr ≡ attr' = place.1 in
     let row : a ≡ b = row_is a b (eqb-true a.0 b.0 parts.1) in
     let same : says.Top rel attr a ≡ says.Top rel' attr' b = cc in
-    moves relations c (says.Top rel attr a) (says.Top rel' attr' b) p q same (sign_is p q parts.2) h
+    moves relations c answers (says.Top rel attr a) (says.Top rel' attr' b) p q same (sign_is p q parts.2) h
 
-lasts_agree : (relations : List Relation) (c : Rankings) (rel rel' : RelId) (attr attr' : AttrId) (a b : RowId) (p q : Bool)
+lasts_agree : (relations : List Relation) (c : Rankings) (answers : ℕ → Type 0) (rel rel' : RelId) (attr attr' : AttrId) (a b : RowId) (p q : Bool)
     → says_same relations (signed (says.Last rel attr a) p) (signed (says.Last rel' attr' b) q) ≡ true
-    → HoldsIn relations c (signed (says.Last rel' attr' b) q) → HoldsIn relations c (signed (says.Last rel attr a) p)
-lasts_agree relations c rel rel' attr attr' a b p q e h =
+    → HoldsIn relations c answers (signed (says.Last rel' attr' b) q) → HoldsIn relations c answers (signed (says.Last rel attr a) p)
+lasts_agree relations c answers rel rel' attr attr' a b p q e h =
     let rows = rows_in (slice_get relations rel.0) in
     let front = same_place rel attr rel' attr' && same_sign p q && same_entity rows a b in
     let ends = and_parts front (same_value rows attr.0 a b) e in
@@ -188,21 +188,29 @@ lasts_agree relations c rel rel' attr attr' a b p q e h =
     let r : rel ≡ rel' = place.0 in
     let t : attr ≡ attr' = place.1 in
     let same : says.Last rel attr b ≡ says.Last rel' attr' b = cc in
-    last_either relations c rel attr a b p parts.2 ends.1
-    (moves relations c (says.Last rel attr b) (says.Last rel' attr' b) p q same (sign_is p q parts.1) h)
+    last_either relations c answers rel attr a b p parts.2 ends.1
+    (moves relations c answers (says.Last rel attr b) (says.Last rel' attr' b) p q same (sign_is p q parts.1) h)
+
+answers_agree : (relations : List Relation) (c : Rankings) (answers : ℕ → Type 0) (a b : ℕ) (p q : Bool)
+    → says_same relations (signed (says.Answer a) p) (signed (says.Answer b) q) ≡ true
+    → HoldsIn relations c answers (signed (says.Answer b) q) → HoldsIn relations c answers (signed (says.Answer a) p)
+answers_agree relations c answers a b p q e h =
+    let both = and_parts (a == b) (same_sign p q) e in
+    let same : says.Answer a ≡ says.Answer b = ap says.Answer (eqb-true a b both.0) in
+    moves relations c answers (says.Answer a) (says.Answer b) p q same (sign_is p q both.1) h
 
 -- where two say the same, and the second is true, the first is
-pub agree : (relations : List Relation) (c : Rankings) (m s : Signed) → IsCompletion relations c
+pub agree : (relations : List Relation) (c : Rankings) (answers : ℕ → Type 0) (m s : Signed) → IsCompletion relations c
     → says_same relations m s ≡ true → IsSound relations s
-    → HoldsIn relations c s → HoldsIn relations c m
-agree relations c m s completion e sound h = by m.statement s.statement m.negative s.negative e sound h
+    → HoldsIn relations c answers s → HoldsIn relations c answers m
+agree relations c answers m s completion e sound h = by m.statement s.statement m.negative s.negative e sound h
   where
     by : (a b : Statement) (p q : Bool) → says_same relations (signed a p) (signed b q) ≡ true
-        → IsSound relations (signed b q) → HoldsIn relations c (signed b q) → HoldsIn relations c (signed a p)
+        → IsSound relations (signed b q) → HoldsIn relations c answers (signed b q) → HoldsIn relations c answers (signed a p)
     by (says.Before rel attr a b) (says.Before rel' attr' a' b') p q e sound h =
-        orders_agree relations c rel rel' attr attr' a b a' b' p q completion e sound h
-    by (says.Top rel attr a) (says.Top rel' attr' b) p q e sound h = tops_agree relations c rel rel' attr attr' a b p q e h
-    by (says.Last rel attr a) (says.Last rel' attr' b) p q e sound h = lasts_agree relations c rel rel' attr attr' a b p q e h
+        orders_agree relations c answers rel rel' attr attr' a b a' b' p q completion e sound h
+    by (says.Top rel attr a) (says.Top rel' attr' b) p q e sound h = tops_agree relations c answers rel rel' attr attr' a b p q e h
+    by (says.Last rel attr a) (says.Last rel' attr' b) p q e sound h = lasts_agree relations c answers rel rel' attr attr' a b p q e h
     by (says.Before rel attr a b) (says.Top rel' attr' b') p q e sound h = absurd (false≢true e)
     by (says.Before rel attr a b) (says.Last rel' attr' b') p q e sound h = absurd (false≢true e)
     by (says.Before rel attr a b) (says.Answer tuple) p q e sound h = absurd (false≢true e)
@@ -212,4 +220,7 @@ agree relations c m s completion e sound h = by m.statement s.statement m.negati
     by (says.Last rel attr a) (says.Before rel' attr' a' b') p q e sound h = absurd (false≢true e)
     by (says.Last rel attr a) (says.Top rel' attr' b') p q e sound h = absurd (false≢true e)
     by (says.Last rel attr a) (says.Answer tuple) p q e sound h = absurd (false≢true e)
-    by (says.Answer tuple) s p q e sound h = absurd (false≢true e)
+    by (says.Answer a) (says.Answer b) p q e sound h = answers_agree relations c answers a b p q e h
+    by (says.Answer a) (says.Before rel' attr' a' b') p q e sound h = absurd (false≢true e)
+    by (says.Answer a) (says.Top rel' attr' b) p q e sound h = absurd (false≢true e)
+    by (says.Answer a) (says.Last rel' attr' b) p q e sound h = absurd (false≢true e)

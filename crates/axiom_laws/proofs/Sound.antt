@@ -20,9 +20,12 @@ use Rattle.refutation_log.specs.declared.step.Label.{Label}
 use Rattle.refutation_log.specs.declared.step.Label.TheVariants as label
 use Rattle.log_axioms.specs.Axioms.{given_clause, transitive_clause, above_clause, top_clause, last_clause, value_clause, rule_clause, copy_clause, in_relation, of_rule, of_copy, axiom_of, is_said, lit_says, is_clause, is_axiom}
 use Rattle.log_axioms.specs.declared.signed.Signed.{Signed}
+use Rattle.log_axioms.specs.Posed.{AreAnswersOver, Posed}
 use Rattle.log_axioms.specs.Truth.{meaning, HoldsIn, LitHolds, ClauseHolds}
+use Rattle.axiom_laws.specs.Laws.{AxiomsHoldOver}
 use Rattle.axiom_laws.proofs.Chosen.{HasTrue, IsCase, first_in, rest_in, in_relation_is}
 use Rattle.axiom_laws.proofs.CopyClauses.{IsCopyCase, copy_true}
+use Rattle.axiom_laws.proofs.MatchClauses.{query_true}
 use Rattle.axiom_laws.proofs.OrderClauses.{given_true, transitive_true}
 use Rattle.axiom_laws.proofs.RuleClauses.{rule_true}
 use Rattle.axiom_laws.proofs.SaysSame.{IsSound, agree}
@@ -31,23 +34,23 @@ use Rattle.axiom_laws.proofs.TopClauses.{above_true, top_true, last_true, value_
 
 -- ---- the clause of a label has a true statement
 
-rule_label : (s : Spec) (c : Rankings) → IsSpecification s → IsConsistent s c → IsCase s.relations c
+rule_label : (s : Spec) (c : Rankings) (answers : ℕ → Type 0) → IsSpecification s → IsConsistent s c → IsCase s.relations c
     → (k : ℕ) (rows : List RowId) (clause : List Signed)
-    → (o : Option Rule) → slice_get s.rules k ≡ o → of_rule s rows o ≡ Some clause → HasTrue s.relations c clause
-rule_label s c facts consistent is k rows clause None at e = absurd (none-some clause e)
-rule_label s c facts consistent is k rows clause (Some rule) at e =
+    → (o : Option Rule) → slice_get s.rules k ≡ o → of_rule s rows o ≡ Some clause → HasTrue s.relations c answers clause
+rule_label s c answers facts consistent is k rows clause None at e = absurd (none-some clause e)
+rule_label s c answers facts consistent is k rows clause (Some rule) at e =
     let r = in_relation_is s.relations rule.relation (rule_clause rule rows) clause e in
     let of = all_at (IsRuleOf s.relations) s.rules k rule facts.rules.each at in
     let same : of.relation ≡ r.0 = same_Some of.relation r.0 (sym of.is_relation ∙ r.1) in
     let fits = subst (λ (q : Relation). IsRuleOn (kinds_of q) rule) same of.fits in
-    rule_true s.relations c rule rows r.0 clause is r.1 fits (consistent.rules k rule at r.0 r.1) r.2
+    rule_true s.relations c answers rule rows r.0 clause is r.1 fits (consistent.rules k rule at r.0 r.1) r.2
 
-copy_label : (s : Spec) (c : Rankings) → IsSpecification s → IsConsistent s c → IsCase s.relations c
+copy_label : (s : Spec) (c : Rankings) (answers : ℕ → Type 0) → IsSpecification s → IsConsistent s c → IsCase s.relations c
     → (k place : ℕ) (first second : RowId) (clause : List Signed)
     → (o : Option CopyFunction) → slice_get s.copies k ≡ o → of_copy s place first second o ≡ Some clause
-    → HasTrue s.relations c clause
-copy_label s c facts consistent is k place first second clause None at e = absurd (none-some clause e)
-copy_label s c facts consistent is k place first second clause (Some copy) at e =
+    → HasTrue s.relations c answers clause
+copy_label s c answers facts consistent is k place first second clause None at e = absurd (none-some clause e)
+copy_label s c answers facts consistent is k place first second clause (Some copy) at e =
     let target = in_relation_is s.relations copy.target
     (λ t. in_relation s.relations copy.source (copy_clause copy place first second t)) clause e in
     let source = in_relation_is s.relations copy.source (copy_clause copy place first second target.0) clause target.2 in
@@ -64,34 +67,35 @@ copy_label s c facts consistent is k place first second clause (Some copy) at e 
       places = places;
       compatible = consistent.copies k copy at target.0 source.0 target.1 source.1;
     } in
-    copy_true s.relations c copy place first second target.0 source.0 clause copied source.2
+    copy_true s.relations c answers copy place first second target.0 source.0 clause copied source.2
 
-label_true : (s : Spec) (c : Rankings) → IsSpecification s → IsConsistent s c → IsCase s.relations c
-    → (l : Label) (clause : List Signed) → axiom_of s l ≡ Some clause
-    → HasTrue s.relations c clause
-label_true s c facts consistent is (label.Given rel attr earlier later) clause e =
+label_true : (s : Spec) (c : Rankings) (answers : ℕ → Type 0) → IsSpecification s → IsConsistent s c → IsCase s.relations c
+    → (posed : Posed) → AreAnswersOver s.relations posed c answers → (l : Label) (clause : List Signed) → axiom_of s posed l ≡ Some clause
+    → HasTrue s.relations c answers clause
+label_true s c answers facts consistent is posed over (label.Given rel attr earlier later) clause e =
     let r = in_relation_is s.relations rel (given_clause rel attr earlier later) clause e in
-    given_true s.relations c rel attr earlier later r.0 clause consistent.given r.1 r.2
-label_true s c facts consistent is (label.Transitive rel attr first second third) clause e =
+    given_true s.relations c answers rel attr earlier later r.0 clause consistent.given r.1 r.2
+label_true s c answers facts consistent is posed over (label.Transitive rel attr first second third) clause e =
     let r = in_relation_is s.relations rel (transitive_clause rel attr first second third) clause e in
-    transitive_true s.relations c rel attr first second third r.0 clause is r.1 r.2
-label_true s c facts consistent is (label.Rule rule rows) clause e =
-    rule_label s c facts consistent is rule.0 rows clause (slice_get s.rules rule.0) refl e
-label_true s c facts consistent is (label.Copy copy place first second) clause e =
-    copy_label s c facts consistent is copy.0 place first second clause (slice_get s.copies copy.0) refl e
-label_true s c facts consistent is (label.Above rel attr row other) clause e =
+    transitive_true s.relations c answers rel attr first second third r.0 clause is r.1 r.2
+label_true s c answers facts consistent is posed over (label.Rule rule rows) clause e =
+    rule_label s c answers facts consistent is rule.0 rows clause (slice_get s.rules rule.0) refl e
+label_true s c answers facts consistent is posed over (label.Copy copy place first second) clause e =
+    copy_label s c answers facts consistent is copy.0 place first second clause (slice_get s.copies copy.0) refl e
+label_true s c answers facts consistent is posed over (label.Above rel attr row other) clause e =
     let r = in_relation_is s.relations rel (above_clause rel attr row other) clause e in
-    above_true s.relations c rel attr row other r.0 clause is r.1 r.2
-label_true s c facts consistent is (label.Top rel attr row) clause e =
+    above_true s.relations c answers rel attr row other r.0 clause is r.1 r.2
+label_true s c answers facts consistent is posed over (label.Top rel attr row) clause e =
     let r = in_relation_is s.relations rel (top_clause rel attr row) clause e in
-    top_true s.relations c rel attr row r.0 clause is r.1 r.2
-label_true s c facts consistent is (label.Last rel attr row) clause e =
+    top_true s.relations c answers rel attr row r.0 clause is r.1 r.2
+label_true s c answers facts consistent is posed over (label.Last rel attr row) clause e =
     let r = in_relation_is s.relations rel (last_clause rel attr row) clause e in
-    last_true s.relations c rel attr row r.0 clause is r.1 r.2
-label_true s c facts consistent is (label.Value rel attr row) clause e =
+    last_true s.relations c answers rel attr row r.0 clause is r.1 r.2
+label_true s c answers facts consistent is posed over (label.Value rel attr row) clause e =
     let r = in_relation_is s.relations rel (value_clause rel attr row) clause e in
-    value_true s.relations c rel attr row r.0 clause is r.1 r.2
-label_true s c facts consistent is (label.Match disjunct entities values) clause e = absurd (none-some clause e)
+    value_true s.relations c answers rel attr row r.0 clause is r.1 r.2
+label_true s c answers facts consistent is posed over (label.Match disjunct entities values) clause e =
+    query_true s.relations c answers posed over disjunct entities values clause posed.query refl e
 
 -- ---- literals that are the clause have a true one
 
@@ -103,27 +107,27 @@ found test (x ∷ xs) e =
     (λ later. let more = found test xs later in (more.0, rest_in x more.0 xs more.1, more.2))
     (or_cases (test x) (list_any test xs) e)
 
-said_true : (relations : List Relation) (c : Rankings) (statements : List Statement) (s : Signed) (lit : Lit)
+said_true : (relations : List Relation) (c : Rankings) (answers : ℕ → Type 0) (statements : List Statement) (s : Signed) (lit : Lit)
     → IsCompletion relations c → IsSound relations s
-    → HoldsIn relations c s → lit_says relations statements s lit ≡ true → LitHolds relations c statements lit
-said_true relations c statements s lit completion sound holds e = by (meaning statements lit) refl e
+    → HoldsIn relations c answers s → lit_says relations statements s lit ≡ true → LitHolds relations c answers statements lit
+said_true relations c answers statements s lit completion sound holds e = by (meaning statements lit) refl e
   where
     by : (o : Option Signed) → meaning statements lit ≡ o → is_said relations s (meaning statements lit) ≡ true
-        → LitHolds relations c statements lit
+        → LitHolds relations c answers statements lit
     by None is e = let none : false ≡ true = rw is at e in absurd (false≢true none)
     by (Some m) is e =
         let said : is_said relations s (Some m) ≡ true = rw is at e in
-        rw is (agree relations c m s completion said sound holds)
+        rw is (agree relations c answers m s completion said sound holds)
 
-clause_true : (relations : List Relation) (c : Rankings) (statements : List Statement) (lits : List Lit) (clause : List Signed)
+clause_true : (relations : List Relation) (c : Rankings) (answers : ℕ → Type 0) (statements : List Statement) (lits : List Lit) (clause : List Signed)
     → IsCompletion relations c
-    → is_clause relations statements lits clause ≡ true → HasTrue relations c clause → ClauseHolds relations c statements lits
-clause_true relations c statements lits clause completion e t =
+    → is_clause relations statements lits clause ≡ true → HasTrue relations c answers clause → ClauseHolds relations c answers statements lits
+clause_true relations c answers statements lits clause completion e t =
     let each_is_said = list_all (λ lit. list_any (λ s. lit_says relations statements s lit) clause) lits in
     let parts = and_parts each_is_said (list_all says_it clause) e in
     let lit = found (lit_says relations statements t.member) lits
     (All-contains (λ s. says_it s ≡ true) clause t.member (AllPass-from_list_all says_it clause parts.1) t.is_in) in
-    let is_true = said_true relations c statements t.member lit.0 completion t.sound t.holds lit.2 in
+    let is_true = said_true relations c answers statements t.member lit.0 completion t.sound t.holds lit.2 in
     record { lit = lit.0; is_in = lit.1; is_true = is_true }
   where
     says_it : Signed → Bool
@@ -131,16 +135,14 @@ clause_true relations c statements lits clause completion e t =
 
 -- ---- the law
 
-pub axiom_true : (s : Spec) → IsSpecification s → (c : Rankings) → IsConsistent s c
-    → (statements : List Statement) (l : Label) (lits : List Lit)
-    → is_axiom s statements l lits ≡ true → ClauseHolds s.relations c statements lits
-axiom_true s facts c consistent statements l lits e = by (axiom_of s l) refl e
+pub axiom_true : (answers : ℕ → Type 0) → AxiomsHoldOver answers
+axiom_true answers s facts c consistent posed over statements l lits e = by (axiom_of s posed l) refl e
   where
-    by : (o : Option (List Signed)) → axiom_of s l ≡ o → is_axiom s statements l lits ≡ true
-        → ClauseHolds s.relations c statements lits
+    by : (o : Option (List Signed)) → axiom_of s posed l ≡ o → is_axiom s posed statements l lits ≡ true
+        → ClauseHolds s.relations c answers statements lits
     by None is e = let none : false ≡ true = rw is at e in absurd (false≢true none)
     by (Some clause) is e =
         let here : is_clause s.relations statements lits clause ≡ true = rw is at e in
         let completion = consistent.completion in
-        clause_true s.relations c statements lits clause completion here
-        (label_true s c facts consistent record { facts = facts.relations; completion = completion } l clause is)
+        clause_true s.relations c answers statements lits clause completion here
+        (label_true s c answers facts consistent record { facts = facts.relations; completion = completion } posed over l clause is)

@@ -27,7 +27,7 @@ use Rattle.log_axioms.specs.Truth.{rows_in, IsTop, IsLast, IsTrueIn}
 use Rattle.axiom_laws.proofs.Chosen.{HasTrue, IsCase, true_first, true_later, true_mapped, filtered_at, given_if, some_if, attr_in, relation_facts, rows_are, differ_not, two_are}
 use Rattle.axiom_laws.proofs.Decisions.{Decided, row_is, same_or, value_itself}
 use Rattle.axiom_laws.proofs.Standing.{AreTwo, at_contains, contains_at, entity_in, either_before, has_last, last_of_all}
-use Rattle.axiom_laws.proofs.Truths.{true_or}
+use Rattle.axiom_laws.proofs.Truths.{last_or, top_or}
 
 -- ---- what stands last
 
@@ -58,15 +58,15 @@ top_of relations c rel attr ent r z at l =
 
 -- ---- above
 
-pub above_true : (relations : List Relation) (c : Rankings) (rel : RelId) (attr : AttrId) (row another : RowId) (r : Relation)
+pub above_true : (relations : List Relation) (c : Rankings) (answers : ℕ → Type 0) (rel : RelId) (attr : AttrId) (row another : RowId) (r : Relation)
     (clause : List Signed) → IsCase relations c
-    → slice_get relations rel.0 ≡ Some r → above_clause rel attr row another r ≡ Some clause → HasTrue relations c clause
-above_true relations c rel attr row another r clause is at e =
+    → slice_get relations rel.0 ≡ Some r → above_clause rel attr row another r ≡ Some clause → HasTrue relations c answers clause
+above_true relations c answers rel attr row another r clause is at e =
     let parts = some_if (is_attr r attr && are_two r.rows row another) all clause e in
     let both = and_parts (is_attr r attr) (are_two r.rows row another) parts.0 in
-    subst (HasTrue relations c) parts.1
+    subst (HasTrue relations c answers) parts.1
     (by (two_are relations rel.0 r attr.0 row another is.facts at (attr_in r attr both.0) both.1)
-    (true_or relations c (says.Top rel attr row)))
+    (top_or c rel.0 attr.0 (rows_in (slice_get relations rel.0)) row))
   where
     all : List Signed
     all = not_top rel attr row ∷ before rel attr another row ∷ []
@@ -74,8 +74,8 @@ above_true relations c rel attr row another r clause is at e =
     rows : List Row
     rows = rows_in (slice_get relations rel.0)
 
-    by : AreTwo relations rel.0 attr.0 row another → Decided (IsTrueIn relations c (says.Top rel attr row))
-        → HasTrue relations c all
+    by : AreTwo relations rel.0 attr.0 row another → Decided (IsTrueIn relations c answers (says.Top rel attr row))
+        → HasTrue relations c answers all
     by two (inr n) = true_first tt n
     by two (inl t) =
         let either = either_before relations c rel.0 attr.0 row another is.completion two in
@@ -87,15 +87,15 @@ above_true relations c rel attr row another r clause is at e =
 top_all : RelId → AttrId → RowId → Relation → ℕ → List Signed
 top_all rel attr row r ent = top rel attr row ∷ map (λ x. not_before rel attr x row) (others r.rows ent row)
 
-top_by : (relations : List Relation) (c : Rankings) (rel : RelId) (attr : AttrId) (row : RowId) (r : Relation) (ent : ℕ)
+top_by : (relations : List Relation) (c : Rankings) (answers : ℕ → Type 0) (rel : RelId) (attr : AttrId) (row : RowId) (r : Relation) (ent : ℕ)
     → IsCase relations c
     → slice_get relations rel.0 ≡ Some r → attr.0 < length r.attrs → entity_of r.rows row.0 ≡ Some ent
-    → (z : RowId) → IsLastOf r c rel.0 attr.0 ent z → Decided (z ≡ row) → HasTrue relations c (top_all rel attr row r ent)
+    → (z : RowId) → IsLastOf r c rel.0 attr.0 ent z → Decided (z ≡ row) → HasTrue relations c answers (top_all rel attr row r ent)
 unfolding top_all
-top_by relations c rel attr row r ent is at inside of z l (inl same) =
+top_by relations c answers rel attr row r ent is at inside of z l (inl same) =
     let here = top_of relations c rel.0 attr.0 ent r z at l in
     true_first tt (subst (IsTop c rel.0 attr.0 (rows_in (slice_get relations rel.0))) same here)
-top_by relations c rel attr row r ent is at inside of z l (inr n) =
+top_by relations c answers rel attr row r ent is at inside of z l (inr n) =
     let facts = relation_facts relations rel.0 r is.facts at in
     let differ : z.0 ≡ row.0 → ⊥ = λ e. n (row_is z row e) in
     let place = entity_member r.rows ent z l.of_entity in
@@ -112,16 +112,16 @@ top_by relations c rel attr row r ent is at inside of z l (inr n) =
       differ = differ;
     } in
     let here = top_of relations c rel.0 attr.0 ent r z at l in
-    true_later (true_mapped relations c (λ x. not_before rel attr x row) (others r.rows ent row) z among two
+    true_later (true_mapped relations c answers (λ x. not_before rel attr x row) (others r.rows ent row) z among two
     (last_of_all relations c rel.0 attr.0 (rows_in (slice_get relations rel.0)) z row is.completion here))
 
-pub top_true : (relations : List Relation) (c : Rankings) (rel : RelId) (attr : AttrId) (row : RowId) (r : Relation)
+pub top_true : (relations : List Relation) (c : Rankings) (answers : ℕ → Type 0) (rel : RelId) (attr : AttrId) (row : RowId) (r : Relation)
     (clause : List Signed) → IsCase relations c
-    → slice_get relations rel.0 ≡ Some r → top_clause rel attr row r ≡ Some clause → HasTrue relations c clause
+    → slice_get relations rel.0 ≡ Some r → top_clause rel attr row r ≡ Some clause → HasTrue relations c answers clause
 unfolding top_all
-top_true relations c rel attr row r clause is at e = by (entity_of r.rows row.0) refl e
+top_true relations c answers rel attr row r clause is at e = by (entity_of r.rows row.0) refl e
   where
-    by : (o : Option ℕ) → entity_of r.rows row.0 ≡ o → top_clause rel attr row r ≡ Some clause → HasTrue relations c clause
+    by : (o : Option ℕ) → entity_of r.rows row.0 ≡ o → top_clause rel attr row r ≡ Some clause → HasTrue relations c answers clause
     by None of e =
         let none : cond (is_attr r attr) None None ≡ Some clause = rw of at e in
         absurd (none-some clause (given_if (is_attr r attr) None clause none).1)
@@ -130,7 +130,7 @@ top_true relations c rel attr row r clause is at e = by (entity_of r.rows row.0)
         let parts = some_if (is_attr r attr) (top_all rel attr row r ent) clause here in
         let inside = attr_in r attr parts.0 in
         let z = last_there relations c rel.0 attr.0 ent r row is at inside of in
-        subst (HasTrue relations c) parts.1 (top_by relations c rel attr row r ent is at inside of z.0 z.1 (same_or z.0 row))
+        subst (HasTrue relations c answers) parts.1 (top_by relations c answers rel attr row r ent is at inside of z.0 z.1 (same_or z.0 row))
 
 -- ---- values
 
@@ -155,18 +155,18 @@ field_there relations rel r attr ent row are at inside of =
 
 -- ---- last
 
-pub last_true : (relations : List Relation) (c : Rankings) (rel : RelId) (attr : AttrId) (row : RowId) (r : Relation)
+pub last_true : (relations : List Relation) (c : Rankings) (answers : ℕ → Type 0) (rel : RelId) (attr : AttrId) (row : RowId) (r : Relation)
     (clause : List Signed) → IsCase relations c
-    → slice_get relations rel.0 ≡ Some r → last_clause rel attr row r ≡ Some clause → HasTrue relations c clause
-last_true relations c rel attr row r clause is at e =
+    → slice_get relations rel.0 ≡ Some r → last_clause rel attr row r ≡ Some clause → HasTrue relations c answers clause
+last_true relations c answers rel attr row r clause is at e =
     let parts = some_if (is_attr r attr && same_entity r.rows row row) all clause e in
     let both = and_parts (is_attr r attr) (same_entity r.rows row row) parts.0 in
-    subst (HasTrue relations c) parts.1 (by (attr_in r attr both.0) (true_or relations c (says.Top rel attr row)))
+    subst (HasTrue relations c answers) parts.1 (by (attr_in r attr both.0) (top_or c rel.0 attr.0 (rows_in (slice_get relations rel.0)) row))
   where
     all : List Signed
     all = not_top rel attr row ∷ last rel attr row ∷ []
 
-    by : attr.0 < length r.attrs → Decided (IsTrueIn relations c (says.Top rel attr row)) → HasTrue relations c all
+    by : attr.0 < length r.attrs → Decided (IsTrueIn relations c answers (says.Top rel attr row)) → HasTrue relations c answers all
     by inside (inr n) = true_first tt n
     by inside (inl t) =
         let here : IsTop c rel.0 attr.0 r.rows row =
@@ -197,29 +197,29 @@ value_of_last c rel attr ent r row z l of t =
     sym (ap (λ o. field_value r.rows o attr) l.is_last) ∙ (sym (ap (current_value c rel r.rows attr) here) ∙ t.current) in
     ap₂ (λ a b. is_compared a Eq b) t.of_row of_z ∙ value_itself t.value
 
-value_by : (relations : List Relation) (c : Rankings) (rel : RelId) (attr : AttrId) (row : RowId) (r : Relation) (ent : ℕ)
+value_by : (relations : List Relation) (c : Rankings) (answers : ℕ → Type 0) (rel : RelId) (attr : AttrId) (row : RowId) (r : Relation) (ent : ℕ)
     → slice_get relations rel.0 ≡ Some r
     → entity_of r.rows row.0 ≡ Some ent → (z : RowId) → IsLastOf r c rel.0 attr.0 ent z
-    → Decided (IsTrueIn relations c (says.Last rel attr row))
-    → HasTrue relations c (value_all rel attr row r ent)
+    → Decided (IsTrueIn relations c answers (says.Last rel attr row))
+    → HasTrue relations c answers (value_all rel attr row r ent)
 unfolding value_all
-value_by relations c rel attr row r ent at of z l (inr n) = true_first tt n
-value_by relations c rel attr row r ent at of z l (inl t) =
+value_by relations c answers rel attr row r ent at of z l (inr n) = true_first tt n
+value_by relations c answers rel attr row r ent at of z l (inl t) =
     let said : IsLast c rel.0 attr.0 r.rows row =
     subst (λ rows. IsLast c rel.0 attr.0 rows row) (rows_are relations rel.0 r at) t in
     let place = entity_member r.rows ent z l.of_entity in
     let passes = value_of_last c rel.0 attr.0 ent r row z l of said in
     let among = filtered_at (same_value r.rows attr.0 row) (members r.rows ent) place.0 z place.1 passes in
     let here = top_of relations c rel.0 attr.0 ent r z at l in
-    true_later (true_mapped relations c (top rel attr) (alike r.rows attr.0 ent row) z among tt here)
+    true_later (true_mapped relations c answers (top rel attr) (alike r.rows attr.0 ent row) z among tt here)
 
-pub value_true : (relations : List Relation) (c : Rankings) (rel : RelId) (attr : AttrId) (row : RowId) (r : Relation)
+pub value_true : (relations : List Relation) (c : Rankings) (answers : ℕ → Type 0) (rel : RelId) (attr : AttrId) (row : RowId) (r : Relation)
     (clause : List Signed) → IsCase relations c
-    → slice_get relations rel.0 ≡ Some r → value_clause rel attr row r ≡ Some clause → HasTrue relations c clause
+    → slice_get relations rel.0 ≡ Some r → value_clause rel attr row r ≡ Some clause → HasTrue relations c answers clause
 unfolding value_all
-value_true relations c rel attr row r clause is at e = by (entity_of r.rows row.0) refl e
+value_true relations c answers rel attr row r clause is at e = by (entity_of r.rows row.0) refl e
   where
-    by : (o : Option ℕ) → entity_of r.rows row.0 ≡ o → value_clause rel attr row r ≡ Some clause → HasTrue relations c clause
+    by : (o : Option ℕ) → entity_of r.rows row.0 ≡ o → value_clause rel attr row r ≡ Some clause → HasTrue relations c answers clause
     by None of e =
         let none : cond (is_attr r attr) None None ≡ Some clause = rw of at e in
         absurd (none-some clause (given_if (is_attr r attr) None clause none).1)
@@ -227,5 +227,5 @@ value_true relations c rel attr row r clause is at e = by (entity_of r.rows row.
         let here : cond (is_attr r attr) (Some (value_all rel attr row r ent)) None ≡ Some clause = rw of at e in
         let parts = some_if (is_attr r attr) (value_all rel attr row r ent) clause here in
         let z = last_there relations c rel.0 attr.0 ent r row is at (attr_in r attr parts.0) of in
-        subst (HasTrue relations c) parts.1
-        (value_by relations c rel attr row r ent at of z.0 z.1 (true_or relations c (says.Last rel attr row)))
+        subst (HasTrue relations c answers) parts.1
+        (value_by relations c answers rel attr row r ent at of z.0 z.1 (last_or c rel.0 attr.0 (rows_in (slice_get relations rel.0)) row))

@@ -1,5 +1,5 @@
 -- Whether a literal is true is decided; of a literal and its negation exactly one is true.
-use Rattle.std.proofs.Common.{◌≡◌, ◌⊎◌, ◌==◌, ◌+◌, ◌*◌, ◌%◌, ℕ, if◌then◌else◌, Bool, true, false, not, List, Option, Some, None, slice_get, refl, sym, ap, ◌∙◌, subst, inl, inr, ⊎_elim, arith}
+use Rattle.std.proofs.Common.{◌≡◌, ◌==◌, ◌+◌, ◌*◌, ◌%◌, ℕ, if◌then◌else◌, Bool, true, false, not, List, Option, Some, None, slice_get, refl, sym, ap, ◌∙◌, subst, inl, inr, ⊎_elim, arith}
 use mathlib.Core.Path.{transport}
 use Rattle.std.proofs.lemmas.Bool.{false≢true}
 use Rattle.std.proofs.lemmas.Option.{same_Some, none-some}
@@ -15,7 +15,9 @@ use Rattle.spec_model.specs.Current.{last_row, current_value}
 use Rattle.spec_model.specs.declared.relation.Relation.{Relation}
 use Rattle.refutation_log.specs.declared.statement.Statement.{Statement}
 use Rattle.refutation_log.specs.declared.statement.Statement.TheVariants as says
+use Rattle.log_axioms.specs.Posed.{AreDecided, passing}
 use Rattle.log_axioms.specs.Truth.{rows_in, IsTop, IsLast, IsTrueIn, HoldsIn, LitHolds}
+use Rattle.axiom_laws.specs.Laws.{LiteralsAreDecidedOver, LiteralsComplementOver, LiteralsExcludeOver}
 use Rattle.axiom_laws.proofs.Decisions.{Decided, before_or, some_row_or, some_value_or}
 
 -- ---- statements
@@ -51,55 +53,55 @@ last_or c rel attr rows row = go (entity_of rows row.0) (field_value rows (Some 
         n (ap (current_value c rel rows attr) same ∙ (t.current ∙ (sym t.of_row ∙ f)))))
         (some_value_or (current_value c rel rows attr ent) value)
 
-pub true_or : (relations : List Relation) (c : Rankings) (s : Statement) → Decided (IsTrueIn relations c s)
-true_or relations c (says.Before rel attr earlier later) = before_or (lists_of c rel.0 attr.0) earlier later
-true_or relations c (says.Top rel attr row) = top_or c rel.0 attr.0 (rows_in (slice_get relations rel.0)) row
-true_or relations c (says.Last rel attr row) = last_or c rel.0 attr.0 (rows_in (slice_get relations rel.0)) row
-true_or relations c (says.Answer tuple) = inr (λ h. h)
+pub true_or : (relations : List Relation) (c : Rankings) (answers : ℕ → Type 0) → AreDecided answers → (s : Statement) → Decided (IsTrueIn relations c answers s)
+true_or relations c answers are (says.Before rel attr earlier later) = before_or (lists_of c rel.0 attr.0) earlier later
+true_or relations c answers are (says.Top rel attr row) = top_or c rel.0 attr.0 (rows_in (slice_get relations rel.0)) row
+true_or relations c answers are (says.Last rel attr row) = last_or c rel.0 attr.0 (rows_in (slice_get relations rel.0)) row
+true_or relations c answers are (says.Answer tuple) = are tuple
 
 not_decided : {P : Type 0} → Decided P → Decided (P → ⊥)
 not_decided (inl h) = inr (λ n. n h)
 not_decided (inr n) = inl n
 
-signed_or : (relations : List Relation) (c : Rankings) (s : Statement) (negative : Bool)
-    → Decided (HoldsIn relations c (record { statement = s; negative = negative }))
-signed_or relations c s false = true_or relations c s
-signed_or relations c s true = not_decided (true_or relations c s)
+signed_or : (relations : List Relation) (c : Rankings) (answers : ℕ → Type 0) → AreDecided answers → (s : Statement) (negative : Bool)
+    → Decided (HoldsIn relations c answers (record { statement = s; negative = negative }))
+signed_or relations c answers are s false = true_or relations c answers are s
+signed_or relations c answers are s true = not_decided (true_or relations c answers are s)
 
 -- ---- literals
 
 -- what a literal of a statement, if it is one, with its sign says is true
-abbrev SaidHolds : List Relation → Rankings → Option Statement → Bool → Type 0
-SaidHolds relations c None negative = negative ≡ true
-SaidHolds relations c (Some s) negative = HoldsIn relations c (record { statement = s; negative = negative })
+abbrev SaidHolds : List Relation → Rankings → (ℕ → Type 0) → Option Statement → Bool → Type 0
+SaidHolds relations c answers None negative = negative ≡ true
+SaidHolds relations c answers (Some s) negative = HoldsIn relations c answers (record { statement = s; negative = negative })
 
-said_or : (relations : List Relation) (c : Rankings) (s : Option Statement) (negative : Bool)
-    → Decided (SaidHolds relations c s negative)
-said_or relations c None true = inl refl
-said_or relations c None false = inr false≢true
-said_or relations c (Some s) negative = signed_or relations c s negative
+said_or : (relations : List Relation) (c : Rankings) (answers : ℕ → Type 0) → AreDecided answers → (s : Option Statement) (negative : Bool)
+    → Decided (SaidHolds relations c answers s negative)
+said_or relations c answers are None true = inl refl
+said_or relations c answers are None false = inr false≢true
+said_or relations c answers are (Some s) negative = signed_or relations c answers are s negative
 
-never_both : (relations : List Relation) (c : Rankings) (s : Option Statement) (negative : Bool)
-    → SaidHolds relations c s negative → SaidHolds relations c s (not negative) → ⊥
-never_both relations c None true h k = false≢true k
-never_both relations c None false h k = false≢true h
-never_both relations c (Some s) true h k = h k
-never_both relations c (Some s) false h k = k h
+never_both : (relations : List Relation) (c : Rankings) (answers : ℕ → Type 0) (s : Option Statement) (negative : Bool)
+    → SaidHolds relations c answers s negative → SaidHolds relations c answers s (not negative) → ⊥
+never_both relations c answers None true h k = false≢true k
+never_both relations c answers None false h k = false≢true h
+never_both relations c answers (Some s) true h k = h k
+never_both relations c answers (Some s) false h k = k h
 
-one_holds : (relations : List Relation) (c : Rankings) (s : Option Statement) (negative : Bool)
-    → (SaidHolds relations c s negative → ⊥) → SaidHolds relations c s (not negative)
-one_holds relations c None true n = absurd (n refl)
-one_holds relations c None false n = refl
-one_holds relations c (Some s) false n = n
-one_holds relations c (Some s) true n = ⊎_elim (λ h. h) (λ m. absurd (n m)) (true_or relations c s)
+one_holds : (relations : List Relation) (c : Rankings) (answers : ℕ → Type 0) → AreDecided answers → (s : Option Statement) (negative : Bool)
+    → (SaidHolds relations c answers s negative → ⊥) → SaidHolds relations c answers s (not negative)
+one_holds relations c answers are None true n = absurd (n refl)
+one_holds relations c answers are None false n = refl
+one_holds relations c answers are (Some s) false n = n
+one_holds relations c answers are (Some s) true n = ⊎_elim (λ h. h) (λ m. absurd (n m)) (true_or relations c answers are s)
 
 -- a literal is true exactly where what it says is
-lit_is : (relations : List Relation) (c : Rankings) (statements : List Statement) (lit : Lit)
-    → LitHolds relations c statements lit ≡ SaidHolds relations c (slice_get statements (var_of lit)) (is_negative lit)
-lit_is relations c statements lit = go (slice_get statements (var_of lit)) refl
+lit_is : (relations : List Relation) (c : Rankings) (answers : ℕ → Type 0) (statements : List Statement) (lit : Lit)
+    → LitHolds relations c answers statements lit ≡ SaidHolds relations c answers (slice_get statements (var_of lit)) (is_negative lit)
+lit_is relations c answers statements lit = go (slice_get statements (var_of lit)) refl
   where
     go : (s : Option Statement) → slice_get statements (var_of lit) ≡ s
-        → LitHolds relations c statements lit ≡ SaidHolds relations c (slice_get statements (var_of lit)) (is_negative lit)
+        → LitHolds relations c answers statements lit ≡ SaidHolds relations c answers (slice_get statements (var_of lit)) (is_negative lit)
     go None e = rw e refl
     go (Some s) e = rw e refl
 
@@ -115,32 +117,37 @@ turned_sign : (var : ℕ) (odd : Bool) → is_negative (turned var odd) ≡ not 
 turned_sign var true = let even : 2 * var % 2 ≡ 0 = omega arith in ap (λ n. n == 1) even
 turned_sign var false = let odd : (2 * var + 1) % 2 ≡ 1 = omega arith in ap (λ n. n == 1) odd
 
-said_of_negation : (relations : List Relation) (c : Rankings) (statements : List Statement) (lit : Lit)
-    → LitHolds relations c statements (negation lit) ≡ SaidHolds relations c (slice_get statements (var_of lit))
+said_of_negation : (relations : List Relation) (c : Rankings) (answers : ℕ → Type 0) (statements : List Statement) (lit : Lit)
+    → LitHolds relations c answers statements (negation lit) ≡ SaidHolds relations c answers (slice_get statements (var_of lit))
     (not (is_negative lit))
-said_of_negation relations c statements lit =
-    lit_is relations c statements (negation lit)
-    ∙ ap (λ v. SaidHolds relations c (slice_get statements v) (is_negative (negation lit)))
+said_of_negation relations c answers statements lit =
+    lit_is relations c answers statements (negation lit)
+    ∙ ap (λ v. SaidHolds relations c answers (slice_get statements v) (is_negative (negation lit)))
     (turned_var (var_of lit) (is_negative lit))
-    ∙ ap (SaidHolds relations c (slice_get statements (var_of lit))) (turned_sign (var_of lit) (is_negative lit))
+    ∙ ap (SaidHolds relations c answers (slice_get statements (var_of lit))) (turned_sign (var_of lit) (is_negative lit))
 
 -- ---- the laws
 
-pub decided : (relations : List Relation) (c : Rankings) (statements : List Statement) (lit : Lit)
-    → LitHolds relations c statements lit ⊎ (LitHolds relations c statements lit → ⊥)
-decided relations c statements lit =
-    subst Decided (sym (lit_is relations c statements lit))
-    (said_or relations c (slice_get statements (var_of lit)) (is_negative lit))
+-- of a test which tuples are answers it is decided
+pub tests_decide : (answers : ℕ → Bool) → AreDecided (passing answers)
+tests_decide answers place = by (answers place)
+  where
+    by : (t : Bool) → Decided (t ≡ true)
+    by true = inl refl
+    by false = inr false≢true
 
-pub negated : (relations : List Relation) (c : Rankings) (statements : List Statement) (lit : Lit)
-    → LitHolds relations c statements lit → LitHolds relations c statements (negation lit) → ⊥
-negated relations c statements lit h k =
-    never_both relations c (slice_get statements (var_of lit)) (is_negative lit)
-    (transport (lit_is relations c statements lit) h) (transport (said_of_negation relations c statements lit) k)
+pub decided : (answers : ℕ → Type 0) → AreDecided answers → LiteralsAreDecidedOver answers
+decided answers are relations c statements lit =
+    subst Decided (sym (lit_is relations c answers statements lit))
+    (said_or relations c answers are (slice_get statements (var_of lit)) (is_negative lit))
 
-pub other : (relations : List Relation) (c : Rankings) (statements : List Statement) (lit : Lit)
-    → (LitHolds relations c statements lit → ⊥) → LitHolds relations c statements (negation lit)
-other relations c statements lit n =
-    transport (sym (said_of_negation relations c statements lit))
-    (one_holds relations c (slice_get statements (var_of lit)) (is_negative lit)
-    (λ h. n (transport (sym (lit_is relations c statements lit)) h)))
+pub negated : (answers : ℕ → Type 0) → LiteralsExcludeOver answers
+negated answers relations c statements lit h k =
+    never_both relations c answers (slice_get statements (var_of lit)) (is_negative lit)
+    (transport (lit_is relations c answers statements lit) h) (transport (said_of_negation relations c answers statements lit) k)
+
+pub other : (answers : ℕ → Type 0) → AreDecided answers → LiteralsComplementOver answers
+other answers are relations c statements lit n =
+    transport (sym (said_of_negation relations c answers statements lit))
+    (one_holds relations c answers are (slice_get statements (var_of lit)) (is_negative lit)
+    (λ h. n (transport (sym (lit_is relations c answers statements lit)) h)))

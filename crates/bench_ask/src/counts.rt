@@ -1,8 +1,7 @@
 ghost use Rattle.bound_spec.specs.Growth.{IsWithinLimits};
 ghost use Rattle.search_logs.specs.SearchLogs.{IsWithin};
 
-use currency_base::NoMemory;
-use order_literals::Wanted;
+use currency_base::{NoMemory, TupleList};
 use order_search::Search;
 use refutation_log::{LabelRef, Log, StepRef};
 use solver_guides::Guides;
@@ -30,11 +29,14 @@ pub fn searched(
     requires { IsWithinLimits spec.now }
 {
     is_within(spec);
-    let wanted = Wanted {
-        currents: RelList::new(alloc),
-        answers: 0,
-    };
-    let mut search = match Search::new(alloc, spec, wanted, guides) {
+    let mut search = match Search::new(
+        alloc,
+        spec,
+        None,
+        RelList::new(alloc),
+        TupleList::new(alloc),
+        guides,
+    ) {
         Ok(search) => search,
         Err(error) => return Err(error),
     };

@@ -1,4 +1,6 @@
-mod Accepted
+mod PlainClauses
+mod FirstKept
+pub mod Accepted
 mod Renumbered
 mod StillAccepted
 mod StillNumbered

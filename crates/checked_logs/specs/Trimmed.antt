@@ -1,6 +1,7 @@
 -- What a trimmed log keeps of what a log shows.
-use Rattle.std.specs.Prelude.{◌≡◌, ℕ, Bool, List, map, Contains, Some, option_map, slice_get}
+use Rattle.std.specs.Prelude.{◌≡◌, ℕ, Bool, List, map, Contains, Option, Some, option_map, slice_get}
 use Rattle.currency_base.specs.declared.lit.Lit.{Lit}
+use Rattle.query_model.specs.declared.query.Query.{Query}
 use Rattle.spec_model.specs.Spec.{Spec}
 use Rattle.refutation_log.specs.Steps.{clauses_of}
 use Rattle.refutation_log.specs.declared.log.Log.{Log}
@@ -14,8 +15,8 @@ use Rattle.log_trim.specs.declared.trimming.Trimmed.{Trimmed}
 -- a trimmed log is accepted where the log is
 abbrev pub TrimmedAreAccepted : Type 0
 TrimmedAreAccepted =
-    (s : Spec) (log : Log) (goals : List ℕ) (trimmed : Trimmed) → AreInPlace log goals → IsAccepted s log.statements log.steps
-    → IsTrimmed log goals trimmed → IsAccepted s trimmed.log.statements trimmed.log.steps
+    (s : Spec) (query : Option Query) (log : Log) (goals : List ℕ) (trimmed : Trimmed) → AreInPlace log goals → IsAccepted s query log
+    → IsTrimmed log goals trimmed → IsAccepted s query trimmed.log
 
 -- a trimmed log can be checked where the log can
 abbrev pub TrimmedAreNumbered : Type 0

@@ -2,15 +2,14 @@
 use Rattle.std.proofs.Common.{◌≡◌, Bool, true, false, not, List, inl, inr, refl, ap, subst, codes}
 use Rattle.text_tokens.specs.Lexeme.{Lexeme}
 use Rattle.text_tokens.specs.declared.token.TokenKind.TheVariants.{Word, Symbol}
-use Rattle.text_grammar.specs.Words.{is_word, is_symbol, named, quoted}
+use Rattle.text_grammar.specs.Words.{is_word, is_symbol}
 use Rattle.text_grammar.specs.Grammar.{Language, ◌⋅◌, IsWord, IsSymbol, SpellsName, SpellsString, Listed}
-use Rattle.text_grammar.specs.Laws.{IsReader, IsPlain}
+use Rattle.text_grammar.specs.Laws.{IsReader}
 use Rattle.text_grammar.specs.declared.named.Named.{Named}
 use Rattle.text_grammar.specs.declared.named.NamedPair.{NamedPair}
 use Rattle.text_grammar.proofs.Readers.{always, Begins, Ended, Image, begins_image, reads_made, reads_mapped, reads_same, reads_two}
 use Rattle.text_grammar.proofs.Choices.{Either, reads_choose}
 use Rattle.text_grammar.proofs.FixedTokens.{apart, reads_name, reads_string, after_word, after_symbol, before_symbol, listed_symbol, begins_fixed}
-use Rattle.text_grammar.proofs.Tellings.{plain_one, plain_both, plain_after, plain_before, plain_mapped, plain_choose, plain_listed}
 use Rattle.copy_syntax.specs.declared.trees.CopyTree.{CopyTree}
 use Rattle.copy_syntax.specs.declared.trees.Mappings.{Mappings}
 use Rattle.copy_syntax.specs.declared.trees.Mappings.TheVariants.{Inline, Table}
@@ -109,32 +108,3 @@ copy_ends c t e = by_mappings c.mappings
     by_mappings : (m : Mappings) → ends_mappings m t ≡ true
     by_mappings (Inline pairs) = ap not (apart Symbol (codes ";") Symbol (codes ",") refl t e)
     by_mappings (Table document) = refl
-
--- ---- no word of a copy is one of a form that isn't built
-
-plain_names : IsPlain names_at
-unfolding names_at
-plain_names = plain_after (is_symbol (codes "(")) (plain_before (is_symbol (codes ")")) (plain_listed (is_symbol (codes ",")) (plain_one named)))
-
-plain_mapping : IsPlain mapping_at
-unfolding mapping_at
-plain_mapping = plain_mapped (λ x. record { first = x.0; second = x.1 }) (plain_both (plain_one named) (plain_after (is_word (codes "from")) (plain_one named)))
-
-plain_inline : IsPlain inline_at
-unfolding inline_at
-plain_inline = plain_mapped (λ (pairs : List NamedPair). Inline pairs) (plain_after (is_symbol (codes ":")) (plain_listed (is_symbol (codes ",")) plain_mapping))
-
-plain_table : IsPlain table_at
-unfolding table_at
-plain_table = plain_mapped (λ (document : Named). Table document) (plain_after (is_word (codes "using")) (plain_one quoted))
-
-plain_mappings : IsPlain mappings_at
-unfolding mappings_at
-plain_mappings = plain_choose (is_symbol (codes ":")) plain_inline plain_table
-
-pub plain_copy : IsPlain copy_at
-unfolding copy_at
-plain_copy = plain_mapped copy_of
-    (plain_after (is_word (codes "copy")) (plain_both (plain_one named)
-    (plain_after (is_word (codes "into")) (plain_both (plain_one named) (plain_both plain_names
-    (plain_after (is_word (codes "from")) (plain_both (plain_one named) (plain_both plain_names plain_mappings))))))))

@@ -1,5 +1,5 @@
 -- Reports that list completions.
-use Rattle.std.proofs.Common.{◌≡◌, ◌≢◌, ◌∙◌, ◌<◌, ℕ, zero, suc, List, [], ◌∷◌, All, Contains, length, slice_index_or, refl, sym, ap, subst, arith}
+use Rattle.std.proofs.Common.{◌≡◌, ◌≢◌, ◌∙◌, ◌<◌, ◌≤◌, ℕ, zero, suc, List, [], ◌∷◌, All, Contains, length, slice_index_or, refl, sym, ap, subst, arith}
 use Rattle.std.proofs.lemmas.List.Elements.{All-cons, All-nil}
 use Rattle.log_write.specs.Writable.{AreFew, IsWritable}
 use Rattle.refutation_log.specs.declared.log.Log.{Log}
@@ -20,7 +20,7 @@ use Rattle.search_logs.specs.Laws.{CompletionsAreWritable}
 use Rattle.search_logs.specs.SearchLogs.{IsWithin}
 use Rattle.currency_ask.specs.Answered.{IsAnswerWithin, IsDecidedBy, NamesFirst}
 use Rattle.currency_ask.specs.Reported.{IsReported, ListsAlone}
-use Rattle.currency_ask.proofs.Places.{item_at}
+use Rattle.currency_ask.proofs.Places.{each_has, item_at, item_has}
 
 -- ---- a log with nothing in it
 
@@ -93,9 +93,9 @@ lists_within s q budget (verdict.Undecided counted) completions shown = absurd s
 
 decided : (s : Spec) (q : Question) (budget : ℕ) (v : Verdict) (completions : List Rankings) → IsShownBy v (length completions)
     → IsDecidedBy s q budget (record { verdict = v; completions = completions; log = empty })
-decided s q budget verdict.Consistent completions shown = λ enough. refl
-decided s q budget (verdict.NotCertain p) completions shown = λ enough. refl
-decided s q budget (verdict.NotSame rel attr ent) completions shown = λ enough. refl
+decided s q budget verdict.Consistent completions shown = λ count counts enough. refl
+decided s q budget (verdict.NotCertain p) completions shown = λ count counts enough. refl
+decided s q budget (verdict.NotSame rel attr ent) completions shown = λ count counts enough. refl
 decided s q budget verdict.Inconsistent completions shown = absurd shown
 decided s q budget verdict.Certain completions shown = absurd shown
 decided s q budget (verdict.Same items) completions shown = absurd shown
@@ -127,6 +127,26 @@ shown_two law s c d within is other = record {
         (All-cons (IsWritableCompletion s.relations) d [] (law s d within other.completion) (All-nil (IsWritableCompletion s.relations)));
   };
   cover = All-cons (Covers c) d [] (covers s.relations c d is.completion other.completion) (All-nil (Covers c));
+}
+
+-- the same of any list of consistent completions that are few
+cover_all : (relations : List Relation) (completions : List Rankings) → All (IsCompletion relations) completions → AllCover completions
+cover_all relations [] all = tt
+cover_all relations (c ∷ completions) all =
+    each_has (Covers c) completions (λ k other at.
+    covers relations c other (item_has (IsCompletion relations) (c ∷ completions) all zero c refl)
+    (item_has (IsCompletion relations) (c ∷ completions) all (suc k) other at))
+
+pub shown_each : CompletionsAreWritable → (s : Spec) (completions : List Rankings) → IsWithin s → All (IsConsistent s) completions
+    → length completions ≤ 4294967294 → AreShown s completions
+shown_each law s completions within all few = record {
+  consistent = all;
+  writable = record {
+    few = few;
+    each = each_has (IsWritableCompletion s.relations) completions (λ k c at. law s c within (item_has (IsConsistent s) completions all k c at).completion);
+  };
+  cover = cover_all s.relations completions
+      (each_has (IsCompletion s.relations) completions (λ k c at. (item_has (IsConsistent s) completions all k c at).completion));
 }
 
 written_nothing : IsWritable empty

@@ -11,6 +11,7 @@ use Rattle.spec_model.specs.Questions.{IsAskedPair}
 use Rattle.spec_model.specs.Spec.{Spec}
 use Rattle.spec_model.specs.declared.question.Asked.{Asked}
 use Rattle.spec_model.specs.declared.relation.Relation.{Relation}
+use Rattle.log_axioms.specs.Posed.{Posed}
 use Rattle.refutation_log.specs.Counted.{counted_steps, holds}
 use Rattle.refutation_log.specs.Steps.{clause_of, clauses_of}
 use Rattle.refutation_log.specs.declared.statement.Statement.{Statement}
@@ -28,10 +29,10 @@ use Rattle.order_search.specs.Searches.{HasGone, IsSearch, Search, Tells}
 use Rattle.order_search.specs.declared.outcome.Outcome.{Outcome}
 use Rattle.order_search.specs.declared.outcome.Outcome.TheVariants.{Model, Proved, Empty, Spent}
 use Rattle.watch_solver.specs.Decided.{truth_in}
-use Rattle.currency_ask.specs.Goals.{AreProved, Fails, FailsAfter, IsCurrentGoal, IsGoalOn, IsProved, TellsGoal, rows_at, said_of}
+use Rattle.currency_ask.specs.Goals.{AreProved, Fails, FailsAfter, IsCurrentGoal, IsListGoalOn, IsProved, TellsGoal, rows_at, said_of}
 use Rattle.currency_ask.proofs.Places.{at_front, at_push, take_next}
 use Rattle.currency_ask.specs.declared.goal.Goal.{Goal}
-use Rattle.currency_ask.specs.declared.goal.Goal.TheVariants.{Pair, Current}
+use Rattle.currency_ask.specs.declared.goal.Goal.TheVariants.{Pair, Current, Answer}
 use Rattle.current_claims.specs.declared.claims.CurrentRow.{CurrentRow}
 
 -- ---- a false literal
@@ -64,9 +65,10 @@ counter s wanted truths c lit statement negative is model is_false says held =
     (record { facts = is.relations; completion = model.consistent.completion }) model.truth says held)
 
 -- the value of a row is not the current one where the literal is false
-value_differs : (s : Spec) (wanted : Wanted) (truths : List Bool) (c : Rankings) (lit : Lit) (p : CurrentRow) (g : IsCurrentGoal s wanted p) → IsSpecification s
-    → IsModelOf s wanted truths c → holds (truth_in truths) lit ≡ false → Says (variables s wanted) lit (said_of s (Current p)) → Fails s (Current p) c
-value_differs s wanted truths c lit p g is model is_false told r at equal =
+value_differs : (s : Spec) (posed : Posed) (wanted : Wanted) (truths : List Bool) (c : Rankings) (lit : Lit) (p : CurrentRow) (g : IsCurrentGoal s wanted p)
+    → IsSpecification s → IsModelOf s wanted truths c → holds (truth_in truths) lit ≡ false → Says (variables s wanted) lit (said_of s (Current p))
+    → Fails s posed (Current p) c
+value_differs s posed wanted truths c lit p g is model is_false told r at equal =
     let same : g.relation ≡ r = same_Some g.relation r (sym g.is_relation ∙ at) in
     let facts = relation_facts s.relations p.rel.0 r is.relations at in
     let attr_within : p.attr.0 < length r.attrs = subst (λ (q : Relation). p.attr.0 < length q.attrs) same g.attr_within in
@@ -87,19 +89,21 @@ value_differs s wanted truths c lit p g is model is_false told r at equal =
       current = equal ∙ one.here;
     }
 
-goal_fails : (s : Spec) (wanted : Wanted) (truths : List Bool) (c : Rankings) (lit : Lit) (goal : Goal) → IsGoalOn s wanted goal → IsSpecification s
-    → IsModelOf s wanted truths c → holds (truth_in truths) lit ≡ false → Says (variables s wanted) lit (said_of s goal) → Fails s goal c
-goal_fails s wanted truths c lit (Pair p) g is model is_false told =
+goal_fails : (s : Spec) (posed : Posed) (wanted : Wanted) (truths : List Bool) (c : Rankings) (lit : Lit) (goal : Goal) → IsListGoalOn s wanted goal
+    → IsSpecification s → IsModelOf s wanted truths c → holds (truth_in truths) lit ≡ false → Says (variables s wanted) lit (said_of s goal)
+    → Fails s posed goal c
+goal_fails s posed wanted truths c lit (Pair p) g is model is_false told =
     counter s wanted truths c lit (says.Before p.rel p.pair.attr p.pair.earlier p.pair.later) false is model is_false told
-goal_fails s wanted truths c lit (Current p) g is model is_false told = value_differs s wanted truths c lit p g is model is_false told
+goal_fails s posed wanted truths c lit (Current p) g is model is_false told = value_differs s posed wanted truths c lit p g is model is_false told
+goal_fails s posed wanted truths c lit (Answer place) g is model is_false told = absurd g
 
 -- ---- what deciding tells
 
-tells : (search : Search) (goal : Goal) (lit : Lit) (left : ℕ) (outcome : Outcome) → IsSearch search → IsGoalOn search.spec search.wanted goal
+tells : (search : Search) (goal : Goal) (lit : Lit) (left : ℕ) (outcome : Outcome) → IsSearch search → IsListGoalOn search.spec search.wanted goal
     → Says search.log.statements lit (said_of search.spec goal) → Tells search (Some lit) left outcome → TellsGoal search goal left outcome
 tells search goal lit left (Model truths c) is g told counters = (
   counters.model.consistent,
-  goal_fails search.spec search.wanted truths c lit goal g is.within.specification counters.model counters.goal_false
+  goal_fails search.spec search.posed search.wanted truths c lit goal g is.within.specification counters.model counters.goal_false
       (subst (λ (statements : List Statement). Says statements lit (said_of search.spec goal)) is.log.statements told),
 )
 tells search goal lit left (Proved step) is g told proved = record {
@@ -116,12 +120,12 @@ says_later old new goal lit gone told =
     subst (λ (statements : List Statement). Says statements lit (said_of new.spec goal)) (sym gone.statements)
     (subst (λ (s : Spec). Says old.log.statements lit (said_of s goal)) (sym gone.spec) told)
 
-pub goal_later : (old new : Search) (goal : Goal) → HasGone old new → IsGoalOn old.spec old.wanted goal → IsGoalOn new.spec new.wanted goal
+pub goal_later : (old new : Search) (goal : Goal) → HasGone old new → IsListGoalOn old.spec old.wanted goal → IsListGoalOn new.spec new.wanted goal
 goal_later old new goal gone g =
-    subst (λ (s : Spec). IsGoalOn s new.wanted goal) (sym gone.spec) (subst (λ (w : Wanted). IsGoalOn old.spec w goal) (sym gone.wanted) g)
+    subst (λ (s : Spec). IsListGoalOn s new.wanted goal) (sym gone.spec) (subst (λ (w : Wanted). IsListGoalOn old.spec w goal) (sym gone.wanted) g)
 
 pub tells_after : (old new : Search) (goal : Goal) (lit : Lit) (left : ℕ) (outcome : Outcome) → IsSearch new → HasGone old new
-    → IsGoalOn old.spec old.wanted goal → Says old.log.statements lit (said_of old.spec goal) → Tells new (Some lit) left outcome
+    → IsListGoalOn old.spec old.wanted goal → Says old.log.statements lit (said_of old.spec goal) → Tells new (Some lit) left outcome
     → TellsGoal new goal left outcome
 tells_after old new goal lit left outcome is gone g told found =
     tells new goal lit left outcome is (goal_later old new goal gone g) (says_later old new goal lit gone told) found
@@ -129,7 +133,7 @@ tells_after old new goal lit left outcome is gone g told found =
 -- ---- one after another
 
 pub gone_none : (search : Search) → HasGone search search
-gone_none search = record { spec = refl; wanted = refl; statements = refl; added = []; steps = sym (append_none search.log.steps) }
+gone_none search = record { spec = refl; posed = refl; wanted = refl; statements = refl; added = []; steps = sym (append_none search.log.steps) }
   where
     append_none : (xs : List Step) → xs ++ [] ≡ xs
     append_none [] = refl
@@ -138,6 +142,7 @@ gone_none search = record { spec = refl; wanted = refl; statements = refl; added
 pub gone_then : (old middle new : Search) → HasGone old middle → HasGone middle new → HasGone old new
 gone_then old middle new one other = record {
   spec = other.spec ∙ one.spec;
+  posed = other.posed ∙ one.posed;
   wanted = other.wanted ∙ one.wanted;
   statements = other.statements ∙ one.statements;
   added = one.added ++ other.added;

@@ -1,10 +1,12 @@
 -- Pairs whose units a search has derived hold in every consistent completion: a report that derives them would show it.
-use Rattle.std.proofs.Common.{◌≡◌, ◌≢◌, ◌∙◌, ℕ, zero, suc, true, List, [], ◌∷◌, All, Option, Some, map, option_map, slice_get, take, refl, sym, ap, subst, arith}
+use Rattle.std.proofs.Common.{◌≡◌, ◌≢◌, ◌∙◌, ℕ, zero, suc, true, List, [], ◌∷◌, All, Option, Some, None, map, option_map, slice_get, take, refl, sym, ap, subst, arith}
 use Rattle.std.proofs.lemmas.List.{length-map}
 use Rattle.std.proofs.lemmas.List.Elements.{All-cons, All-nil}
 use Rattle.std.proofs.lemmas.Option.{slice_get-map, slice_get_within}
 use Rattle.axiom_agreement.specs.Agreement.{OrdersAgree}
+use Rattle.log_checker.specs.Accepted.{IsAccepted}
 use Rattle.order_search.specs.Searches.{IsSearch, Search}
+use Rattle.query_model.specs.declared.query.Query.{Query}
 use Rattle.report_model.specs.Verdicts.{is_decided, kind_of}
 use Rattle.report_model.specs.declared.report.Part.TheVariants as part
 use Rattle.report_model.specs.declared.report.Report.{Report}
@@ -29,8 +31,8 @@ use Rattle.currency_ask.specs.declared.deciding.Decided.TheVariants as decided
 use Rattle.currency_ask.specs.declared.goal.Goal.{Goal}
 use Rattle.currency_ask.specs.declared.goal.Goal.TheVariants.{Pair}
 use Rattle.currency_ask.proofs.Derived.{derived_claim}
-use Rattle.currency_ask.proofs.Places.{item_at}
-use Rattle.currency_ask.proofs.Settling.{at_map, at_take, each_has, item_has, need_of}
+use Rattle.currency_ask.proofs.Places.{each_has, item_at, item_has}
+use Rattle.currency_ask.proofs.Settling.{at_map, at_take, need_of}
 
 -- a verdict that is shown is right
 abbrev pub ShownIsRight : Type 0
@@ -41,7 +43,7 @@ ShownIsRight =
 some : {A : Type 0} (x : A) → x ∷ [] ≢ []
 some x e = let no : ⊥ = cc in no
 
-module _ (accepted : LogsAreAccepted) (orders : OrdersAgree) (right : ShownIsRight) (search : Search) (is : IsSearch search) (pairs : List Asked)
+module _ (accepted : LogsAreAccepted) (orders : OrdersAgree) (right : ShownIsRight) (search : Search) (is : IsSearch search) (unposed : search.posed.query ≡ None) (pairs : List Asked)
     (on : All (IsAskedPair search.spec.relations) pairs) (steps : List ℕ) (proved : AreProved search (map Pair pairs) steps) where
   -- the unit of a pair
   unit : (k : ℕ) (p : Asked) → slice_get pairs k ≡ Some p → IsDerived search.spec.relations search.log (need_of p)
@@ -69,7 +71,8 @@ module _ (accepted : LogsAreAccepted) (orders : OrdersAgree) (right : ShownIsRig
     sound = record {
       one_of = tt;
       consistent = All-cons (IsConsistent search.spec) c [] consistent (All-nil (IsConsistent search.spec));
-      accepted = accepted search.spec search.wanted search.log is.within is.log;
+      accepted = subst (λ (o : Option Query). IsAccepted search.spec o search.log) unposed
+          (accepted search.spec search.posed search.wanted search.log is.within is.log);
     };
     supported = (some c, units);
   }

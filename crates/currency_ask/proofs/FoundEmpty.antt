@@ -1,5 +1,5 @@
 -- The report of a step that is the empty clause.
-use Rattle.std.proofs.Common.{◌≡◌, ◌∙◌, ◌<◌, ℕ, List, [], ◌∷◌, All, Contains, None, Some, length, map, slice_get, refl, sym, ap, subst, arith}
+use Rattle.std.proofs.Common.{◌≡◌, ◌∙◌, ◌<◌, ℕ, List, [], ◌∷◌, All, None, Some, length, map, slice_get, refl, sym, ap, subst, arith}
 use Rattle.std.proofs.lemmas.List.{length-map}
 use Rattle.std.proofs.lemmas.List.Elements.{All-cons, All-nil}
 use Rattle.std.proofs.lemmas.List.Folds.{list_any_at}
@@ -11,22 +11,23 @@ use Rattle.log_form.specs.Form.{first_fault}
 use Rattle.log_trim.specs.Trimmed.{AreInPlace, IsTrimmed, lits_at, rank, renumbered_lit}
 use Rattle.log_trim.specs.declared.trimming.Trimmed.{Trimmed}
 use Rattle.log_write.specs.Writable.{IsWritable}
-use Rattle.order_literals.specs.declared.wanted.Wanted.{Wanted}
 use Rattle.order_search.specs.Searches.{IsSearch, Search}
 use Rattle.refutation_log.specs.Steps.{clause_of, clauses_of}
 use Rattle.refutation_log.specs.declared.log.Log.{Log}
 use Rattle.report_model.specs.declared.verdict.Verdict.TheVariants.{Inconsistent}
+use Rattle.report_verify.specs.Asked.{query_of}
 use Rattle.report_verify.specs.Supported.{HasEmpty}
 use Rattle.report_write.specs.Writable.{AllCover, IsWritableCompletion}
 use Rattle.search_logs.specs.Laws.{LogsAreAccepted, LogsAreInPlace, TrimmedAreAmong, TrimmedAreReached, TrimmedAreWritable}
-use Rattle.search_logs.specs.SearchLogs.{HasFewSteps, variables}
+use Rattle.search_logs.specs.SearchLogs.{HasFewSteps}
 use Rattle.spec_model.specs.Completion.{Rankings}
 use Rattle.spec_model.specs.Consistent.{IsConsistent}
 use Rattle.spec_model.specs.Spec.{Spec}
 use Rattle.spec_model.specs.declared.question.Question.{Question}
-use Rattle.currency_ask.specs.Answered.{AreAmong, IsOfEmpty, wanted_of}
-use Rattle.currency_ask.specs.Reported.{IsReported}
+use Rattle.currency_ask.specs.Answered.{AreAmong, IsOfEmpty}
+use Rattle.currency_ask.specs.Reported.{IsReported, IsSearchFor}
 use Rattle.currency_ask.proofs.NoCompletions.{few_none}
+use Rattle.currency_ask.proofs.Wants.{accepted_for, among_of}
 
 -- the laws of search logs, and of what they are trimmed to
 pub record EmptyLaws : Type 0 where
@@ -55,7 +56,7 @@ within_steps log place empty =
 pub can_trim : EmptyLaws → (seen : Search) (log : Log) (place : ℕ) → HasEmptyStep seen log place → AreInPlace log (place ∷ [])
 can_trim laws seen log place has =
     subst (λ (l : Log). AreInPlace l (place ∷ [])) (sym has.log_is)
-    (laws.in_place seen.spec seen.wanted seen.log (place ∷ []) has.search_is.within has.search_is.log has.few (within_steps seen.log place has.empty)).1
+    (laws.in_place seen.spec seen.posed seen.wanted seen.log (place ∷ []) has.search_is.within has.search_is.log has.few (within_steps seen.log place has.empty)).1
 
 -- the step's new place, where the empty clause stands in the trimmed log
 clause_stays : GoalClausesKeep → (log : Log) (place : ℕ) (trimmed : Trimmed) → AreInPlace log (place ∷ []) → (t : IsTrimmed log (place ∷ []) trimmed)
@@ -86,46 +87,41 @@ is_of_empty law s q log place trimmed in_place t empty among = record {
 
 -- ---- the report
 
-trimmed_reported : EmptyLaws → (s : Spec) (wanted : Wanted) (log : Log) (place : ℕ) (trimmed : Trimmed) (q : Question) (budget : ℕ)
-    (completions : List Rankings) → wanted ≡ wanted_of q → IsSearch (record { spec = s; wanted = wanted; log = log }) → HasFewSteps log → slice_get (clauses_of log.steps) place ≡ Some []
-    → AreInPlace log (place ∷ []) → IsTrimmed log (place ∷ []) trimmed → completions ≡ []
-    → IsReported s q budget (record { verdict = Inconsistent; completions = completions; log = trimmed.log })
-trimmed_reported laws s wanted log place trimmed q budget completions wants is few empty in_place t none = record {
+trimmed_reported : EmptyLaws → (seen : Search) (place : ℕ) (trimmed : Trimmed) (q : Question) (budget : ℕ) (completions : List Rankings) → IsSearchFor q seen
+    → IsSearch seen → HasFewSteps seen.log → slice_get (clauses_of seen.log.steps) place ≡ Some [] → AreInPlace seen.log (place ∷ [])
+    → IsTrimmed seen.log (place ∷ []) trimmed → completions ≡ []
+    → IsReported seen.spec q budget (record { verdict = Inconsistent; completions = completions; log = trimmed.log })
+trimmed_reported laws seen place trimmed q budget completions for_it is few empty in_place t none = record {
   shown = record {
     sound = record {
       one_of = tt;
-      consistent = subst (All (IsConsistent s)) (sym none) (All-nil (IsConsistent s));
-      accepted = laws.trimmed_accepted s log (place ∷ []) trimmed in_place (laws.accepted s wanted log is.within is.log) t;
+      consistent = subst (All (IsConsistent seen.spec)) (sym none) (All-nil (IsConsistent seen.spec));
+      accepted = laws.trimmed_accepted seen.spec (query_of q) seen.log (place ∷ []) trimmed in_place (accepted_for laws.accepted q seen is for_it) t;
     };
     supported = has_empty trimmed.log (rank t.step_kept place) stays;
   };
   writable = record {
     verdict = tt;
-    completions = few_none (IsWritableCompletion s.relations) completions none;
+    completions = few_none (IsWritableCompletion seen.spec.relations) completions none;
     cover = subst AllCover (sym none) tt;
     log = written.0;
     well_formed = written.1;
   };
-  lists = (none, is_of_empty laws.reached s q log place trimmed in_place t stays among);
-  enough = λ enough. refl;
+  lists = (none, is_of_empty laws.reached seen.spec q seen.log place trimmed in_place t stays (among_of laws.among q seen (place ∷ []) trimmed is for_it few t));
+  enough = λ count counts enough. refl;
   first = tt;
 }
   where
     stays : slice_get (clauses_of trimmed.log.steps) (rank t.step_kept place) ≡ Some []
-    stays = clause_stays laws.clauses log place trimmed in_place t empty
+    stays = clause_stays laws.clauses seen.log place trimmed in_place t empty
 
-    among : AreAmong s q trimmed.log
-    among =
-        subst (λ (w : Wanted). All (Contains (variables s w)) trimmed.log.statements) wants
-        (laws.among s wanted log (place ∷ []) trimmed is.within is.log few t)
-
-    written : IsWritable trimmed.log × (first_fault s.relations trimmed.log ≡ None)
-    written = laws.writable s wanted log (place ∷ []) trimmed is.within is.log few (within_steps log place empty) t
+    written : IsWritable trimmed.log × (first_fault seen.spec.relations trimmed.log ≡ None)
+    written = laws.writable seen.spec seen.posed seen.wanted seen.log (place ∷ []) trimmed is.within is.log few (within_steps seen.log place empty) t
 
 pub empty_reported : EmptyLaws → (seen : Search) (log : Log) (place : ℕ) (trimmed : Trimmed) (q : Question) (budget : ℕ) (completions : List Rankings)
-    → seen.wanted ≡ wanted_of q → HasEmptyStep seen log place → IsTrimmed log (place ∷ []) trimmed → completions ≡ []
+    → IsSearchFor q seen → HasEmptyStep seen log place → IsTrimmed log (place ∷ []) trimmed → completions ≡ []
     → IsReported seen.spec q budget (record { verdict = Inconsistent; completions = completions; log = trimmed.log })
-empty_reported laws seen log place trimmed q budget completions wants has t none =
-    trimmed_reported laws seen.spec seen.wanted seen.log place trimmed q budget completions wants has.search_is has.few has.empty
+empty_reported laws seen log place trimmed q budget completions for_it has t none =
+    trimmed_reported laws seen place trimmed q budget completions for_it has.search_is has.few has.empty
     (subst (λ (l : Log). AreInPlace l (place ∷ [])) has.log_is (can_trim laws seen log place has))
     (subst (λ (l : Log). IsTrimmed l (place ∷ []) trimmed) has.log_is t) none

@@ -1,13 +1,12 @@
 -- The report of a search that took the whole budget.
-use Rattle.std.proofs.Common.{◌≡◌, ◌∙◌, ◌<◌, ◌^◌, ℕ, List, [], All, Contains, None, length, refl, sym, ap, subst, arith}
+use Rattle.std.proofs.Common.{◌≡◌, ◌∙◌, ◌<◌, ◌≤◌, ◌^◌, ℕ, List, [], All, Contains, None, length, refl, sym, ap, subst, inl, inr, arith}
 use Rattle.std.proofs.lemmas.List.Elements.{All-nil, Contains-append_left}
+use Rattle.currency_base.specs.declared.value.Value.{Value}
 use Rattle.axiom_agreement.specs.Agreement.{AxiomsAreWhole, HasAxioms}
 use Rattle.log_checker.specs.Accepted.{IsNumbered}
 use Rattle.log_form.specs.Form.{first_fault}
 use Rattle.log_write.specs.Writable.{IsWritable}
-use Rattle.order_literals.specs.Enough.{IsEnough}
-use Rattle.order_literals.specs.Numbers.{numbers_of}
-use Rattle.order_literals.specs.Statements.{statements_of}
+use Rattle.order_literals.specs.Enough.{IsEnough, variables_of as variables_in}
 use Rattle.order_literals.specs.declared.wanted.Wanted.{Wanted}
 use Rattle.order_search.specs.Searches.{BeginsWithAxioms, IsSearch, Search}
 use Rattle.refutation_log.specs.Counted.{AreWithin, CountedAreNew, counted_steps}
@@ -24,9 +23,10 @@ use Rattle.spec_model.specs.Consistent.{IsConsistent}
 use Rattle.spec_model.specs.Facts.{IsSpecification}
 use Rattle.spec_model.specs.Spec.{Spec}
 use Rattle.spec_model.specs.declared.question.Question.{Question}
-use Rattle.currency_ask.specs.Answered.{IsCutOff, currents_of, variables_of, wanted_of}
-use Rattle.currency_ask.specs.Reported.{HasSpent, IsReported}
+use Rattle.currency_ask.specs.Answered.{AreNumberedAnswers, CountsAnswers, IsCutOff, currents_of}
+use Rattle.currency_ask.specs.Reported.{HasSpent, IsReported, IsSearchFor}
 use Rattle.currency_ask.proofs.NoCompletions.{few_none}
+use Rattle.currency_ask.proofs.Wants.{accepted_for, answers_are, statements_are}
 
 -- the laws of search logs, of the axioms with which they begin, and of the number of counted steps
 pub record SpentLaws : Type 0 where
@@ -38,38 +38,52 @@ pub record SpentLaws : Type 0 where
 
 -- the log has the axioms that it begins with
 axioms_stay : AxiomsAreWhole → (s : Spec) (wanted : Wanted) (steps : List Step) → IsSpecification s → BeginsWithAxioms s wanted steps → HasAxioms s steps
-axioms_stay law s wanted steps facts begins l clause of is =
-    let first = law s wanted.currents (variables s wanted) begins.axioms facts begins.are_axioms l clause of is in (
+axioms_stay law s wanted steps facts begins posed l clause of is =
+    let first = law s wanted.currents (variables s wanted) begins.axioms facts begins.are_axioms posed l clause of is in (
       first.0,
       subst (λ (all : List Step). Contains all (step.Axiom l first.0)) (sym begins.steps_are)
           (Contains-append_left begins.axioms begins.later (step.Axiom l first.0) first.1),
     )
 
--- the statements are those of the question
-statements_are : (seen : Search) (q : Question) → IsSearch seen → seen.wanted ≡ wanted_of q → seen.log.statements ≡ variables_of seen.spec q
-statements_are seen q is wanted = is.log.statements ∙ ap (λ (w : Wanted). statements_of (numbers_of seen.spec.relations w)) wanted
+-- a budget that decides the question is not spent: its variables are those with no answer, or with the answers over a consistent completion
+not_enough : SpentLaws → (seen : Search) (q : Question) (budget : ℕ) (count : Rankings → ℕ) → IsSearchFor q seen → IsSearch seen → HasFewSteps seen.log
+    → HasSpent seen budget → CountsAnswers seen.spec q count → IsEnough seen.spec (currents_of q) count budget → ⊥
+not_enough laws seen q budget count for_it is few spent counts enough = of (answers_are q seen is for_it)
+  where
+    less : counted_steps seen.log.steps < 3 ^ length seen.log.statements
+    less =
+        let numbered : IsNumbered seen.log.statements seen.log.steps =
+        (laws.in_place seen.spec seen.posed seen.wanted seen.log [] is.within is.log few (All-nil (λ goal. goal < length seen.log.steps))).0 in
+        laws.few_counted (length seen.log.statements) seen.log.steps numbered.within is.counted_new
 
--- a budget that decides the question is not spent
-not_enough : SpentLaws → (seen : Search) (q : Question) (budget : ℕ) → seen.wanted ≡ wanted_of q → IsSearch seen → HasFewSteps seen.log
-    → HasSpent seen budget → IsEnough seen.spec (currents_of q) (λ c. 0) budget → ⊥
-not_enough laws seen q budget wants is few spent enough =
-    let numbered : IsNumbered seen.log.statements seen.log.steps =
-    (laws.in_place seen.spec seen.wanted seen.log [] is.within is.log few (All-nil (λ goal. goal < length seen.log.steps))).0 in
-    let less = laws.few_counted (length seen.log.statements) seen.log.steps numbered.within is.counted_new in
-    let same = ap (λ (statements : List Statement). 3 ^ length statements) (statements_are seen q is wants) in
-    omega (arith, less, same, spent.counted, enough.without)
+    power : 3 ^ length seen.log.statements ≡ 3 ^ variables_in seen.spec (currents_of q) (length seen.log.answers)
+    power = ap (λ (statements : List Statement). 3 ^ length statements) (statements_are q seen is for_it)
+
+    with_so_many : (n : ℕ) → length seen.log.answers ≡ n → 3 ^ variables_in seen.spec (currents_of q) n ≤ budget → ⊥
+    with_so_many n many bound =
+        let same = power ∙ ap (λ (k : ℕ). 3 ^ variables_in seen.spec (currents_of q) k) many in
+        omega (arith, less, same, spent.counted, bound)
+
+    of : AreNumberedAnswers seen.spec q seen.log.answers → ⊥
+    of (inl none) = with_so_many 0 (ap (λ (xs : List (List Value)). length xs) none) enough.without
+    of (inr some) =
+        let over = some.2 in
+        with_so_many (length seen.log.answers) refl
+        (subst (λ (n : ℕ). 3 ^ variables_in seen.spec (currents_of q) n ≤ budget)
+        (counts some.0 over.completion seen.log.answers some.1 over.consistent over.are)
+        (enough.over_each over.completion over.consistent))
 
 pub spent_reported : SpentLaws → (seen : Search) (q : Question) (budget : ℕ) (log : Log) (completions : List Rankings) → budget < 2 ^ 64
-    → seen.wanted ≡ wanted_of q → IsSearch seen
+    → IsSearchFor q seen → IsSearch seen
     → HasFewSteps seen.log → HasSpent seen budget → log ≡ seen.log → completions ≡ []
     → IsReported seen.spec q budget (record { verdict = Undecided budget; completions = completions; log = log })
-spent_reported laws seen q budget log completions fits wants is few spent same none =
+spent_reported laws seen q budget log completions fits for_it is few spent same none =
     subst (λ (l : Log). IsReported seen.spec q budget (record { verdict = Undecided budget; completions = completions; log = l })) (sym same) record {
       shown = record {
         sound = record {
           one_of = tt;
           consistent = subst (All (IsConsistent seen.spec)) (sym none) (All-nil (IsConsistent seen.spec));
-          accepted = laws.accepted seen.spec seen.wanted seen.log is.within is.log;
+          accepted = accepted_for laws.accepted q seen is for_it;
         };
         supported = spent.counted;
       };
@@ -81,12 +95,12 @@ spent_reported laws seen q budget log completions fits wants is few spent same n
         well_formed = written.1;
       };
       lists = (none, refl, cut_off);
-      enough = λ enough. absurd (not_enough laws seen q budget wants is few spent enough);
+      enough = λ count counts enough. absurd (not_enough laws seen q budget count for_it is few spent counts enough);
       first = tt;
     }
   where
     written : IsWritable seen.log × (first_fault seen.spec.relations seen.log ≡ None)
-    written = laws.writable seen.spec seen.wanted seen.log is.within is.log few
+    written = laws.writable seen.spec seen.posed seen.wanted seen.log is.within is.log few
 
     cut_off : IsCutOff seen.spec q budget seen.log
     cut_off = record {
@@ -94,5 +108,6 @@ spent_reported laws seen q budget log completions fits wants is few spent same n
       counted_new = is.counted_new;
       open_log = spent.open_log;
       axioms = axioms_stay laws.whole seen.spec seen.wanted seen.log.steps is.within.specification is.begins;
-      statements = statements_are seen q is wants;
+      answers = answers_are q seen is for_it;
+      statements = statements_are q seen is for_it;
     }

@@ -1,4 +1,5 @@
 mod Places
+mod Wants
 mod NoCompletions
 mod Completions
 mod Countered
@@ -7,4 +8,6 @@ mod FoundEmpty
 mod FoundSpent
 mod Listings
 mod Settling
+mod LeftAnswers
+mod Searched
 mod Earlier

@@ -1,5 +1,6 @@
 -- What a report that answers a question has besides that it shows its verdict.
-use Rattle.std.specs.Prelude.{◌≡◌, ◌<◌, ℕ, true, List, [], ◌∷◌, All, Contains, Some, length, slice_get, take}
+use Rattle.std.specs.Prelude.{◌≡◌, ◌≢◌, ◌⊎◌, ◌<◌, ℕ, true, List, [], ◌∷◌, All, Contains, Some, length, slice_get, take}
+use Rattle.certain_answers.specs.Deciding.{relations_of}
 use Rattle.currency_base.specs.declared.ids.AttrId.{AttrId}
 use Rattle.currency_base.specs.declared.ids.EntId.{EntId}
 use Rattle.currency_base.specs.declared.ids.RelId.{RelId}
@@ -8,6 +9,9 @@ use Rattle.currency_base.specs.declared.lit.Lit.{Lit}
 use Rattle.currency_base.specs.declared.value.Value.{Value}
 use Rattle.denial_rules.specs.Instances.{field_value}
 use Rattle.partial_orders.specs.Pairs.{entity_of}
+use Rattle.query_model.specs.declared.query.Query.{Query}
+use Rattle.spec_model.specs.Completion.{Rankings}
+use Rattle.spec_model.specs.Consistent.{IsConsistent}
 use Rattle.spec_model.specs.Spec.{Spec}
 use Rattle.spec_model.specs.declared.question.Asked.{Asked}
 use Rattle.spec_model.specs.declared.question.Question.{Question}
@@ -17,7 +21,7 @@ use Rattle.refutation_log.specs.Counted.{CountedAreNew, IsOpenLog, counted_steps
 use Rattle.refutation_log.specs.Steps.{clauses_of}
 use Rattle.refutation_log.specs.declared.log.Log.{Log}
 use Rattle.refutation_log.specs.declared.statement.Statement.{Statement}
-use Rattle.log_axioms.specs.Axioms.{before, last, lit_says}
+use Rattle.log_axioms.specs.Axioms.{answer, before, last, lit_says}
 use Rattle.log_trim.specs.Trimmed.{Reaches}
 use Rattle.order_literals.specs.Enough.{IsEnough}
 use Rattle.order_literals.specs.Numbers.{numbers_of}
@@ -26,10 +30,12 @@ use Rattle.order_literals.specs.declared.wanted.Wanted.{Wanted}
 use Rattle.report_model.specs.Verdicts.{is_decided, kind_of}
 use Rattle.report_model.specs.declared.report.Report.{Report}
 use Rattle.report_model.specs.declared.verdict.Verdict.{Verdict}
-use Rattle.report_model.specs.declared.verdict.Verdict.TheVariants.{Inconsistent, Consistent, Certain, NotCertain, Same, NotSame, Undecided}
+use Rattle.report_model.specs.declared.verdict.Verdict.TheVariants.{Inconsistent, Consistent, Certain, NotCertain, Same, NotSame, Answers, Undecided}
+use Rattle.answer_candidates.specs.Candidates.{AreAnswersIn, IsTooMany}
+use Rattle.report_verify.specs.Asked.{query_of}
 use Rattle.report_verify.specs.Right.{EachConsistent, PairHolds}
 use Rattle.report_verify.specs.Supported.{Claim, Need, needs_of}
-use Rattle.report_verify.specs.Supported.Claim.{Holds, HasValue}
+use Rattle.report_verify.specs.Supported.Claim.{Holds, HasValue, HasAnswer}
 use Rattle.axiom_agreement.specs.Agreement.{HasAxioms}
 
 -- ---- the variables of a question
@@ -39,14 +45,25 @@ abbrev pub currents_of : Question → List RelId
 currents_of asked.Consistent = []
 currents_of (asked.Certain pairs) = []
 currents_of (asked.Same rels) = rels
+currents_of (asked.Answers query) = relations_of query
 
--- what is numbered for a question beside the pairs of rows
-abbrev pub wanted_of : Question → Wanted
-wanted_of q = record { currents = currents_of q; answers = 0 }
+-- what is numbered for a question beside the pairs of rows, with so many answers
+abbrev pub wanted_of : Question → ℕ → Wanted
+wanted_of q answers = record { currents = currents_of q; answers = answers }
 
 -- the variables of a question, by what they say
-abbrev pub variables_of : Spec → Question → List Statement
-variables_of s q = statements_of (numbers_of s.relations (wanted_of q))
+abbrev pub variables_of : Spec → Question → ℕ → List Statement
+variables_of s q answers = statements_of (numbers_of s.relations (wanted_of q answers))
+
+-- exactly the answers of a query over the current instance of some consistent completion, ascending
+pub record AreAnswersOverSome (s : Spec) (query : Query) (tuples : List (List Value)) : Type 0 where
+  pub completion : Rankings
+  pub consistent : IsConsistent s completion
+  pub are : AreAnswersIn s.relations query completion tuples
+
+-- the tuples whose being answers is numbered: none, or those of a query over some consistent completion
+abbrev pub AreNumberedAnswers : Spec → Question → List (List Value) → Type 0
+AreNumberedAnswers s q tuples = (tuples ≡ []) ⊎ ((query : Query) × (query_of q ≡ Some query) × AreAnswersOverSome s query tuples)
 
 -- ---- logs
 
@@ -57,11 +74,14 @@ pub record IsCutOff (s : Spec) (q : Question) (budget : ℕ) (log : Log) : Type 
   pub counted_new : CountedAreNew log.steps
   pub open_log : IsOpenLog log.steps
   pub axioms : HasAxioms s log.steps
-  pub statements : log.statements ≡ variables_of s q
+  pub answers : AreNumberedAnswers s q log.answers
+  pub statements : log.statements ≡ variables_of s q (length log.answers)
 
 -- the statements of a log are among the variables of the question
-abbrev pub AreAmong : Spec → Question → Log → Type 0
-AreAmong s q log = All (Contains (variables_of s q)) log.statements
+pub record AreAmong (s : Spec) (q : Question) (log : Log) : Type 0 where
+  pub answers : List (List Value)
+  pub numbered : AreNumberedAnswers s q answers
+  pub each : All (Contains (variables_of s q (length answers))) log.statements
 
 -- each step of a log is reached by hints from a step that is the empty clause
 pub record IsOfEmpty (s : Spec) (q : Question) (log : Log) : Type 0 where
@@ -79,10 +99,17 @@ pub record SaysValue (s : Spec) (log : Log) (lit : Lit) (rel : RelId) (attr : At
   pub of_value : field_value relation.rows (Some row) attr.0 ≡ Some value
   pub says : lit_says s.relations log.statements (last rel attr row) lit ≡ true
 
+-- a literal says that a tuple is an answer, by a place of the log's answers
+pub record SaysAnswer (s : Spec) (log : Log) (lit : Lit) (tuple : List Value) : Type 0 where
+  pub place : ℕ
+  pub is_tuple : slice_get log.answers place ≡ Some tuple
+  pub says : lit_says s.relations log.statements (answer place) lit ≡ true
+
 -- a literal says what is claimed
 abbrev pub SaysClaim : Spec → Log → Lit → Claim → Type 0
 SaysClaim s log lit (Holds p) = lit_says s.relations log.statements (before p.rel p.pair.attr p.pair.earlier p.pair.later) lit ≡ true
 SaysClaim s log lit (HasValue rel attr ent v) = SaysValue s log lit rel attr ent v
+SaysClaim s log lit (HasAnswer tuple) = SaysAnswer s log lit tuple
 
 -- a step is the unit of a claim
 pub record IsUnitOf (s : Spec) (log : Log) (claim : Claim) (goal : ℕ) : Type 0 where
@@ -123,12 +150,27 @@ IsAnswerWithin s q budget r = by r.verdict
     by (NotCertain p) = (length r.completions ≡ 1) × HasNothing r.log
     by (Same items) = (length r.completions ≡ 1) × IsOfClaims s q r.verdict r.log
     by (NotSame rel attr ent) = (length r.completions ≡ 2) × HasNothing r.log
+    by (Answers tuples) = (r.completions ≢ []) × IsOfClaims s q r.verdict r.log
     by (Undecided counted) = (r.completions ≡ []) × (counted ≡ budget) × IsCutOff s q budget r.log
-    by other = ⊥
+
+-- for each consistent completion it is told how many answers a question has over it; of a question that is no query, none
+abbrev pub CountsAnswers : Spec → Question → (Rankings → ℕ) → Type 0
+CountsAnswers s q count = (query : Query) (c : Rankings) (tuples : List (List Value)) → query_of q ≡ Some query → IsConsistent s c
+    → AreAnswersIn s.relations query c tuples → count c ≡ length tuples
 
 -- a budget that is at least three to the number of variables of the question decides it
 abbrev pub IsDecidedBy : Spec → Question → ℕ → Report → Type 0
-IsDecidedBy s q budget r = IsEnough s (currents_of q) (λ c. 0) budget → is_decided (kind_of r.verdict) ≡ true
+IsDecidedBy s q budget r =
+    (count : Rankings → ℕ) → CountsAnswers s q count → IsEnough s (currents_of q) count budget → is_decided (kind_of r.verdict) ≡ true
+
+-- ---- too many answers
+
+-- the query has more answers than are gone through over a consistent completion
+pub record HasTooMany (s : Spec) (q : Question) (c : Rankings) : Type 0 where
+  pub query : Query
+  pub is_query : query_of q ≡ Some query
+  pub consistent : IsConsistent s c
+  pub too_many : IsTooMany s.relations query 1000000 c
 
 -- ---- which pair is named
 

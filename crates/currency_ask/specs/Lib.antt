@@ -1,4 +1,5 @@
 pub mod Answered
+pub mod Answering
 pub mod Goals
 pub mod Reported
 pub mod Settled

@@ -5,13 +5,13 @@ ghost use Rattle.search_logs.specs.SearchLogs.{IsWithin};
 ghost use Rattle.spec_model.specs.Consistent.{IsConsistent};
 ghost use Rattle.spec_model.specs.Questions.{AreAskedRelations};
 ghost use Rattle.spec_model.specs.declared.question.Question.TheVariants as asked;
-ghost use Rattle.currency_ask.specs.Answered.{wanted_of};
-ghost use Rattle.currency_ask.specs.Reported.{IsReported};
+ghost use Rattle.currency_ask.specs.Reported.{IsReported, IsSearchFor};
 ghost use Rattle.currency_ask.specs.Settled.{AreValuesIn, HasDecided};
 
 use crate::deciding::{Decided, decide_all};
 use crate::goal::{Goal, GoalList};
-use crate::reporting::{discard, ended, listed, proved, two};
+use crate::reporting::{ended, listed, proved, two};
+use certain_answers::discard;
 use currency_base::NoMemory;
 use current_claims::{
     Claims, CurrentPlace, CurrentRow, CurrentRowList, claims_of, first_difference,
@@ -49,7 +49,7 @@ pub(crate) fn same(
     requires spec { search.spec ≡ spec.now }
     requires asked { AreAskedRelations spec.now.relations rels.now }
     requires first { IsConsistent spec.now first }
-    requires wanted { search.wanted ≡ wanted_of (asked.Same rels.now) }
+    requires asked_for { IsSearchFor (asked.Same rels.now) search }
     requires units { counted_steps search.log.steps + units ≡ budget }
     ensures { IfOk result (IsReported spec.now (asked.Same rels.now) budget) }
 {
@@ -90,7 +90,7 @@ fn compared(
     requires asked { AreAskedRelations spec.now.relations rels.now }
     requires first { IsConsistent spec.now first }
     requires second { IsConsistent spec.now second }
-    requires wanted { search.wanted ≡ wanted_of (asked.Same rels.now) }
+    requires asked_for { IsSearchFor (asked.Same rels.now) search }
     requires units { counted_steps search.log.steps + units ≡ budget }
     ensures { IfOk result (IsReported spec.now (asked.Same rels.now) budget) }
 {
@@ -118,7 +118,7 @@ fn claimed(
     requires spec { search.spec ≡ spec.now }
     requires asked { AreAskedRelations spec.now.relations rels.now }
     requires first { IsConsistent spec.now first }
-    requires wanted { search.wanted ≡ wanted_of (asked.Same rels.now) }
+    requires asked_for { IsSearchFor (asked.Same rels.now) search }
     requires units { counted_steps search.log.steps + units ≡ budget }
     ensures { IfOk result (IsReported spec.now (asked.Same rels.now) budget) }
 {
@@ -176,7 +176,7 @@ fn reported(
     requires spec { search.spec ≡ spec.now }
     requires asked { AreAskedRelations spec.now.relations rels.now }
     requires first { IsConsistent spec.now first }
-    requires wanted { search.wanted ≡ wanted_of (asked.Same rels.now) }
+    requires asked_for { IsSearchFor (asked.Same rels.now) search }
     requires values { AreValuesIn spec.now rels.now first values }
     requires told { HasDecided search values.goals budget decided }
     ensures { IfOk result (IsReported spec.now (asked.Same rels.now) budget) }

@@ -3,7 +3,7 @@ ghost use Rattle.refutation_log.specs.Counted.{counted_steps};
 ghost use Rattle.order_search.specs.Searches.{HasGone, IsWantedRow};
 ghost use Rattle.spec_model.specs.Questions.{IsAskedPair};
 ghost use Rattle.order_links.specs.Lists.{IsListOf};
-ghost use Rattle.currency_ask.specs.Goals.{IsCurrentGoal, IsGoalOn, TellsGoal, TellsGoals};
+ghost use Rattle.currency_ask.specs.Goals.{IsCurrentGoal, IsListGoalOn, TellsGoal, TellsGoals};
 
 use crate::goal::{Goal, GoalList};
 use currency_base::NoMemory;
@@ -30,7 +30,7 @@ pub(crate) enum Decided {
     Ended(Outcome),
 }
 
-/// Decides goals one after another, up to the first that fails.
+/// Decides goals on pairs and on current values, one after another, up to the first that fails.
 pub(crate) fn decide_all(
     alloc: Global,
     spec: &Specification,
@@ -40,7 +40,7 @@ pub(crate) fn decide_all(
     guides: &mut Guides,
 ) -> Result<Decided, NoMemory>
     requires spec { search.old.spec ≡ spec.now }
-    requires goals { All (IsGoalOn search.old.spec search.old.wanted) goals.now }
+    requires goals { All (IsListGoalOn search.old.spec search.old.wanted) goals.now }
     ensures gone { HasGone search.old search.new }
     ensures units { counted_steps search.new.log.steps + units.new ≡ counted_steps search.old.log.steps + units.old }
     ensures told { IfOk result (TellsGoals search.new goals.now units.new) }
@@ -72,7 +72,7 @@ fn decide(
     guides: &mut Guides,
 ) -> Result<Outcome, NoMemory>
     requires spec { search.old.spec ≡ spec.now }
-    requires goal { IsGoalOn search.old.spec search.old.wanted goal }
+    requires goal { IsListGoalOn search.old.spec search.old.wanted goal }
     ensures gone { HasGone search.old search.new }
     ensures units { counted_steps search.new.log.steps + units.new ≡ counted_steps search.old.log.steps + units.old }
     ensures told { IfOk result (TellsGoal search.new goal units.new) }
@@ -80,6 +80,7 @@ fn decide(
     match goal {
         Goal::Pair(asked) => decide_pair(alloc, spec, search, asked, units, guides),
         Goal::Current(place) => decide_current(alloc, search, place, units, guides),
+        Goal::Answer(_) => unreachable!(),
     }
 }
 

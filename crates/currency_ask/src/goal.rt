@@ -9,6 +9,8 @@ pub(crate) enum Goal {
     Pair(Asked),
     /// The value of a row is the current one of its entity.
     Current(CurrentRow),
+    /// The tuple at a place of the log's answers is an answer of the query.
+    Answer(u32),
 }
 
 /// Goals, in the order in which they are decided.

@@ -2,11 +2,14 @@
 //! spent.
 #![tactic(auto)]
 
+mod answers;
 mod ask;
 mod currents;
 mod deciding;
+mod fault;
 mod goal;
 mod pairs;
 mod reporting;
 
 pub use ask::answer;
+pub use fault::AskFault;

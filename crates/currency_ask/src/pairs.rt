@@ -1,4 +1,4 @@
-ghost use Rattle.std.specs.Prelude.{◌≡◌, ◌+◌, ◌≤◌, ℕ, All, IfOk, IfSome, length, map, take};
+ghost use Rattle.std.specs.Prelude.{◌≡◌, ◌+◌, ◌≤◌, ℕ, All, IfOk, IfSome, None, length, map, take};
 ghost use Rattle.search_logs.specs.SearchLogs.{IsWithin};
 ghost use Rattle.spec_model.specs.Completion.{IsCompletion};
 ghost use Rattle.spec_model.specs.Consistent.{IsConsistent};
@@ -6,14 +6,15 @@ ghost use Rattle.spec_model.specs.Questions.{IsAskedPair};
 ghost use Rattle.spec_model.specs.declared.question.Question.TheVariants as asked;
 ghost use Rattle.refutation_log.specs.Counted.{counted_steps};
 ghost use Rattle.currency_ask.specs.Goals.{AreProved};
-ghost use Rattle.currency_ask.specs.Reported.{IsReported, nothing_wanted};
+ghost use Rattle.currency_ask.specs.Reported.{IsReported, IsSearchFor};
 ghost use Rattle.report_verify.specs.Right.{EachConsistent, PairHolds};
 ghost use Rattle.currency_ask.specs.Settled.{AreFirstPairs, FailsFirst, HasDecided, ProvedHold};
 
 use crate::deciding::{Decided, decide_all};
 use crate::goal::{Goal, GoalList};
-use crate::reporting::{discard, ended, listed, one, proved};
+use crate::reporting::{ended, listed, one, proved};
 use axiom_agreement::literals_agree;
+use certain_answers::discard;
 use currency_base::NoMemory;
 use order_search::Search;
 use ranked_pairs::pair_holds;
@@ -41,7 +42,7 @@ pub(crate) fn certain(
     requires spec { search.spec ≡ spec.now }
     requires asked { All (IsAskedPair spec.now.relations) pairs.now }
     requires first { IsConsistent spec.now first }
-    requires wanted { search.wanted ≡ nothing_wanted }
+    requires asked_for { IsSearchFor (asked.Certain pairs.now) search }
     requires units { counted_steps search.log.steps + units ≡ budget }
     ensures { IfOk result (IsReported spec.now (asked.Certain pairs.now) budget) }
 {
@@ -80,7 +81,7 @@ fn reported(
     requires spec { search.spec ≡ spec.now }
     requires asked { All (IsAskedPair spec.now.relations) pairs.now }
     requires first { IsConsistent spec.now first }
-    requires wanted { search.wanted ≡ nothing_wanted }
+    requires asked_for { IsSearchFor (asked.Certain pairs.now) search }
     requires failing { IfSome failing (FailsFirst pairs.now first) }
     requires goals { AreFirstPairs pairs.now failing goals.now }
     requires told { HasDecided search goals.now budget decided }
@@ -114,7 +115,7 @@ fn settled(
     requires spec { search.spec ≡ spec.now }
     requires asked { All (IsAskedPair spec.now.relations) pairs.now }
     requires first { IsConsistent spec.now first }
-    requires wanted { search.wanted ≡ nothing_wanted }
+    requires asked_for { IsSearchFor (asked.Certain pairs.now) search }
     requires failing { IfSome failing (FailsFirst pairs.now first) }
     requires goals { AreFirstPairs pairs.now failing goals.now }
     requires proved { AreProved search goals.now steps.now }
@@ -131,8 +132,9 @@ fn settled(
     }
 }
 
-// No work: pairs that a search has proved hold in every consistent completion.
+// No work: pairs that a search in which no query is posed has proved hold in every consistent completion.
 fn proved_pairs_hold(search: &Search<'_>)
+    requires { search.now.posed.query ≡ None }
     ensures { ProvedHold search.now }
 {
     literals_agree();

@@ -1,4 +1,4 @@
-ghost use Rattle.std.specs.Prelude.{◌≡◌, ◌∷◌, ℕ, [], All, Some, slice_get, IfOk};
+ghost use Rattle.std.specs.Prelude.{◌≡◌, ◌≤◌, ◌∷◌, ℕ, [], All, Some, length, slice_get, IfOk};
 ghost use Rattle.refutation_log.specs.Steps.{clauses_of};
 ghost use Rattle.report_verify.specs.Supported.{IsOneOf, needs_of};
 ghost use Rattle.report_write.specs.Writable.{IsWritableVerdict};
@@ -6,9 +6,8 @@ ghost use Rattle.search_logs.specs.SearchLogs.{HasFewSteps};
 ghost use Rattle.spec_model.specs.Completion.{Rankings};
 ghost use Rattle.spec_model.specs.Consistent.{IsConsistent};
 ghost use Rattle.spec_model.specs.declared.question.Question.{Question};
-ghost use Rattle.currency_ask.specs.Answered.{wanted_of};
 ghost use Rattle.currency_ask.specs.Goals.{AreClaims, AreProved, IsGoalOn};
-ghost use Rattle.currency_ask.specs.Reported.{HasEnded, HasSpent, IsClaiming, IsReported, ListsAlone};
+ghost use Rattle.currency_ask.specs.Reported.{HasEnded, HasSpent, IsListedFor, IsReported, IsSearchFor, ListsAlone};
 
 use crate::goal::GoalList;
 use axiom_agreement::{axioms_agree, literals_agree};
@@ -34,7 +33,7 @@ pub(crate) fn ended(
     budget: u64,
 ) -> Result<Report, NoMemory>
     requires { HasEnded search budget outcome }
-    ensures { (q : Question) → search.entry.wanted ≡ wanted_of q → IfOk result (IsReported search.entry.spec q budget) }
+    ensures { (q : Question) → IsSearchFor q search.entry → IfOk result (IsReported search.entry.spec q budget) }
 {
     search.is_search();
     match outcome {
@@ -49,7 +48,7 @@ pub(crate) fn ended(
 fn inconsistent(alloc: Global, search: Search<'_>, place: u32) -> Result<Report, NoMemory>
     requires few { HasFewSteps search.log }
     requires empty { slice_get (clauses_of search.log.steps) place ≡ Some [] }
-    ensures { (q : Question) (budget : ℕ) → search.entry.wanted ≡ wanted_of q → IfOk result (IsReported search.entry.spec q budget) }
+    ensures { (q : Question) (budget : ℕ) → IsSearchFor q search.entry → IfOk result (IsReported search.entry.spec q budget) }
 {
     search_logs_are_accepted();
     trimmed_logs_are_accepted();
@@ -71,7 +70,7 @@ fn inconsistent(alloc: Global, search: Search<'_>, place: u32) -> Result<Report,
 fn undecided(alloc: Global, search: Search<'_>, budget: u64) -> Report
     requires few { HasFewSteps search.log }
     requires spent { HasSpent search budget }
-    ensures { (q : Question) → search.entry.wanted ≡ wanted_of q → IsReported search.entry.spec q budget result }
+    ensures { (q : Question) → IsSearchFor q search.entry → IsReported search.entry.spec q budget result }
 {
     axioms_agree();
     counted_steps_are_few();
@@ -98,10 +97,10 @@ pub(crate) fn proved(
     requires goals { All (IsGoalOn search.spec search.wanted) goals.now }
     requires proved { AreProved search goals.now steps.now }
     requires consistent { IsConsistent search.spec completion }
-    requires claiming { IsClaiming verdict }
     requires writable { IsWritableVerdict search.spec.relations verdict }
-    ensures { (q : Question) (budget : ℕ) → search.entry.wanted ≡ wanted_of q → IsOneOf search.entry.spec q verdict
-        → AreClaims search.entry.spec goals.now (needs_of q verdict) → IfOk result (IsReported search.entry.spec q budget) }
+    ensures { (q : Question) (budget : ℕ) → IsSearchFor q search.entry → IsOneOf search.entry.spec q verdict
+        → AreClaims search.entry.spec search.entry.posed goals.now (needs_of q verdict)
+        → IsListedFor search.entry.spec q verdict (completion ∷ []) → IfOk result (IsReported search.entry.spec q budget) }
 {
     search.is_search();
     match one(alloc, completion) {
@@ -110,8 +109,8 @@ pub(crate) fn proved(
     }
 }
 
-// The same, with the list of the completion, where the steps have numbers.
-fn derived(
+/// The same, with a list of completions.
+pub(crate) fn derived(
     alloc: Global,
     search: Search<'_>,
     goals: &GoalList,
@@ -121,12 +120,35 @@ fn derived(
 ) -> Result<Report, NoMemory>
     requires goals { All (IsGoalOn search.spec search.wanted) goals.now }
     requires proved { AreProved search goals.now steps.now }
-    requires few { HasFewSteps search.log }
-    requires listed { (c : Rankings) × (completions ≡ c ∷ []) × IsConsistent search.spec c }
-    requires claiming { IsClaiming verdict }
+    requires listed { All (IsConsistent search.spec) completions }
+    requires few { length completions ≤ 4294967294 }
     requires writable { IsWritableVerdict search.spec.relations verdict }
-    ensures { (q : Question) (budget : ℕ) → search.entry.wanted ≡ wanted_of q → IsOneOf search.entry.spec q verdict
-        → AreClaims search.entry.spec goals.now (needs_of q verdict) → IfOk result (IsReported search.entry.spec q budget) }
+    ensures { (q : Question) (budget : ℕ) → IsSearchFor q search.entry → IsOneOf search.entry.spec q verdict
+        → AreClaims search.entry.spec search.entry.posed goals.now (needs_of q verdict)
+        → IsListedFor search.entry.spec q verdict completions → IfOk result (IsReported search.entry.spec q budget) }
+{
+    search.is_search();
+    trimmed(alloc, search, goals, steps, verdict, completions)
+}
+
+// The same, where the steps have numbers.
+fn trimmed(
+    alloc: Global,
+    search: Search<'_>,
+    goals: &GoalList,
+    steps: &HintList,
+    verdict: Verdict,
+    completions: CompletionList,
+) -> Result<Report, NoMemory>
+    requires goals { All (IsGoalOn search.spec search.wanted) goals.now }
+    requires proved { AreProved search goals.now steps.now }
+    requires few_steps { HasFewSteps search.log }
+    requires listed { All (IsConsistent search.spec) completions }
+    requires few { length completions ≤ 4294967294 }
+    requires writable { IsWritableVerdict search.spec.relations verdict }
+    ensures { (q : Question) (budget : ℕ) → IsSearchFor q search.entry → IsOneOf search.entry.spec q verdict
+        → AreClaims search.entry.spec search.entry.posed goals.now (needs_of q verdict)
+        → IsListedFor search.entry.spec q verdict completions → IfOk result (IsReported search.entry.spec q budget) }
 {
     search_logs_are_accepted();
     trimmed_logs_are_accepted();
@@ -144,12 +166,6 @@ fn derived(
         completions,
         log: needed.log,
     })
-}
-
-/// A search that is not needed any more. A path that let it go out of scope by itself would drop each of its lists in the
-/// goals of the function it stands in.
-pub(crate) fn discard(search: Search<'_>) {
-    let _log = search.log();
 }
 
 /// A list of one completion.

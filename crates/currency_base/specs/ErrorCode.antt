@@ -1,7 +1,7 @@
 -- The codes of refusals, as they are printed.
 use Rattle.std.specs.Prelude.{ℕ, List, codes}
 use Rattle.currency_base.specs.declared.error_code.ErrorCode.{ErrorCode}
-use Rattle.currency_base.specs.declared.error_code.ErrorCode.TheVariants.{NotUtf8, Syntax, UnknownName, DuplicateName, Mismatch, Ragged, MissingColumn, BadInt, DuplicateRow, UnknownRow, NotOneEntity, CopyTwice, CopyDiffers, Unbuilt}
+use Rattle.currency_base.specs.declared.error_code.ErrorCode.TheVariants.{NotUtf8, Syntax, UnknownName, DuplicateName, Mismatch, Ragged, MissingColumn, BadInt, DuplicateRow, UnknownRow, NotOneEntity, CopyTwice, CopyDiffers, UnsafeVariable}
 
 -- an `E` and two digits
 abbrev pub code_text : ErrorCode → List ℕ
@@ -18,4 +18,4 @@ code_text UnknownRow = codes "E10"
 code_text NotOneEntity = codes "E11"
 code_text CopyTwice = codes "E12"
 code_text CopyDiffers = codes "E13"
-code_text Unbuilt = codes "E16"
+code_text UnsafeVariable = codes "E15"

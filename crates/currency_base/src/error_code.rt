@@ -30,8 +30,8 @@ pub enum ErrorCode {
     CopyTwice,
     /// A row differs from the one that it is copied from.
     CopyDiffers,
-    /// A form that is not built yet.
-    Unbuilt,
+    /// A variable of a query's head or comparison stands in no atom.
+    UnsafeVariable,
 }
 
 impl ErrorCode {
@@ -53,7 +53,7 @@ impl ErrorCode {
             ErrorCode::NotOneEntity => "E11",
             ErrorCode::CopyTwice => "E12",
             ErrorCode::CopyDiffers => "E13",
-            ErrorCode::Unbuilt => "E16",
+            ErrorCode::UnsafeVariable => "E15",
         }
     }
 }

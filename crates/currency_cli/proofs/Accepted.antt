@@ -1,6 +1,8 @@
 -- What a command comes to, stage by stage: what is told is shown by the documents.
-use Rattle.std.proofs.Common.{◌≡◌, ℕ, Bool, true, false, not, if◌then◌else◌, List, [], Option, Some, None, IfOk, IfErr, IfSome, OnOk, All, Result, Ok, Err, inl, refl, sym, ap, subst}
-use Rattle.currency_ask.specs.Answered.{IsAnswerWithin, IsDecidedBy, NamesFirst}
+use Rattle.std.proofs.Common.{◌≡◌, ℕ, Bool, true, false, not, if◌then◌else◌, List, [], Option, Some, None, IfOk, IfErr, IfSome, OnOk, All, Result, Ok, Err, inl, inr, refl, sym, ap, subst}
+use Rattle.currency_ask.specs.Answered.{HasTooMany, IsAnswerWithin, IsDecidedBy, NamesFirst}
+use Rattle.currency_ask.specs.declared.fault.AskFault.{AskFault}
+use Rattle.currency_ask.specs.declared.fault.AskFault.TheVariants as fault
 use Rattle.currency_report.specs.declared.report.Lines.{Lines}
 use Rattle.currency_report.specs.declared.report.ReadReport.{ReadReport}
 use Rattle.currency_report.specs.Reads.{ReadsReport}
@@ -13,11 +15,13 @@ use Rattle.report_verify.specs.Shown.{ShowsVerdict}
 use Rattle.report_write.specs.Pieces.{report_pieces}
 use Rattle.report_write.specs.Writable.{HasTextNames, IsWritableReport}
 use Rattle.spec_model.specs.Facts.{AreRelations}
+use Rattle.spec_model.specs.Completion.{Rankings}
 use Rattle.spec_model.specs.Spec.{Spec}
 use Rattle.spec_model.specs.declared.question.Question.{Question}
 use Rattle.spec_model.specs.declared.relation.Relation.{Relation}
 use Rattle.text_write.specs.Pieces.{text_of}
-use Rattle.currency_cli.specs.Due.{IsSpecRead, IsQuestionRead, IsReportRead, IsVerifyDue, IsAnswer, IsAnswered, IsAskDue, IsForcedTold, IsForcedDue, IsDueFor, accepted, answer_text}
+use Rattle.currency_cli.specs.Stages.{IsSpecRead, IsQuestionRead, IsReportRead, IsAnswer, answer_text, ask_trouble}
+use Rattle.currency_cli.specs.Due.{IsVerifyDue, IsAnswered, IsAskDue, IsForcedTold, IsForcedDue, IsDueFor, accepted}
 use Rattle.currency_cli.specs.Ends.{IsReportShown, IsShownRight, IsAnswerTold}
 use Rattle.currency_cli.specs.Named.{IsSettled, IsDetermined}
 use Rattle.currency_cli.specs.Told.{IsTold, IsOutcomeOf}
@@ -28,6 +32,9 @@ use Rattle.currency_cli.specs.declared.trouble.Trouble.TheVariants as trouble
 
 same_done : (a b : Done) → ◌≡◌ {A = Result Done Trouble} (Ok a) (Ok b) → a ≡ b
 same_done a b e = cc
+
+pub done_apart : (d : Done) (e : Trouble) → ◌≡◌ {A = Result Done Trouble} (Ok d) (Err e) → ⊥
+done_apart d e same = cc
 
 -- ---- verify
 
@@ -80,7 +87,7 @@ pub record Answer (s : Spec) (q : Question) (budget : ℕ) (r : Report) : Type 0
   pub enough : IsDecidedBy s q budget r
   pub first : NamesFirst s q r.verdict
 
-is_answer : WrittenIsRead → (s : Spec) (q : Question) (budget : ℕ) (r : Report) → AreRelations s.relations → All HasTextNames s.relations
+pub is_answer : WrittenIsRead → (s : Spec) (q : Question) (budget : ℕ) (r : Report) → AreRelations s.relations → All HasTextNames s.relations
     → Answer s q budget r → IsAnswer s q budget r
 is_answer law s q budget r relations names a =
     let read : (lines : Lines) × ReadsReport s.relations (text_of (report_pieces s.relations r)) (record { report = r; lines = lines }) =
@@ -88,12 +95,24 @@ is_answer law s q budget r relations names a =
     record { shown = a.shown; right = a.right; lines = read.0; reread = read.1; within = a.within; enough = a.enough; first = a.first }
 
 -- a report that is told is an answer
-pub answered : WrittenIsRead → (s : Spec) (a : AskSaid) (q : Question) (r : Report) (outcome : Result Done Trouble)
-    → AreRelations s.relations → All HasTextNames s.relations → Answer s q a.budget r
+pub answered : (s : Spec) (a : AskSaid) (q : Question) (r : Report) (outcome : Result Done Trouble) → IsAnswer s q a.budget r
     → IfOk outcome (λ d. d ≡ done.Answered (answer_text s.relations a.brief r) (not (is_decided (kind_of r.verdict))))
     → IfErr outcome (λ e. e ≡ trouble.NoMemory) → IsSettled outcome → IsAnswered s a q outcome
-answered law s a q r (Ok d) relations names answer told memory settled = (r, is_answer law s q a.budget r relations names answer, ap Ok told)
-answered law s a q r (Err e) relations names answer told memory settled = absurd (subst IsDetermined memory settled)
+answered s a q r (Ok d) answer told memory settled = inl (r, answer, ap Ok told)
+answered s a q r (Err e) answer told memory settled = absurd (subst IsDetermined memory settled)
+
+-- where a query has too many answers, that is told
+pub too_many_told : (s : Spec) (q : Question) (told : AskFault) (e : Trouble)
+    → ((c : Rankings) → ◌≡◌ {A = Result Report AskFault} (Err told) (Err (fault.TooMany c)) → HasTooMany s q c)
+    → e ≡ ask_trouble told → IsDetermined e → (c : Rankings) × HasTooMany s q c × (e ≡ trouble.Limit 3)
+too_many_told s q (fault.TooMany c) e too_many is determined = (c, too_many c refl, is)
+too_many_told s q fault.NoMemory e too_many is determined = absurd (subst IsDetermined is determined)
+
+pub not_answered : (s : Spec) (a : AskSaid) (q : Question) (e : Trouble) → (IsDetermined e → (c : Rankings) × HasTooMany s q c × (e ≡ trouble.Limit 3))
+    → IsDetermined e → IsAnswered s a q (Err e)
+not_answered s a q e told determined =
+    let h : (c : Rankings) × HasTooMany s q c × (e ≡ trouble.Limit 3) = told determined in
+    inr (h.0, h.1, ap Err h.2)
 
 -- an answer is what `ask` comes to
 pub of_ask : (a : AskSaid) (text : List ℕ) (undecided : Bool) (outcome : Result Done Trouble) → IfOk outcome (λ d. d ≡ done.Answered text undecided)
@@ -116,14 +135,18 @@ answer_told told a s q r spec question answer = record {
   verified = λ name. (Ok (record { report = r; lines = answer.lines }), inl (record { report = r; lines = answer.lines }, answer.reread, refl), inl (answer.shown, refl));
 }
 
+told_answer : (told : List (List ℕ × List ℕ)) (a : AskSaid) (s : Spec) (q : Question) (d : Done) → IsSpecRead told a.spec (Ok s)
+    → IsQuestionRead told s.relations a.question (Ok q) → IsAnswered s a q (Ok d) → IsTold told (AskFor a) d
+told_answer told a s q d spec question (inl h) =
+    subst (λ (d : Done). IsTold told (AskFor a) d) (sym (same_done d _ h.2)) (answer_told told a s q h.0 spec question h.1)
+told_answer told a s q d spec question (inr h) = absurd (done_apart d (trouble.Limit 3) h.2)
+
 -- the stages together
 pub ask_told : (texts : Option (List (List ℕ × List ℕ))) (a : AskSaid) (s : Spec) (q : Question) (outcome : Result Done Trouble)
     → IfSome texts (λ told. IsSpecRead told a.spec (Ok s)) → IfSome texts (λ told. IsQuestionRead told s.relations a.question (Ok q))
     → (IsSettled outcome → IsAnswered s a q outcome) → IfOk outcome (λ d. IfSome texts (λ told. IsTold told (AskFor a) d))
 ask_told None a s q (Ok d) spec question job = tt
-ask_told (Some told) a s q (Ok d) spec question job =
-    let h = job tt in
-    subst (λ (d : Done). IsTold told (AskFor a) d) (sym (same_done d _ h.2)) (answer_told told a s q h.0 spec question h.1)
+ask_told (Some told) a s q (Ok d) spec question job = told_answer told a s q d spec question (job tt)
 ask_told texts a s q (Err e) spec question job = tt
 
 -- an answer is due

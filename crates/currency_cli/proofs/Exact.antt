@@ -1,10 +1,11 @@
 -- What is due is what the program comes to.
-use Rattle.std.proofs.Common.{◌≡◌, ◌⊎◌, ℕ, Bool, true, false, if◌then◌else◌, List, Option, Some, None, IfSome, Result, Ok, Err, subst, sym, refl, inl, inr}
+use Rattle.std.proofs.Common.{◌≡◌, ◌⊎◌, ℕ, Bool, true, false, if◌then◌else◌, List, Option, Some, None, IfSome, Result, Ok, Err, ◌∙◌, ap, subst, sym, refl, inl, inr}
 use Rattle.currency_edge.specs.Fault.{Rose}
 use Rattle.currency_cli.specs.Alike.{AreAlike}
 use Rattle.currency_cli.specs.Due.{IsDue}
-use Rattle.currency_cli.specs.Ends.{EndsWith, HasStatus, ComesTo, status_of, failed_status_of}
+use Rattle.currency_cli.specs.Ends.{EndsWith, HasStatus, HasFailedStatus, ComesTo, status_of, failed_status_of}
 use Rattle.currency_cli.specs.Named.{IsSettled, IsReadFault}
+use Rattle.currency_cli.specs.Texts.{trouble_status}
 use Rattle.currency_cli.specs.declared.done.Done.{Done}
 use Rattle.currency_cli.specs.declared.done.Done.TheVariants as done
 use Rattle.currency_cli.specs.declared.trouble.Trouble.{Trouble}
@@ -17,34 +18,49 @@ OneDue = (told : List (List ℕ × List ℕ)) (count : ℕ) (words : List (List 
 
 -- ---- the outcome that was come to is like the one that is due
 
-zero_or_three : (undecided : Bool) (status : ℕ) → status ≡ (if undecided then 3 else 0) → (status ≡ 0) ⊎ (status ≡ 3)
+pub zero_or_three : (undecided : Bool) (status : ℕ) → status ≡ (if undecided then 3 else 0) → (status ≡ 0) ⊎ (status ≡ 3)
 zero_or_three true status is = inr is
 zero_or_three false status is = inl is
 
+answer_status : (status : ℕ) → (status ≡ 0) ⊎ (status ≡ 3) → (status ≡ 0) ⊎ ((status ≡ 3) ⊎ (status ≡ 6))
+answer_status status (inl zero) = inl zero
+answer_status status (inr three) = inr (inl three)
+
 has_status : (got outcome : Result Done Trouble) (status : ℕ) → AreAlike got outcome → status ≡ status_of got → HasStatus outcome status
 has_status (Ok (done.Accepted kind)) outcome status alike is = subst (λ (o : Result Done Trouble). HasStatus o status) (sym alike) is
-has_status (Ok (done.Answered text undecided)) (Ok (done.Answered other_text other)) status alike is = zero_or_three undecided status is
+has_status (Ok (done.Answered text undecided)) (Ok (done.Answered other_text other)) status alike is = answer_status status (zero_or_three undecided status is)
 has_status (Ok (done.Answered text undecided)) (Ok (done.Accepted kind)) status alike is = absurd alike
 has_status (Ok (done.Answered text undecided)) (Ok (done.Forced other_text)) status alike is = absurd alike
-has_status (Ok (done.Answered text undecided)) (Err e) status alike is = absurd alike
+has_status (Ok (done.Answered text undecided)) (Err e) status alike is = inr (alike, zero_or_three undecided status is)
 has_status (Ok (done.Forced text)) (Ok (done.Forced other_text)) status alike is = is
 has_status (Ok (done.Forced text)) (Ok (done.Accepted kind)) status alike is = absurd alike
 has_status (Ok (done.Forced text)) (Ok (done.Answered other_text other)) status alike is = absurd alike
 has_status (Ok (done.Forced text)) (Err e) status alike is = absurd alike
-has_status (Err e) outcome status alike is = subst (λ (o : Result Done Trouble). HasStatus o status) (sym alike) is
+has_status (Err e) (Ok (done.Answered text undecided)) status alike is = inr (inr (is ∙ ap trouble_status alike))
+has_status (Err e) (Ok (done.Accepted kind)) status alike is = absurd alike
+has_status (Err e) (Ok (done.Forced text)) status alike is = absurd alike
+has_status (Err e) (Err f) status alike is = inl (is ∙ ap trouble_status alike)
 
-has_failed_status : (got outcome : Result Done Trouble) (status : ℕ) → AreAlike got outcome → status ≡ failed_status_of got → status ≡ failed_status_of outcome
-has_failed_status (Ok (done.Accepted kind)) outcome status alike is = subst (λ (o : Result Done Trouble). status ≡ failed_status_of o) (sym alike) is
-has_failed_status (Ok (done.Answered text undecided)) (Ok d) status alike is = is
-has_failed_status (Ok (done.Answered text undecided)) (Err e) status alike is = absurd alike
-has_failed_status (Ok (done.Forced text)) (Ok d) status alike is = is
+-- an outcome whose text met a failing sink: a refusal keeps its status
+has_failed_status : (got outcome : Result Done Trouble) (status : ℕ) → AreAlike got outcome → status ≡ failed_status_of got
+    → HasStatus outcome status ⊎ HasFailedStatus outcome status
+has_failed_status (Ok (done.Accepted kind)) outcome status alike is = inr (subst (λ (o : Result Done Trouble). HasFailedStatus o status) (sym alike) is)
+has_failed_status (Ok (done.Answered text undecided)) (Ok d) status alike is = inr is
+has_failed_status (Ok (done.Answered text undecided)) (Err e) status alike is = inr (inr (alike, is))
+has_failed_status (Ok (done.Forced text)) (Ok d) status alike is = inr is
 has_failed_status (Ok (done.Forced text)) (Err e) status alike is = absurd alike
-has_failed_status (Err e) outcome status alike is = subst (λ (o : Result Done Trouble). status ≡ failed_status_of o) (sym alike) is
+has_failed_status (Err e) outcome status alike is = inl (has_status (Err e) outcome status alike is)
+
+failed : (rb rn wb wn : ℕ) (outcome : Result Done Trouble) (status : ℕ) → HasStatus outcome status ⊎ HasFailedStatus outcome status → Rose wb wn
+    → ComesTo outcome rb rn wb wn status
+failed rb rn wb wn outcome status (inl h) rose = inl h
+failed rb rn wb wn outcome status (inr h) rose = inr (inl (h, rose))
 
 of_ends : (old new : Option (List ℕ)) (rb rn wb wn : ℕ) (got outcome : Result Done Trouble) (status : ℕ)
     → AreAlike got outcome → EndsWith old new wb wn got status → ComesTo outcome rb rn wb wn status
 of_ends old new rb rn wb wn got outcome status alike (inl h) = inl (has_status got outcome status alike h.0)
-of_ends old new rb rn wb wn got outcome status alike (inr (inl h)) = inr (inl (has_failed_status got outcome status alike h.0, h.1))
+of_ends old new rb rn wb wn got outcome status alike (inr (inl h)) =
+    failed rb rn wb wn outcome status (has_failed_status got outcome status alike h.0) h.1
 of_ends old new rb rn wb wn got outcome status alike (inr (inr h)) = inr (inr (inr h.0))
 
 -- ---- a document could not be read, or memory ran out
@@ -113,3 +129,32 @@ pub comes_to_its_own : (texts : Option (List (List ℕ × List ℕ))) (count : �
 comes_to_its_own None count words rb rn wb wn status exact reads writes outcome = tt
 comes_to_its_own (Some told) count words rb rn wb wn status exact reads writes outcome =
     λ due. steady outcome rb rn wb wn status reads writes (exact outcome due)
+
+-- its own status, where no count of faults rose
+own_at : (got : Result Done Trouble) (old new : Option (List ℕ)) (rb rn wb wn status : ℕ) → (IsReadFault got → Rose rb rn)
+    → EndsWith old new wb wn got status → (Rose rb rn → ⊥) → (Rose wb wn → ⊥)
+    → IsSettled got ⊎ ((e : Trouble) × (got ≡ Err e) × (IsSettled got → ⊥)) → (IsSettled got × (status ≡ status_of got)) ⊎ (status ≡ 9)
+own_at got old new rb rn wb wn status rose (inl h) reads writes (inl settled) = inl (settled, h.0)
+own_at got old new rb rn wb wn status rose (inr (inl h)) reads writes (inl settled) = absurd (writes h.1)
+own_at got old new rb rn wb wn status rose (inr (inr h)) reads writes (inl settled) = inr h.0
+own_at got old new rb rn wb wn status rose ends reads writes (inr h) =
+    nine (of_outside old new rb rn wb wn h.0 (Err trouble.NoMemory) status
+    (λ s. h.2 (subst IsSettled (sym h.1) s)) (λ f. rose (subst IsReadFault (sym h.1) f))
+    (subst (λ (o : Result Done Trouble). EndsWith old new wb wn o status) h.1 ends))
+  where
+    no_limit : trouble.NoMemory ≡ trouble.Limit 3 → ⊥
+    no_limit e = cc
+
+    has_nine : HasStatus (Err trouble.NoMemory) status → status ≡ 9
+    has_nine (inl is) = is
+    has_nine (inr is) = absurd (no_limit is.0)
+
+    nine : ComesTo (Err trouble.NoMemory) rb rn wb wn status → (IsSettled got × (status ≡ status_of got)) ⊎ (status ≡ 9)
+    nine (inl is) = inr (has_nine is)
+    nine (inr (inl is)) = absurd (writes is.1)
+    nine (inr (inr (inl is))) = absurd (reads is.1)
+    nine (inr (inr (inr is))) = inr is
+
+pub own_status : (got : Result Done Trouble) (old new : Option (List ℕ)) (rb rn wb wn status : ℕ) → (IsReadFault got → Rose rb rn)
+    → EndsWith old new wb wn got status → (Rose rb rn → ⊥) → (Rose wb wn → ⊥) → (IsSettled got × (status ≡ status_of got)) ⊎ (status ≡ 9)
+own_status got old new rb rn wb wn status rose ends reads writes = own_at got old new rb rn wb wn status rose ends reads writes (settled_or got)

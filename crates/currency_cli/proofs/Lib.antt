@@ -9,3 +9,5 @@ pub mod Refusals
 pub mod Replies
 pub mod WholeTexts
 pub mod StageLemmas
+pub mod Trials
+pub mod InRange

@@ -1,5 +1,5 @@
 -- What is due is determined: words and told documents have one outcome.
-use Rattle.std.proofs.Common.{◌≡◌, ◌∙◌, ℕ, Bool, List, Option, Some, None, MatchOption, MatchResult, Result, Ok, Err, sym, subst, ap, inl, inr, arith}
+use Rattle.std.proofs.Common.{◌≡◌, ◌∙◌, ℕ, Bool, List, [], ◌∷◌, codes, Option, Some, None, MatchOption, MatchResult, Result, Ok, Err, refl, sym, subst, ap, inl, inr, arith}
 use Rattle.currency_edge.specs.Shelf.{document}
 use Rattle.text_tokens.specs.declared.token.TextFault.{TextFault}
 use Rattle.spec_syntax.specs.Texts.{ReadsSpec, RefusesSpec}
@@ -21,9 +21,12 @@ use Rattle.report_model.specs.declared.report.Report.{Report}
 use Rattle.currency_report.specs.declared.report.ReportFault.{ReportFault}
 use Rattle.report_verify.specs.Shown.{ShowsVerdict, IsFirstUnshown}
 use Rattle.report_verify.specs.declared.fault.Unshown.{Unshown}
-use Rattle.currency_cli.specs.Due.{Then, Within, IsSpecTree, IsSpecBound, IsSpecSaid, IsSpecRead, IsQuestionTree, IsQuestionOf, IsQuestionSaid, IsQuestionRead, IsReportSaid, IsReportRead, IsJudged, IsVerifyDue, IsAnswered, IsAskDue, IsForcedTold, IsForcedDue, IsDueFor, IsDue, accepted, text_trouble, bind_trouble, report_trouble}
-use Rattle.program_words.specs.Words.{AskSaid, VerifySaid, CommandSaid, AskFor, VerifyOf, ForcedOf}
+use Rattle.currency_cli.specs.Stages.{Then, Within, IsSpecTree, IsSpecBound, IsSpecSaid, IsSpecRead, IsQuestionTree, IsQuestionOf, IsQuestionSaid, IsQuestionRead, IsReportSaid, IsReportRead, IsJudged, text_trouble, bind_trouble, report_trouble}
+use Rattle.currency_cli.specs.Due.{IsVerifyDue, IsAnswered, IsAskDue, IsForcedTold, IsForcedDue, IsDueFor, IsDue, accepted}
+use Rattle.program_words.specs.Words.{AskSaid, VerifySaid, CommandSaid, AskFor, VerifyOf, ForcedOf, TrialOf}
+use Rattle.trial_documents.specs.Documents.{documents}
 use Rattle.currency_cli.specs.Alike.{AreAlike}
+use Rattle.currency_cli.specs.Trial.{AreQuestionsRead, AreTried, IsTrialDueOver}
 use Rattle.currency_cli.specs.Words.{command_for}
 use Rattle.currency_cli.specs.declared.done.Done.{Done}
 use Rattle.currency_cli.specs.declared.done.Done.TheVariants as done
@@ -42,12 +45,16 @@ pub record Readings : Type 0 where
   pub question_binding : (told : List (List ℕ × List ℕ)) (relations : List Relation) (t : QuestionTree) (a b : Result Question BindFault)
       → IsQuestionBound told relations t a → IsQuestionBound told relations t b → a ≡ b
 
--- and of one reading of a report, and one first failing check
-pub record Laws : Type 0 where
-  pub readings : Readings
+-- and of one reading of a report
+pub record ReportReadings : Type 0 where
   pub report_tree : (source : List ℕ) (a b : ReportTree) → ReadsReportText source a → ReadsReportText source b → a ≡ b
   pub report_refusal : (source : List ℕ) (e f : TextFault) → RefusesReportText source e → RefusesReportText source f → e ≡ f
   pub report_not_both : (source : List ℕ) (t : ReportTree) (e : TextFault) → ReadsReportText source t → RefusesReportText source e → ⊥
+
+-- and of one first failing check
+pub record Laws : Type 0 where
+  pub readings : Readings
+  pub reports : ReportReadings
   pub unshown : (s : Spec) (q : Question) (r : Report) (p p' : Part) (why why' : Unshown)
       → IsFirstUnshown s q r p why → IsFirstUnshown s q r p' why' → (p ≡ p') × (why ≡ why')
   pub not_shown : (s : Spec) (q : Question) (r : Report) (p : Part) (why : Unshown) → IsFirstUnshown s q r p why → ShowsVerdict s q r → ⊥
@@ -128,29 +135,32 @@ question_read_one laws told relations name =
     (question_bound_one laws told relations name))
 
 -- two trees of one text say the same
-said_same : Laws → (relations : List Relation) (bytes : List ℕ) (t u : ReportTree) (a b : Result ReadReport ReportFault)
+said_same : ReportReadings → (relations : List Relation) (bytes : List ℕ) (t u : ReportTree) (a b : Result ReadReport ReportFault)
     → ReadsReportText bytes t → ReadsReportText bytes u → said relations t ≡ a → said relations u ≡ b → a ≡ b
 said_same laws relations bytes t u a b read read_too says says_too =
     sym says ∙ ap (said relations) (laws.report_tree bytes t u read read_too) ∙ says_too
 
-refusal_one : Laws → (relations : List Relation) (bytes : List ℕ) (e f : ReportFault) → RefusesReport relations bytes e → RefusesReport relations bytes f → e ≡ f
+refusal_one : ReportReadings → (relations : List Relation) (bytes : List ℕ) (e f : ReportFault) → RefusesReport relations bytes e → RefusesReport relations bytes f → e ≡ f
 refusal_one laws relations bytes e f (inl h) (inl k) = h.2 ∙ ap fault_of (laws.report_refusal bytes h.0 k.0 h.1 k.1) ∙ sym k.2
 refusal_one laws relations bytes e f (inl h) (inr k) = absurd (laws.report_not_both bytes k.tree h.0 k.spelled h.1)
 refusal_one laws relations bytes e f (inr h) (inl k) = absurd (laws.report_not_both bytes h.tree k.0 h.spelled k.1)
 refusal_one laws relations bytes e f (inr h) (inr k) =
     err_same e f (said_same laws relations bytes h.tree k.tree (Err e) (Err f) h.spelled k.spelled h.refuses k.refuses)
 
-not_refused : Laws → (relations : List Relation) (bytes : List ℕ) (r : ReadReport) (e : ReportFault) → ReadsReport relations bytes r → RefusesReport relations bytes e → ⊥
+not_refused : ReportReadings → (relations : List Relation) (bytes : List ℕ) (r : ReadReport) (e : ReportFault) → ReadsReport relations bytes r → RefusesReport relations bytes e → ⊥
 not_refused laws relations bytes r e read (inl h) = laws.report_not_both bytes read.tree h.0 read.spelled h.1
 not_refused laws relations bytes r e read (inr h) =
     apart r e (said_same laws relations bytes read.tree h.tree (Ok r) (Err e) read.spelled h.spelled read.says h.refuses)
 
-report_one : Laws → (relations : List Relation) (name bytes : List ℕ) → IsOne (IsReportSaid relations name bytes)
+pub report_one : ReportReadings → (relations : List Relation) (name bytes : List ℕ) → IsOne (IsReportSaid relations name bytes)
 report_one laws relations name bytes a b (inl h) (inl k) =
     h.2 ∙ ap Ok (ok_same h.0 k.0 (said_same laws relations bytes h.1.tree k.1.tree (Ok h.0) (Ok k.0) h.1.spelled k.1.spelled h.1.says k.1.says)) ∙ sym k.2
 report_one laws relations name bytes a b (inl h) (inr k) = absurd (not_refused laws relations bytes h.0 k.0 h.1 k.1)
 report_one laws relations name bytes a b (inr h) (inl k) = absurd (not_refused laws relations bytes k.0 h.0 k.1 h.1)
 report_one laws relations name bytes a b (inr h) (inr k) = h.2 ∙ ap (λ f. Err (report_trouble name f)) (refusal_one laws relations bytes h.0 k.0 h.1 k.1) ∙ sym k.2
+
+pub report_read_one : ReportReadings → (told : List (List ℕ × List ℕ)) (relations : List Relation) (name : List ℕ) → IsOne (IsReportRead told relations name)
+report_read_one laws told relations name = report_one laws relations name (document told name)
 
 judged_one : Laws → (s : Spec) (q : Question) (name : List ℕ) (r : ReadReport) → IsOne (IsJudged s q name r)
 judged_one laws s q name r a b (inl h) (inl k) = h.1 ∙ sym k.1
@@ -174,7 +184,7 @@ pub same_alike : (a b : Result Done Trouble) → a ≡ b → AreAlike a b
 same_alike (Ok (done.Accepted kind)) b same = sym same
 same_alike (Ok (done.Answered text undecided)) b same = subst (AreAlike (Ok (done.Answered text undecided))) same tt
 same_alike (Ok (done.Forced text)) b same = subst (AreAlike (Ok (done.Forced text))) same tt
-same_alike (Err e) b same = sym same
+same_alike (Err e) b same = subst (AreAlike (Err e)) same refl
 
 answers_alike : (text other_text : List ℕ) (undecided other : Bool) (a b : Result Done Trouble)
     → a ≡ Ok (done.Answered text undecided) → b ≡ Ok (done.Answered other_text other) → AreAlike a b
@@ -204,11 +214,24 @@ verify_one : Laws → (told : List (List ℕ × List ℕ)) (v : VerifySaid) → 
 verify_one laws told v =
     then_one (IsSpecRead told v.spec) _ (spec_read_one laws.readings told v.spec) (λ s.
     then_one (IsQuestionRead told s.relations v.question) _ (question_read_one laws.readings told s.relations v.question) (λ question.
-    then_one (IsReportRead told s.relations v.report) _ (report_one laws s.relations v.report (document told v.report))
+    then_one (IsReportRead told s.relations v.report) _ (report_one laws.reports s.relations v.report (document told v.report))
     (judged_one laws s question v.report)))
 
+answer_or_limit : (text : List ℕ) (undecided : Bool) (a b : Result Done Trouble) → a ≡ Ok (done.Answered text undecided) → b ≡ Err (trouble.Limit 3) → AreAlike a b
+answer_or_limit text undecided a b h k =
+    subst (λ (o : Result Done Trouble). AreAlike o b) (sym h)
+    (subst (λ (o : Result Done Trouble). AreAlike (Ok (done.Answered text undecided)) o) (sym k) refl)
+
+limit_or_answer : (text : List ℕ) (undecided : Bool) (a b : Result Done Trouble) → a ≡ Err (trouble.Limit 3) → b ≡ Ok (done.Answered text undecided) → AreAlike a b
+limit_or_answer text undecided a b h k =
+    subst (λ (o : Result Done Trouble). AreAlike o b) (sym h)
+    (subst (λ (o : Result Done Trouble). AreAlike (Err (trouble.Limit 3)) o) (sym k) refl)
+
 answered_like : (s : Spec) (a : AskSaid) (q : Question) → IsLike (IsAnswered s a q)
-answered_like s a q x y h k = answers_alike _ _ _ _ x y h.2 k.2
+answered_like s a q x y (inl h) (inl k) = answers_alike _ _ _ _ x y h.2 k.2
+answered_like s a q x y (inl h) (inr k) = answer_or_limit _ _ x y h.2 k.2
+answered_like s a q x y (inr h) (inl k) = limit_or_answer _ _ x y h.2 k.2
+answered_like s a q x y (inr h) (inr k) = same_alike x y (h.2 ∙ sym k.2)
 
 ask_like : Laws → (told : List (List ℕ × List ℕ)) (a : AskSaid) → IsLike (IsAskDue told a)
 ask_like laws told a =
@@ -221,10 +244,39 @@ forced_told_like s x y h k = forced_alike _ _ x y h.2 k.2
 forced_like : Laws → (told : List (List ℕ × List ℕ)) (name : List ℕ) → IsLike (IsForcedDue told name)
 forced_like laws told name = then_like (IsSpecRead told name) IsForcedTold (spec_read_one laws.readings told name) forced_told_like
 
+-- each outcome of `trial` is a text, or that a query has too many answers
+tried_like : (size : ℕ) (s : Spec) (questions : List Question) → IsLike (AreTried size s questions)
+tried_like size s questions x y (inl h) (inl k) = answers_alike _ _ _ _ x y h.is_text k.is_text
+tried_like size s questions x y (inl h) (inr (inl k)) = answers_alike _ _ _ _ x y h.is_text k.is_text
+tried_like size s questions x y (inl h) (inr (inr k)) = answer_or_limit _ _ x y h.is_text k.is_limit
+tried_like size s questions x y (inr (inl h)) (inl k) = answers_alike _ _ _ _ x y h.is_text k.is_text
+tried_like size s questions x y (inr (inl h)) (inr (inl k)) = answers_alike _ _ _ _ x y h.is_text k.is_text
+tried_like size s questions x y (inr (inl h)) (inr (inr k)) = answer_or_limit _ _ x y h.is_text k.is_limit
+tried_like size s questions x y (inr (inr h)) (inl k) = limit_or_answer _ _ x y h.is_limit k.is_text
+tried_like size s questions x y (inr (inr h)) (inr (inl k)) = limit_or_answer _ _ x y h.is_limit k.is_text
+tried_like size s questions x y (inr (inr h)) (inr (inr k)) = same_alike x y (h.is_limit ∙ sym k.is_limit)
+
+same_list : (a b c d : Question) → IsOne (λ (o : Result (List Question) Trouble). o ≡ Ok (a ∷ b ∷ c ∷ d ∷ []))
+same_list a b c d x y h k = h ∙ sym k
+
+questions_one : Readings → (told : List (List ℕ × List ℕ)) (relations : List Relation) → IsOne (AreQuestionsRead told relations)
+questions_one laws told relations =
+    then_one (IsQuestionRead told relations (codes "q1")) _ (question_read_one laws told relations (codes "q1")) (λ a.
+    then_one (IsQuestionRead told relations (codes "q2")) _ (question_read_one laws told relations (codes "q2")) (λ b.
+    then_one (IsQuestionRead told relations (codes "q3")) _ (question_read_one laws told relations (codes "q3")) (λ c.
+    then_one (IsQuestionRead told relations (codes "q4")) _ (question_read_one laws told relations (codes "q4")) (λ d.
+    same_list a b c d))))
+
+trial_like : Laws → (told : List (List ℕ × List ℕ)) (size : ℕ) → IsLike (IsTrialDueOver told size)
+trial_like laws told size =
+    then_like (IsSpecRead told (codes "spec")) _ (spec_read_one laws.readings told (codes "spec")) (λ s.
+    then_like (AreQuestionsRead told s.relations) (AreTried size s) (questions_one laws.readings told s.relations) (tried_like size s))
+
 for_command : Laws → (told : List (List ℕ × List ℕ)) (c : CommandSaid) → IsLike (IsDueFor told c)
 for_command laws told (VerifyOf v) a b h k = same_alike a b (h.2 ∙ ap accepted (verify_one laws told v h.0 k.0 h.1 k.1) ∙ sym k.2)
 for_command laws told (AskFor q) a b h k = ask_like laws told q a b h k
 for_command laws told (ForcedOf name) a b h k = forced_like laws told name a b h k
+for_command laws told (TrialOf size) a b h k = trial_like laws (documents size) size a b h k
 
 for_words : Laws → (told : List (List ℕ × List ℕ)) (o : Option CommandSaid) (a b : Result Done Trouble)
     → MatchOption o (a ≡ Err trouble.Words) (λ c. IsDueFor told c a) → MatchOption o (b ≡ Err trouble.Words) (λ c. IsDueFor told c b) → AreAlike a b

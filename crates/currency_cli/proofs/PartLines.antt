@@ -1,5 +1,5 @@
 -- The part of a report that a refusal is about is there, so it has a line.
-use Rattle.std.proofs.Common.{◌≡◌, ◌+◌, ◌<◌, ◌≤◌, ℕ, List, [], ◌∷◌, All, Some, length, slice_get, subst, arith}
+use Rattle.std.proofs.Common.{◌≡◌, ◌+◌, ◌<◌, ◌≤◌, ℕ, List, [], ◌∷◌, All, Option, Some, length, slice_get, subst, arith}
 use Rattle.std.proofs.lemmas.List.Elements.{All-nil, All-cons, All-append, All-map}
 use Rattle.std.proofs.lemmas.Option.{get_or_from_slice_get, slice_get_within}
 use Rattle.currency_base.specs.declared.ids.EntId.{EntId}
@@ -11,6 +11,9 @@ use Rattle.currency_report.specs.declared.report.Lines.{Lines}
 use Rattle.log_checker.specs.Accepted.{FailsAt, IsFirstFault}
 use Rattle.log_checker.specs.declared.fault.LogFault.{LogFault}
 use Rattle.log_checker.specs.declared.fault.LogFault.TheVariants as log
+use Rattle.log_axioms.specs.Posed.{Posed, posed_by}
+use Rattle.query_model.specs.declared.query.Query.{Query}
+use Rattle.refutation_log.specs.declared.log.Log.{Log}
 use Rattle.refutation_log.specs.declared.statement.Statement.{Statement}
 use Rattle.refutation_log.specs.declared.step.Step.{Step}
 use Rattle.refutation_log.specs.declared.step.Step.TheVariants as step
@@ -21,8 +24,9 @@ use Rattle.report_model.specs.declared.report.Report.{Report}
 use Rattle.report_model.specs.declared.verdict.Current.{Current}
 use Rattle.report_model.specs.declared.verdict.Verdict.{Verdict}
 use Rattle.report_model.specs.declared.verdict.Verdict.TheVariants as verdict
+use Rattle.report_verify.specs.Asked.{query_of}
 use Rattle.report_verify.specs.Shown.{IsFirstUnderived, IsFirstUnshown, step_of_fault}
-use Rattle.report_verify.specs.Supported.{Need, Holds, item_needs, needs_of, pair_needs, value_needs}
+use Rattle.report_verify.specs.Supported.{Need, Holds, answer_needs, item_needs, needs_of, pair_needs, value_needs}
 use Rattle.report_verify.specs.declared.fault.Missing.{Missing}
 use Rattle.report_verify.specs.declared.fault.Missing.TheVariants as missing
 use Rattle.report_verify.specs.declared.fault.Unshown.{Unshown}
@@ -61,6 +65,11 @@ items_claimed items at (item ∷ list) few =
     All-append (IsClaimed items) (value_needs at item.rel item.ent 0 item.values) (item_needs (at + 1) list)
     (values_claimed items at item.rel item.ent 0 item.values (omega (arith, few))) (items_claimed items (at + 1) list (omega (arith, few)))
 
+answers_claimed : (items at : ℕ) (tuples : List (List Value)) → at + length tuples ≤ items → All (IsClaimed items) (answer_needs at tuples)
+answers_claimed items at [] few = All-nil (IsClaimed items)
+answers_claimed items at (tuple ∷ tuples) few =
+    All-cons (IsClaimed items) _ (answer_needs (at + 1) tuples) (omega (arith, few)) (answers_claimed items (at + 1) tuples (omega (arith, few)))
+
 -- each claim of a verdict is made by it or by one of its items
 needs_claimed : (q : Question) (v : Verdict) → All (IsClaimed (item_count v)) (needs_of q v)
 needs_claimed asked.Consistent verdict.Inconsistent = All-nil (IsClaimed 0)
@@ -69,7 +78,7 @@ needs_claimed asked.Consistent verdict.Certain = All-nil (IsClaimed 0)
 needs_claimed asked.Consistent (verdict.NotCertain p) = All-nil (IsClaimed 0)
 needs_claimed asked.Consistent (verdict.Same items) = items_claimed (length items) 0 items (omega arith)
 needs_claimed asked.Consistent (verdict.NotSame rel attr ent) = All-nil (IsClaimed 0)
-needs_claimed asked.Consistent (verdict.Answers tuples) = All-nil (IsClaimed (length tuples))
+needs_claimed asked.Consistent (verdict.Answers tuples) = answers_claimed (length tuples) 0 tuples (omega arith)
 needs_claimed asked.Consistent (verdict.Undecided counted) = All-nil (IsClaimed 0)
 needs_claimed (asked.Certain pairs) verdict.Inconsistent = All-nil (IsClaimed 0)
 needs_claimed (asked.Certain pairs) verdict.Consistent = All-nil (IsClaimed 0)
@@ -77,7 +86,7 @@ needs_claimed (asked.Certain pairs) verdict.Certain = pairs_claimed 0 pairs
 needs_claimed (asked.Certain pairs) (verdict.NotCertain p) = All-nil (IsClaimed 0)
 needs_claimed (asked.Certain pairs) (verdict.Same items) = items_claimed (length items) 0 items (omega arith)
 needs_claimed (asked.Certain pairs) (verdict.NotSame rel attr ent) = All-nil (IsClaimed 0)
-needs_claimed (asked.Certain pairs) (verdict.Answers tuples) = All-nil (IsClaimed (length tuples))
+needs_claimed (asked.Certain pairs) (verdict.Answers tuples) = answers_claimed (length tuples) 0 tuples (omega arith)
 needs_claimed (asked.Certain pairs) (verdict.Undecided counted) = All-nil (IsClaimed 0)
 needs_claimed (asked.Same rels) verdict.Inconsistent = All-nil (IsClaimed 0)
 needs_claimed (asked.Same rels) verdict.Consistent = All-nil (IsClaimed 0)
@@ -85,8 +94,16 @@ needs_claimed (asked.Same rels) verdict.Certain = All-nil (IsClaimed 0)
 needs_claimed (asked.Same rels) (verdict.NotCertain p) = All-nil (IsClaimed 0)
 needs_claimed (asked.Same rels) (verdict.Same items) = items_claimed (length items) 0 items (omega arith)
 needs_claimed (asked.Same rels) (verdict.NotSame rel attr ent) = All-nil (IsClaimed 0)
-needs_claimed (asked.Same rels) (verdict.Answers tuples) = All-nil (IsClaimed (length tuples))
+needs_claimed (asked.Same rels) (verdict.Answers tuples) = answers_claimed (length tuples) 0 tuples (omega arith)
 needs_claimed (asked.Same rels) (verdict.Undecided counted) = All-nil (IsClaimed 0)
+needs_claimed (asked.Answers query) verdict.Inconsistent = All-nil (IsClaimed 0)
+needs_claimed (asked.Answers query) verdict.Consistent = All-nil (IsClaimed 0)
+needs_claimed (asked.Answers query) verdict.Certain = All-nil (IsClaimed 0)
+needs_claimed (asked.Answers query) (verdict.NotCertain p) = All-nil (IsClaimed 0)
+needs_claimed (asked.Answers query) (verdict.Same items) = items_claimed (length items) 0 items (omega arith)
+needs_claimed (asked.Answers query) (verdict.NotSame rel attr ent) = All-nil (IsClaimed 0)
+needs_claimed (asked.Answers query) (verdict.Answers tuples) = answers_claimed (length tuples) 0 tuples (omega arith)
+needs_claimed (asked.Answers query) (verdict.Undecided counted) = All-nil (IsClaimed 0)
 
 all_at : {A : Type 0} (P : A → Type 0) (xs : List A) (i : ℕ) (x : A) → All P xs → slice_get xs i ≡ Some x → P x
 all_at P xs i x all at = subst P (get_or_from_slice_get xs i x x at) (all i x (slice_get_within xs i x at))
@@ -129,26 +146,26 @@ lacking_part s q r (part.Step place) missing.WrongCount first = absurd first
 -- ---- steps
 
 -- the step that fails is the one that its fault names
-failing_step : (s : Spec) (statements : List Statement) (earlier : List (List Lit)) (at : ℕ) (st : Step) (fault : LogFault) (named : ℕ)
-    → FailsAt s statements earlier at st fault → step_of_fault fault ≡ Some named → named ≡ at
-failing_step s statements earlier at (step.Axiom label lits) (log.NotAnAxiom n) named fails is = let same = fails.0 in cc
-failing_step s statements earlier at (step.Axiom label lits) (log.NotDerived n place) named fails is = absurd fails
-failing_step s statements earlier at (step.Axiom label lits) (log.UnknownHint n) named fails is = absurd fails
-failing_step s statements earlier at (step.Axiom label lits) log.NoMemory named fails is = absurd fails
-failing_step s statements earlier at (step.OnDemand label lits) (log.NotAnAxiom n) named fails is = let same = fails.0 in cc
-failing_step s statements earlier at (step.OnDemand label lits) (log.NotDerived n place) named fails is = absurd fails
-failing_step s statements earlier at (step.OnDemand label lits) (log.UnknownHint n) named fails is = absurd fails
-failing_step s statements earlier at (step.OnDemand label lits) log.NoMemory named fails is = absurd fails
-failing_step s statements earlier at (step.Learn lits hints counted) (log.NotAnAxiom n) named fails is = absurd fails
-failing_step s statements earlier at (step.Learn lits hints counted) (log.NotDerived n place) named fails is = let same = fails.0 in cc
-failing_step s statements earlier at (step.Learn lits hints counted) (log.UnknownHint n) named fails is = let same = fails.0 in cc
-failing_step s statements earlier at (step.Learn lits hints counted) log.NoMemory named fails is = absurd fails
+failing_step : (s : Spec) (posed : Posed) (statements : List Statement) (earlier : List (List Lit)) (at : ℕ) (st : Step) (fault : LogFault) (named : ℕ)
+    → FailsAt s posed statements earlier at st fault → step_of_fault fault ≡ Some named → named ≡ at
+failing_step s posed statements earlier at (step.Axiom label lits) (log.NotAnAxiom n) named fails is = let same = fails.0 in cc
+failing_step s posed statements earlier at (step.Axiom label lits) (log.NotDerived n place) named fails is = absurd fails
+failing_step s posed statements earlier at (step.Axiom label lits) (log.UnknownHint n) named fails is = absurd fails
+failing_step s posed statements earlier at (step.Axiom label lits) log.NoMemory named fails is = absurd fails
+failing_step s posed statements earlier at (step.OnDemand label lits) (log.NotAnAxiom n) named fails is = let same = fails.0 in cc
+failing_step s posed statements earlier at (step.OnDemand label lits) (log.NotDerived n place) named fails is = absurd fails
+failing_step s posed statements earlier at (step.OnDemand label lits) (log.UnknownHint n) named fails is = absurd fails
+failing_step s posed statements earlier at (step.OnDemand label lits) log.NoMemory named fails is = absurd fails
+failing_step s posed statements earlier at (step.Learn lits hints counted) (log.NotAnAxiom n) named fails is = absurd fails
+failing_step s posed statements earlier at (step.Learn lits hints counted) (log.NotDerived n place) named fails is = let same = fails.0 in cc
+failing_step s posed statements earlier at (step.Learn lits hints counted) (log.UnknownHint n) named fails is = let same = fails.0 in cc
+failing_step s posed statements earlier at (step.Learn lits hints counted) log.NoMemory named fails is = absurd fails
 
-step_there : (s : Spec) (statements : List Statement) (steps : List Step) (fault : LogFault) (named : ℕ) → IsFirstFault s statements steps fault
-    → step_of_fault fault ≡ Some named → named < length steps
-step_there s statements steps fault named first is =
-    let same = failing_step s statements _ first.place first.step fault named first.fails is in
-    omega (arith, same, slice_get_within steps first.place first.step first.is_step)
+step_there : (s : Spec) (query : Option Query) (l : Log) (fault : LogFault) (named : ℕ) → IsFirstFault s query l fault
+    → step_of_fault fault ≡ Some named → named < length l.steps
+step_there s query l fault named first is =
+    let same = failing_step s (posed_by query l) l.statements _ first.place first.step fault named first.fails is in
+    omega (arith, same, slice_get_within l.steps first.place first.step first.is_step)
 
 -- ---- the line
 
@@ -171,4 +188,4 @@ part_there s q r lines part.Verdict (why.BadLog fault) are first = tt
 part_there s q r lines (part.Item place) (why.BadLog fault) are first = absurd first
 part_there s q r lines (part.Completion place) (why.BadLog fault) are first = absurd first
 part_there s q r lines (part.Step place) (why.BadLog fault) are first =
-    omega (arith, are.steps, step_there s r.log.statements r.log.steps fault place first.first first.at_step)
+    omega (arith, are.steps, step_there s (query_of q) r.log fault place first.first first.at_step)

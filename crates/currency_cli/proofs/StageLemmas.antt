@@ -11,7 +11,8 @@ use Rattle.question_syntax.specs.declared.trees.QuestionTree.{QuestionTree}
 use Rattle.spec_syntax.specs.declared.trees.SpecTree.{SpecTree}
 use Rattle.bound_spec.specs.Growth.{nothing}
 use Rattle.spec_bind.specs.Bound.{TableDue}
-use Rattle.currency_cli.specs.Due.{IsSpecTree, IsSpecSaid, IsSaidTableDue, IsQuestionTree, IsQuestionSaid, IsQuestionSaidTableDue, bind_trouble}
+use Rattle.currency_cli.specs.Stages.{IsSpecTree, IsSpecSaid, IsQuestionTree, IsQuestionSaid, bind_trouble}
+use Rattle.currency_cli.specs.Due.{IsSaidTableDue, IsQuestionSaidTableDue}
 use Rattle.currency_cli.specs.Named.{IsUnread}
 use Rattle.currency_cli.specs.declared.trouble.Trouble.TheVariants as trouble
 use Rattle.currency_cli.specs.declared.trouble.Trouble.{Trouble}

@@ -1,7 +1,7 @@
 -- What holds of the bytes that were read holds of the document, which they are.
 use Rattle.std.proofs.Common.{◌≡◌, ◌≤◌, ℕ, List, length, Option, Some, None, IfSome, Result, subst, inr}
 use Rattle.currency_edge.specs.Shelf.{document}
-use Rattle.currency_cli.specs.Due.{Within}
+use Rattle.currency_cli.specs.Stages.{Within}
 use Rattle.currency_cli.specs.declared.trouble.Trouble.{Trouble}
 
 pub of_document : {A : Type 0} (told : Option (List (List ℕ × List ℕ))) (name bytes : List ℕ) (bound : ℕ)

@@ -1,30 +1,35 @@
 -- How the program ends: with which status, and what its sink got.
-use Rattle.std.specs.Prelude.{◌≡◌, ◌⊎◌, ℕ, Bool, true, false, if◌then◌else◌, List, Option, Some, IfSome, Result, Ok, Err}
+use Rattle.std.specs.Prelude.{◌≡◌, ◌⊎◌, ℕ, Bool, true, false, if◌then◌else◌, List, codes, Option, Some, IfSome, Result, Ok, Err}
 use Rattle.std.specs.Io.KnownBytes.{Appends}
-use Rattle.currency_ask.specs.Answered.{currents_of}
+use Rattle.currency_ask.specs.Answered.{CountsAnswers, HasTooMany, currents_of}
 use Rattle.currency_edge.specs.Fault.{Rose}
 use Rattle.currency_edge.specs.Sink.{AppendsPrefix}
 use Rattle.currency_report.specs.declared.report.ReadReport.{ReadReport}
 use Rattle.forced_write.specs.ForcedText.{IsForcedText}
 use Rattle.order_literals.specs.Enough.{IsEnough}
-use Rattle.program_words.specs.Words.{AskSaid, VerifySaid, CommandSaid, AskFor, VerifyOf, ForcedOf}
+use Rattle.program_words.specs.Words.{AskSaid, VerifySaid, CommandSaid, AskFor, VerifyOf, ForcedOf, TrialOf}
 use Rattle.report_model.specs.Verdicts.{is_decided, kind_of}
 use Rattle.report_model.specs.declared.report.Report.{Report}
 use Rattle.report_model.specs.declared.verdict.Kind.{Kind}
+use Rattle.report_model.specs.declared.verdict.Verdict.{Verdict}
 use Rattle.report_model.specs.declared.verdict.Verdict.TheVariants.{Undecided}
 use Rattle.report_verify.specs.Right.{IsRight}
 use Rattle.report_verify.specs.Shown.{ShowsVerdict}
 use Rattle.report_write.specs.Pieces.{report_pieces}
+use Rattle.spec_model.specs.Completion.{Rankings}
 use Rattle.spec_model.specs.Spec.{Spec}
 use Rattle.spec_model.specs.declared.question.Question.{Question}
 use Rattle.text_write.specs.Pieces.{text_of}
-use Rattle.currency_cli.specs.Due.{Then, IsSpecRead, IsQuestionRead, IsReportRead, IsReportSaid, IsJudged, IsAnswer, IsDue, IsReadDue, answer_text}
+use Rattle.trial_documents.specs.Documents.{documents}
+use Rattle.currency_cli.specs.Stages.{Then, IsSpecRead, IsQuestionRead, IsReportRead, IsReportSaid, IsJudged, IsAnswer, answer_text}
+use Rattle.currency_cli.specs.Due.{IsDue, IsReadDue}
 use Rattle.currency_cli.specs.Texts.{accepted_text, trouble_text, trouble_status}
+use Rattle.currency_cli.specs.Trial.{IsTrialDue, trial_budget}
 use Rattle.currency_cli.specs.Words.{command_for}
 use Rattle.currency_cli.specs.declared.done.Done.{Done}
 use Rattle.currency_cli.specs.declared.done.Done.TheVariants.{Accepted, Answered, Forced}
 use Rattle.currency_cli.specs.declared.trouble.Trouble.{Trouble}
-use Rattle.currency_cli.specs.declared.trouble.Trouble.TheVariants.{ReadFault}
+use Rattle.currency_cli.specs.declared.trouble.Trouble.TheVariants.{Limit, ReadFault}
 
 -- what an outcome writes
 abbrev pub output_of : Result Done Trouble → List ℕ
@@ -95,6 +100,14 @@ pub record AreForcedTold (told : List (List ℕ × List ℕ)) (name text : List 
   pub spec_read : IsSpecRead told name (Ok spec)
   pub forced : IsForcedText spec text
 
+-- ---- trial
+
+-- the generated documents are read as a specification and four questions, by the same stages as those of `ask`, and this is told of
+-- the reports that answer them: the summary of four right verdicts; or the whole report for the first question that the budget was
+-- spent on
+abbrev pub IsTrialTold : ℕ → List ℕ → Bool → Type 0
+IsTrialTold size text undecided = IsTrialDue size (Ok (Answered text undecided))
+
 -- ---- the job was done
 
 -- what is told where a command's job is done, and the text that is written
@@ -102,6 +115,7 @@ abbrev pub IsJobDone : List (List ℕ × List ℕ) → CommandSaid → List ℕ 
 IsJobDone told (VerifyOf v) text = (kind : Kind) × IsShownRight told v kind × (text ≡ accepted_text kind)
 IsJobDone told (AskFor a) text = IsAnswerTold told a text false
 IsJobDone told (ForcedOf name) text = AreForcedTold told name text
+IsJobDone told (TrialOf size) text = IsTrialTold size text false
 
 -- the words say a command whose job is done: the documents show what is told, and the sink got the text
 pub record IsDone (texts : Option (List (List ℕ × List ℕ))) (count : ℕ) (words : List (List ℕ)) (old new : Option (List ℕ)) : Type 0 where
@@ -111,37 +125,67 @@ pub record IsDone (texts : Option (List (List ℕ × List ℕ))) (count : ℕ) (
   pub done : IfSome texts (λ told. IsJobDone told command text)
   pub written : Appends old new text
 
--- the words ask a question that was not decided: the sink got the whole report, whose log has as many counted steps as the
--- budget, each new, and is open; and the budget is less than three to the number of the question's variables
+-- a budget was spent on a question: the verdict says so, and the budget is less than three to the number of the question's
+-- variables, however many answers a query has over each consistent completion
+abbrev pub IsShort : Spec → Question → ℕ → Verdict → Type 0
+IsShort s question budget v =
+    (v ≡ Undecided budget) × ((count : Rankings → ℕ) → CountsAnswers s question count → IsEnough s (currents_of question) count budget → ⊥)
+
+-- the documents of `trial` have a question that the budget was spent on, and this is the text of a report that says so
+pub record IsTrialSpent (size : ℕ) (text : List ℕ) : Type 0 where
+  pub told : IsTrialTold size text true
+  pub spec : Spec
+  pub question : Question
+  pub report : Report
+  pub spec_read : IsSpecRead (documents size) (codes "spec") (Ok spec)
+  pub answer : IsAnswer spec question trial_budget report
+  pub is_text : text ≡ text_of (report_pieces spec.relations report)
+  pub short : IsShort spec question trial_budget report.verdict
+
+-- a question of the command was not decided: this is the whole report, whose log has as many counted steps as the budget, each new,
+-- and is open
+abbrev pub IsSpent : List (List ℕ × List ℕ) → CommandSaid → List ℕ → Type 0
+IsSpent told (AskFor ask) text = (t : IsAnswerTold told ask text true) × IsShort t.spec t.question ask.budget t.report.verdict
+IsSpent told (TrialOf size) text = IsTrialSpent size text
+IsSpent told command text = ⊥
+
+-- the words ask a question that was not decided: the sink got the whole report
 pub record IsUndecided (texts : Option (List (List ℕ × List ℕ))) (count : ℕ) (words : List (List ℕ)) (old new : Option (List ℕ)) : Type 0 where
-  pub ask : AskSaid
-  pub said : command_for count words ≡ Some (AskFor ask)
+  pub command : CommandSaid
+  pub said : command_for count words ≡ Some command
   pub text : List ℕ
-  pub told : IfSome texts (λ told. (t : IsAnswerTold told ask text true) × (t.report.verdict ≡ Undecided ask.budget)
-      × (IsEnough t.spec (currents_of t.question) (λ c. 0) ask.budget → ⊥))
+  pub told : IfSome texts (λ told. IsSpent told command text)
   pub written : Appends old new text
 
 -- ---- the other way round
 
--- an outcome has a status, its text being written: an answer may be decided or not
+-- an outcome has a status, its text being written: an answer may be decided or not, and a query may have more answers over one
+-- completion than are gone through, and fewer over another
 abbrev pub HasStatus : Result Done Trouble → ℕ → Type 0
 HasStatus (Ok (Accepted kind)) status = status ≡ 0
-HasStatus (Ok (Answered text undecided)) status = (status ≡ 0) ⊎ (status ≡ 3)
+HasStatus (Ok (Answered text undecided)) status = (status ≡ 0) ⊎ ((status ≡ 3) ⊎ (status ≡ 6))
 HasStatus (Ok (Forced text)) status = status ≡ 0
-HasStatus (Err e) status = status ≡ trouble_status e
+HasStatus (Err e) status = (status ≡ trouble_status e) ⊎ ((e ≡ Limit 3) × ((status ≡ 0) ⊎ (status ≡ 3)))
+
+-- the status of an outcome whose text met a failing sink
+abbrev pub HasFailedStatus : Result Done Trouble → ℕ → Type 0
+HasFailedStatus (Ok d) status = status ≡ 8
+HasFailedStatus (Err e) status = (status ≡ trouble_status e) ⊎ ((e ≡ Limit 3) × (status ≡ 8))
 
 -- where an outcome is due, the program ends with its status; or with the one for its text met by a failing sink, or for a
 -- document that could not be read, both where the count of faults rose; or memory ran out
 abbrev pub ComesTo : Result Done Trouble → ℕ → ℕ → ℕ → ℕ → ℕ → Type 0
 ComesTo outcome reads_before reads_now writes_before writes_now status =
     HasStatus outcome status
-    ⊎ (((status ≡ failed_status_of outcome) × Rose writes_before writes_now)
+    ⊎ ((HasFailedStatus outcome status × Rose writes_before writes_now)
     ⊎ (((status ≡ 7) × Rose reads_before reads_now)
     ⊎ (status ≡ 9)))
 
--- a question about a specification is answered where both are read: decided or not, unless memory ran out
-abbrev pub ComesToAnswer : ℕ → Type 0
-ComesToAnswer status = (status ≡ 0) ⊎ ((status ≡ 3) ⊎ (status ≡ 9))
+-- a question about a specification is answered where both are read, decided or not; unless it is a query that has more answers
+-- over a consistent completion than are gone through, or memory ran out
+abbrev pub ComesToAnswer : Spec → Question → ℕ → Type 0
+ComesToAnswer s question status =
+    (status ≡ 0) ⊎ ((status ≡ 3) ⊎ (((status ≡ 6) × (c : Rankings) × HasTooMany s question c) ⊎ (status ≡ 9)))
 
 -- a status of a refusal: of the words, a report, a document or a bound
 abbrev pub IsRefusal : ℕ → Type 0

@@ -1,6 +1,8 @@
 pub mod Words
 pub mod Named
 pub mod Texts
+pub mod Stages
+pub mod Trial
 pub mod Due
 pub mod Ends
 pub mod Told

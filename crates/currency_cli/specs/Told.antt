@@ -1,7 +1,7 @@
 -- What is told where a command comes to something.
 use Rattle.std.specs.Prelude.{◌≡◌, ℕ, List, Option, Some, IfSome}
-use Rattle.program_words.specs.Words.{CommandSaid, AskFor, VerifyOf, ForcedOf}
-use Rattle.currency_cli.specs.Ends.{IsShownRight, IsAnswerTold, AreForcedTold}
+use Rattle.program_words.specs.Words.{CommandSaid, AskFor, VerifyOf, ForcedOf, TrialOf}
+use Rattle.currency_cli.specs.Ends.{IsShownRight, IsAnswerTold, AreForcedTold, IsTrialTold}
 use Rattle.currency_cli.specs.Words.{command_for}
 use Rattle.currency_cli.specs.declared.done.Done.{Done}
 use Rattle.currency_cli.specs.declared.done.Done.TheVariants.{Accepted, Answered, Forced}
@@ -11,6 +11,7 @@ abbrev pub IsTold : List (List ℕ × List ℕ) → CommandSaid → Done → Typ
 IsTold told (VerifyOf v) (Accepted kind) = IsShownRight told v kind
 IsTold told (AskFor a) (Answered text undecided) = IsAnswerTold told a text undecided
 IsTold told (ForcedOf name) (Forced text) = AreForcedTold told name text
+IsTold told (TrialOf size) (Answered text undecided) = IsTrialTold size text undecided
 IsTold told c d = ⊥
 
 -- a command comes to such an outcome
@@ -18,6 +19,7 @@ abbrev pub IsOutcomeOf : CommandSaid → Done → Type 0
 IsOutcomeOf (VerifyOf v) (Accepted kind) = Unit {0}
 IsOutcomeOf (AskFor a) (Answered text undecided) = Unit {0}
 IsOutcomeOf (ForcedOf name) (Forced text) = Unit {0}
+IsOutcomeOf (TrialOf size) (Answered text undecided) = Unit {0}
 IsOutcomeOf c d = ⊥
 
 -- words say a command that came to this

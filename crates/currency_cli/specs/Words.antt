@@ -1,6 +1,6 @@
 -- The commands that words say, where so many guides are handed in.
-use Rattle.std.specs.Prelude.{ℕ, Bool, true, List, Option, Some, None, nat_le, option_and_then, if◌then◌else◌}
-use Rattle.program_words.specs.Words.{CommandSaid, AskFor, VerifyOf, ForcedOf, command_of}
+use Rattle.std.specs.Prelude.{◌≤◌, ℕ, Bool, true, List, Option, Some, None, nat_le, option_and_then, if◌then◌else◌}
+use Rattle.program_words.specs.Words.{CommandSaid, AskFor, VerifyOf, ForcedOf, TrialOf, command_of}
 
 -- the guide that is to be kept, if one is, is among so many, counted from 1
 abbrev pub is_guide : ℕ → Option ℕ → Bool
@@ -12,6 +12,13 @@ abbrev pub with_guides : ℕ → CommandSaid → Option CommandSaid
 with_guides count (AskFor a) = if is_guide count a.guide then Some (AskFor a) else None
 with_guides count (VerifyOf v) = Some (VerifyOf v)
 with_guides count (ForcedOf name) = Some (ForcedOf name)
+with_guides count (TrialOf size) = Some (TrialOf size)
+
+-- the numbers of a command are in their ranges
+abbrev pub IsInRange : CommandSaid → Type 0
+IsInRange (AskFor a) = a.budget ≤ 10000000
+IsInRange (TrialOf size) = (1 ≤ size) × (size ≤ 1000)
+IsInRange other = Unit {0}
 
 -- the command that words say where so many guides are handed in; none where they are refused
 abbrev pub command_for : ℕ → List (List ℕ) → Option CommandSaid

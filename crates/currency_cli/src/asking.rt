@@ -3,15 +3,19 @@ ghost use Rattle.currency_edge.specs.Fault.{Rose};
 ghost use Rattle.report_model.specs.Verdicts.{is_decided, kind_of};
 ghost use Rattle.report_write.specs.Writable.{IsWritableReport};
 ghost use Rattle.program_words.specs.Words.{AskFor};
+ghost use Rattle.currency_ask.specs.Answered.{HasTooMany};
+ghost use Rattle.spec_model.specs.Completion.{Rankings};
 ghost use Rattle.spec_model.specs.Facts.{IsSpecification};
 ghost use Rattle.spec_model.specs.Questions.{IsQuestionOn};
 ghost use Rattle.bound_spec.specs.Growth.{IsWithinLimits};
 ghost use Rattle.currency_cli.specs.Told.{IsOutcomeOf, IsTold};
-ghost use Rattle.currency_cli.specs.Due.{IsAskDue, IsAnswered, IsDocumentDue, answer_text};
-ghost use Rattle.currency_cli.specs.Named.{IsSettled, IsReadFault, IsReadFaultOf, ask_said};
+ghost use Rattle.currency_cli.specs.Stages.{IsAnswer, answer_text};
+ghost use Rattle.currency_cli.specs.Due.{IsAskDue, IsAnswered, IsDocumentDue};
+ghost use Rattle.currency_cli.specs.Named.{IsDetermined, IsSettled, IsReadFault, IsReadFaultOf, ask_said};
 
 use crate::names::has_text_names;
 use crate::stages::{read_specification, read_the_question};
+use crate::troubles::of_ask;
 use crate::{Done, Trouble};
 use currency_ask::answer;
 use currency_base::{ByteList, NoMemory};
@@ -50,8 +54,8 @@ fn report_text(
     }
 }
 
-// What a report is told as.
-fn told_report(
+/// What a report is told as.
+pub fn told_report(
     alloc: Global,
     spec: &Specification,
     brief: bool,
@@ -70,6 +74,31 @@ fn told_report(
     }
 }
 
+/// A report that answers a question.
+pub fn report_on(
+    alloc: Global,
+    spec: &Specification,
+    question: &Question,
+    budget: u64,
+    guides: &mut Guides,
+) -> Result<Report, Trouble>
+    requires within { IsWithinLimits spec.now }
+    requires question { IsQuestionOn spec.now.relations question.now }
+    ensures answer { IfOk result (IsAnswer spec.now question.now budget) }
+    ensures writable { IfOk result (IsWritableReport spec.now.relations) }
+    ensures too_many { IfErr result (λ e. IsDetermined e → (c : Rankings) × HasTooMany spec.now question.now c × (e ≡ Trouble.Limit 3)) }
+    ensures inside { IsReadFault result → ⊥ }
+    ensures not_words { IfErr result (λ e. e ≢ Trouble.Words) }
+{
+    is_specification(spec);
+    has_text_names(spec);
+    written_is_read();
+    match answer(alloc, spec, question, budget, guides) {
+        Ok(report) => Ok(report),
+        Err(fault) => Err(of_ask(fault)),
+    }
+}
+
 // The job of `ask`: a report that answers the question, as a text.
 fn reply(
     alloc: Global,
@@ -85,12 +114,9 @@ fn reply(
     ensures inside { IsReadFault result → ⊥ }
     ensures not_words { IfErr result (λ e. e ≢ Trouble.Words) }
 {
-    is_specification(spec);
-    has_text_names(spec);
-    written_is_read();
-    match answer(alloc, spec, question, asked.budget, guides) {
+    match report_on(alloc, spec, question, asked.budget, guides) {
         Ok(report) => told_report(alloc, spec, asked.brief, &report),
-        Err(_) => Err(Trouble::NoMemory),
+        Err(trouble) => Err(trouble),
     }
 }
 
@@ -101,6 +127,7 @@ pub fn ask_documents<S: Shelf>(
     asked: Ask<'_>,
     guides: &mut Guides,
 ) -> Result<Done, Trouble>
+    requires budget { asked.budget ≤ 10000000 }
     ensures later { S.faults shelf.old ≤ S.faults shelf.new }
     ensures due { IsSettled result → IfSome (S.texts shelf.old) (λ told. IsAskDue told (ask_said asked.entry) result) }
     ensures kind { IfOk result (IsOutcomeOf (AskFor (ask_said asked.entry))) }

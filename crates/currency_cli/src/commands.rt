@@ -1,14 +1,17 @@
-ghost use Rattle.std.specs.Prelude.{◌≡◌, ◌≢◌, ◌⊎◌, ℕ, List, IfErr, None, Err, ◌≤◌, IfOk, IfSome, map, string_bytes};
+ghost use Rattle.std.specs.Prelude.{◌≡◌, ◌≢◌, ◌⊎◌, ℕ, List, IfErr, None, Some, Err, ◌≤◌, IfOk, IfSome, map, string_bytes};
 ghost use Rattle.currency_edge.specs.Fault.{Rose};
 ghost use Rattle.program_words.specs.Said.{said_of};
+ghost use Rattle.program_words.specs.Words.{TrialOf};
+ghost use Rattle.currency_cli.specs.Trial.{IsTrialDue};
 ghost use Rattle.solver_guides.specs.Rings.{count_of};
 ghost use Rattle.currency_cli.specs.Told.{IsOutcomeOf, IsTold, IsToldFor};
 ghost use Rattle.currency_cli.specs.Due.{IsDueFor, IsDue, IsDocumentDue, IsReadDue};
-ghost use Rattle.currency_cli.specs.Words.{command_for};
+ghost use Rattle.currency_cli.specs.Words.{IsInRange, command_for};
 ghost use Rattle.currency_cli.specs.Named.{IsSettled, IsReadFault, IsReadFaultOf};
 
 use crate::asking::ask_documents;
 use crate::forcing::forced_document;
+use crate::trial::try_generated;
 use crate::verifying::verified;
 use crate::words::command_kept;
 use crate::{Done, Trouble};
@@ -24,6 +27,7 @@ fn outcome_of<S: Shelf>(
     shelf: &mut S,
     guides: &mut Guides,
 ) -> Result<Done, Trouble>
+    requires { IsInRange (said_of command) }
     ensures later { S.faults shelf.old ≤ S.faults shelf.new }
     ensures due { IsSettled result → IfSome (S.texts shelf.old) (λ told. IsDueFor told (said_of command.entry) result) }
     ensures kind { IfOk result (IsOutcomeOf (said_of command.entry)) }
@@ -32,11 +36,14 @@ fn outcome_of<S: Shelf>(
     ensures unread { (n : List ℕ) → IsReadFaultOf result n
         → IfSome (S.texts shelf.old) (λ told. IsDocumentDue told (said_of command.entry) n) }
     ensures not_words { IfErr result (λ e. e ≢ Trouble.Words) }
+    ensures generated { (size : ℕ) → said_of command.entry ≡ TrialOf size → IsSettled result → IsTrialDue size result }
+    ensures unshelved { (size : ℕ) → said_of command.entry ≡ TrialOf size → IsReadFault result → ⊥ }
 {
     match command {
         Command::Verify(asked) => verified(alloc, shelf, asked),
         Command::Ask(asked) => ask_documents(alloc, shelf, asked, guides),
         Command::Forced(name) => forced_document(alloc, shelf, name),
+        Command::Trial(size) => try_generated(alloc, size, guides),
     }
 }
 
@@ -57,6 +64,10 @@ pub fn outcome<S: Shelf>(
     ensures words { result ≡ Err Trouble.Words → command_for (count_of guides.old) (map (λ w. string_bytes w) words.now) ≡ None }
     ensures words_refused { command_for (count_of guides.old) (map (λ w. string_bytes w) words.now) ≡ None
         → (result ≡ Err Trouble.Words) ⊎ (result ≡ Err Trouble.NoMemory) }
+    ensures generated { (size : ℕ) → command_for (count_of guides.old) (map (λ w. string_bytes w) words.now) ≡ Some (TrialOf size)
+        → IsSettled result → IsTrialDue size result }
+    ensures unshelved { (size : ℕ) → command_for (count_of guides.old) (map (λ w. string_bytes w) words.now) ≡ Some (TrialOf size)
+        → IsReadFault result → ⊥ }
 {
     match command_kept(alloc, words, guides) {
         Ok(command) => outcome_of(alloc, command, shelf, guides),

@@ -1,5 +1,7 @@
 ghost use Rattle.std.specs.Prelude.{◌≡◌, ℕ, List, Result};
-ghost use Rattle.currency_cli.specs.Due.{IsDue, IsSpecRead, IsQuestionRead};
+ghost use Rattle.currency_cli.specs.Stages.{IsSpecRead, IsQuestionRead, IsReportRead};
+ghost use Rattle.currency_cli.specs.Due.{IsDue};
+ghost use Rattle.currency_report.specs.declared.report.ReadReport.{ReadReport};
 ghost use Rattle.currency_cli.specs.Alike.{AreAlike};
 ghost use Rattle.currency_cli.specs.declared.done.Done.{Done};
 ghost use Rattle.spec_model.specs.Spec.{Spec};
@@ -28,15 +30,18 @@ pub fn one_due()
     first_unshown_is_not_shown();
 }
 
-/// A law: a told document is read as one specification, and as one question on the relations of one.
+/// A law: a told document is read as one specification, and as one question and one report on the relations of one.
 pub fn one_read()
     ensures specs { (told : List (List ℕ × List ℕ)) (name : List ℕ) (a b : Result Spec Trouble)
         → IsSpecRead told name a → IsSpecRead told name b → a ≡ b }
     ensures questions { (told : List (List ℕ × List ℕ)) (relations : List Relation) (name : List ℕ) (a b : Result Question Trouble)
         → IsQuestionRead told relations name a → IsQuestionRead told relations name b → a ≡ b }
+    ensures reports { (told : List (List ℕ × List ℕ)) (relations : List Relation) (name : List ℕ) (a b : Result ReadReport Trouble)
+        → IsReportRead told relations name a → IsReportRead told relations name b → a ≡ b }
 {
     one_specification();
     one_question();
+    one_report();
     one_outcome();
     one_bound_question();
 }

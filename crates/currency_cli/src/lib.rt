@@ -11,6 +11,7 @@ mod program;
 mod read;
 mod stages;
 mod texts;
+mod trial;
 mod trouble;
 mod troubles;
 mod verifying;

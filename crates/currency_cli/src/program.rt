@@ -1,13 +1,16 @@
 ghost use Rattle.std.specs.Prelude.{◌≡◌, ◌≢◌, ◌⊎◌, ℕ, List, IfOk, IfSome, None, Some, Ok, Err, Result, map, string_bytes};
 ghost use Rattle.currency_edge.specs.Fault.{Rose};
 ghost use Rattle.currency_edge.specs.Sink.{AppendsPrefix};
-ghost use Rattle.currency_cli.specs.Due.{IsDue, IsReadDue, IsSpecRead, IsQuestionRead};
+ghost use Rattle.currency_cli.specs.Stages.{IsSpecRead, IsQuestionRead, IsReportRead};
+ghost use Rattle.currency_cli.specs.Due.{IsDue, IsReadDue};
 ghost use Rattle.currency_cli.specs.Ends.{EndsWith, output_of, status_of, ComesTo, ComesToAnswer, HasStatus, IsRefusal, RefusalDue, IsDone, IsUndecided, NamesUnread};
 ghost use Rattle.currency_cli.specs.Named.{IsSettled, IsReadFault, IsReadFaultOf};
 ghost use Rattle.currency_cli.specs.Texts.{trouble_status};
 ghost use Rattle.currency_cli.specs.Words.{command_for};
 ghost use Rattle.currency_cli.specs.declared.done.Done.{Done};
-ghost use Rattle.program_words.specs.Words.{AskSaid, AskFor};
+ghost use Rattle.program_words.specs.Words.{AskSaid, VerifySaid, AskFor, VerifyOf, ForcedOf, TrialOf};
+ghost use Rattle.currency_report.specs.declared.report.ReadReport.{ReadReport};
+ghost use Rattle.currency_cli.specs.Trial.{IsTrialDue};
 ghost use Rattle.solver_guides.specs.Rings.{count_of};
 ghost use Rattle.spec_model.specs.Spec.{Spec};
 ghost use Rattle.spec_model.specs.declared.question.Question.{Question};
@@ -96,7 +99,7 @@ fn refuse<K: Sink>(alloc: Global, out: &mut K, trouble: &Trouble) -> u8
 ///
 /// | status | comes |
 /// |---|---|
-/// | 0 | the job was done: the question is decided, the report shows its verdict, or the forced pairs are listed |
+/// | 0 | the job was done: the question is decided, the report shows its verdict, the forced pairs are listed, or the summary of a trial is written |
 /// | 2 | the words are no command, or keep a guide that is not there |
 /// | 3 | the budget is spent; the text is the whole report, which says `undecided` |
 /// | 4 | the report does not show its verdict |
@@ -128,11 +131,29 @@ pub fn run<S: Shelf, K: Sink>(
         → (outcome : Result Done Trouble) → IfSome (S.texts shelf.old) (λ told.
         IsDue told (count_of guides.old) (map (λ w. string_bytes w) words.now) outcome → HasStatus outcome result ⊎ (result ≡ 9)) }
 
-    // A question about a specification is answered, where both are read, whichever of the three it is.
+    // A question about a specification is answered, where both are read, whichever of the four it is; unless it is a query that has
+    // more than 1,000,000 answers over a consistent completion.
     ensures answered { (Rose (S.faults shelf.old) (S.faults shelf.new) → ⊥) → (Rose (K.faults out.old) (K.faults out.new) → ⊥)
         → (a : AskSaid) → command_for (count_of guides.old) (map (λ w. string_bytes w) words.now) ≡ Some (AskFor a)
         → (s : Spec) (question : Question) → IfSome (S.texts shelf.old) (λ told.
-        IsSpecRead told a.spec (Ok s) → IsQuestionRead told s.relations a.question (Ok question) → ComesToAnswer result) }
+        IsSpecRead told a.spec (Ok s) → IsQuestionRead told s.relations a.question (Ok question) → ComesToAnswer s question result) }
+
+    // A report on a specification and a question is judged, where all three are read.
+    ensures verified { (Rose (S.faults shelf.old) (S.faults shelf.new) → ⊥) → (Rose (K.faults out.old) (K.faults out.new) → ⊥)
+        → (v : VerifySaid) → command_for (count_of guides.old) (map (λ w. string_bytes w) words.now) ≡ Some (VerifyOf v)
+        → (s : Spec) (question : Question) (r : ReadReport) → IfSome (S.texts shelf.old) (λ told.
+        IsSpecRead told v.spec (Ok s) → IsQuestionRead told s.relations v.question (Ok question) → IsReportRead told s.relations v.report (Ok r)
+        → (result ≡ 0) ⊎ ((result ≡ 4) ⊎ (result ≡ 9))) }
+
+    // The forced pairs of a specification are listed, where it is read.
+    ensures listed { (Rose (S.faults shelf.old) (S.faults shelf.new) → ⊥) → (Rose (K.faults out.old) (K.faults out.new) → ⊥)
+        → (name : List ℕ) → command_for (count_of guides.old) (map (λ w. string_bytes w) words.now) ≡ Some (ForcedOf name)
+        → (s : Spec) → IfSome (S.texts shelf.old) (λ told. IsSpecRead told name (Ok s) → (result ≡ 0) ⊎ (result ≡ 9)) }
+
+    // `trial` reads nothing of the shelf: whatever that tells, what the program comes to is due for the generated documents.
+    ensures tried { (size : ℕ) → command_for (count_of guides.old) (map (λ w. string_bytes w) words.now) ≡ Some (TrialOf size)
+        → (outcome : Result Done Trouble) × (IsSettled outcome → IsTrialDue size outcome) × (IsReadFault outcome → ⊥)
+        × EndsWith (K.written out.old) (K.written out.new) (K.faults out.old) (K.faults out.new) outcome result }
 
     // A refusal of the words, a document, a bound or the report is due.
     ensures refused { IsRefusal result → IfSome (S.texts shelf.old) (λ told.

@@ -1,7 +1,7 @@
 ghost use Rattle.std.specs.Prelude.{◌≡◌, ◌≢◌, ℕ, List, ◌≤◌, ◌<◌, IfOk, IfSome, IfErr, length, vec_len};
 ghost use Rattle.currency_edge.specs.Fault.{Rose};
 ghost use Rattle.currency_edge.specs.Shelf.{document};
-ghost use Rattle.currency_cli.specs.Due.{IsSpecRead, IsQuestionRead, IsReportRead};
+ghost use Rattle.currency_cli.specs.Stages.{IsSpecRead, IsQuestionRead, IsReportRead};
 ghost use Rattle.currency_cli.specs.Named.{IsDetermined, IsSettled, IsReadFault, IsReadFaultOf, IsUnread};
 
 use crate::Trouble;

@@ -2,7 +2,8 @@ ghost use Rattle.std.specs.Prelude.{◌≡◌, ◌≢◌, ℕ, List, IfErr, ◌�
 ghost use Rattle.currency_edge.specs.Fault.{Rose};
 ghost use Rattle.spec_model.specs.Questions.{IsQuestionOn};
 ghost use Rattle.bound_spec.specs.Growth.{IsWithinLimits};
-ghost use Rattle.currency_cli.specs.Due.{IsSpecTree, IsSpecSaid, IsSpecRead, IsQuestionTree, IsQuestionSaid, IsQuestionRead, IsSaidTableDue, IsSpecDocumentDue, IsQuestionSaidTableDue, IsQuestionDocumentDue};
+ghost use Rattle.currency_cli.specs.Stages.{IsSpecTree, IsSpecSaid, IsSpecRead, IsQuestionTree, IsQuestionSaid, IsQuestionRead};
+ghost use Rattle.currency_cli.specs.Due.{IsSaidTableDue, IsSpecDocumentDue, IsQuestionSaidTableDue, IsQuestionDocumentDue};
 ghost use Rattle.currency_cli.specs.Named.{IsSettled, IsReadFault, IsReadFaultOf};
 
 use crate::Trouble;

@@ -59,8 +59,8 @@ fn error_of(alloc: Global, code: ErrorCode) -> Result<String, AllocError>
     format!(in alloc; "error {code}")
 }
 
-// The bytes of a text.
-fn bytes_of(text: String) -> ByteList
+/// The bytes of a text.
+pub fn bytes_of(text: String) -> ByteList
     ensures { result ≡ string_bytes text }
 {
     ByteList::from_items(text.into_bytes())

@@ -38,8 +38,9 @@ pub enum Trouble {
         source: Value,
     },
     /// A quantity is above its bound; the number is that of the limit: 1 is of the texts of a specification and
-    /// a question, 2 of the tables that they name, 12 of the pairs that a question asks about (more than
-    /// 10,000,000), and the others are of specifications.
+    /// a question, 2 of the tables that they name, 3 of the answers of a query over one completion (more than
+    /// 1,000,000), 12 of the pairs that a question asks about (more than 10,000,000) and of the parts of a query,
+    /// and the others are of specifications.
     Limit(u8),
     /// The shelf could not give this document.
     ReadFault(Name),

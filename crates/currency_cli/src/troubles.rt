@@ -1,8 +1,11 @@
-ghost use Rattle.std.specs.Prelude.{◌≡◌, ◌≢◌, ◌⊎◌, unwrap_or};
-ghost use Rattle.currency_cli.specs.Due.{text_trouble, bind_trouble, report_trouble, check_of};
+ghost use Rattle.std.specs.Prelude.{◌≡◌, ◌≢◌, ◌⊎◌, Err, unwrap_or};
+ghost use Rattle.currency_cli.specs.Stages.{text_trouble, bind_trouble, ask_trouble, report_trouble, check_of};
+ghost use Rattle.currency_cli.specs.Named.{IsReadFault};
+ghost use Rattle.currency_cli.specs.declared.done.Done.{Done};
 
 use crate::{Check, Trouble};
 use bind_faults::{BindFault, Refusal};
+use currency_ask::AskFault;
 use currency_base::{ErrorCode, Name, Value};
 use currency_report::ReportFault;
 use report_verify::Unshown;
@@ -32,7 +35,6 @@ pub fn of_text(alloc: Global, name: &str, fault: TextFault) -> Trouble
     match fault {
         TextFault::NotUtf8 { line } => refused(alloc, ErrorCode::NotUtf8, name, line),
         TextFault::Syntax { line } => refused(alloc, ErrorCode::Syntax, name, line),
-        TextFault::Unbuilt { line } => refused(alloc, ErrorCode::Unbuilt, name, line),
         TextFault::NoMemory => Trouble::NoMemory,
     }
 }
@@ -102,6 +104,18 @@ pub fn of_binding(alloc: Global, name: &str, fault: BindFault) -> Trouble
         BindFault::Limit(limit) => Trouble::Limit(limit),
         BindFault::ReadFault(document) => Trouble::ReadFault(document),
         BindFault::NoMemory => Trouble::NoMemory,
+    }
+}
+
+/// The trouble that a question is not answered.
+pub fn of_ask(fault: AskFault) -> Trouble
+    ensures due { result ≡ ask_trouble fault }
+    ensures inside { IsReadFault {A = Done} (Err result) → ⊥ }
+    ensures not_words { result ≢ Trouble.Words }
+{
+    match fault {
+        AskFault::TooMany(_) => Trouble::Limit(3),
+        AskFault::NoMemory => Trouble::NoMemory,
     }
 }
 

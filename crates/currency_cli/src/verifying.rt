@@ -10,7 +10,8 @@ ghost use Rattle.spec_model.specs.Questions.{IsQuestionOn};
 ghost use Rattle.program_words.specs.Words.{VerifyOf};
 ghost use Rattle.currency_cli.specs.Ends.{IsReportShown, IsShownRight};
 ghost use Rattle.currency_cli.specs.Told.{IsOutcomeOf, IsTold};
-ghost use Rattle.currency_cli.specs.Due.{Then, IsReportSaid, IsReportRead, IsJudged, IsVerifyDue, IsDueFor, IsDocumentDue};
+ghost use Rattle.currency_cli.specs.Stages.{Then, IsReportSaid, IsReportRead, IsJudged};
+ghost use Rattle.currency_cli.specs.Due.{IsVerifyDue, IsDueFor, IsDocumentDue};
 ghost use Rattle.currency_cli.specs.Named.{IsSettled, IsReadFault, IsReadFaultOf, verify_said};
 
 use crate::read::read_bytes;

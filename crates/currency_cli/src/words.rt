@@ -1,10 +1,10 @@
 ghost use Rattle.std.specs.Prelude.{◌≡◌, ◌<◌, ◌⊎◌, ◌-◌, ℕ, Bool, true, List, Option, None, Some, IfOk, IfErr, if◌then◌else◌, map, string_bytes};
 ghost use Rattle.program_words.specs.Said.{said_of};
-ghost use Rattle.currency_cli.specs.Words.{command_for, is_guide, with_guides};
+ghost use Rattle.currency_cli.specs.Words.{IsInRange, command_for, is_guide, with_guides};
 ghost use Rattle.solver_guides.specs.Rings.{count_of};
 
 use crate::Trouble;
-use program_words::{Command, WordsFault, command_given};
+use program_words::{Command, WordsFault, command_given, numbers_are_in_range};
 use solver_guides::Guides;
 use std::alloc::Global;
 
@@ -34,6 +34,7 @@ fn keep_for(guides: &mut Guides, command: &Command<'_>) -> bool
         Command::Ask(asked) => keep_guide(guides, asked.guide),
         Command::Verify(_) => true,
         Command::Forced(_) => true,
+        Command::Trial(_) => true,
     }
 }
 
@@ -44,9 +45,11 @@ pub fn command_kept<'a>(
     guides: &mut Guides,
 ) -> Result<Command<'a>, Trouble>
     ensures taken { IfOk result (λ c. command_for (count_of guides.old) (map (λ w. string_bytes w) words.entry.now) ≡ Some (said_of c)) }
+    ensures in_range { IfOk result (λ c. IsInRange (said_of c)) }
     ensures refused { IfErr result (λ e. e ≡ Trouble.Words → command_for (count_of guides.old) (map (λ w. string_bytes w) words.entry.now) ≡ None) }
     ensures causes { IfErr result (λ e. (e ≡ Trouble.Words) ⊎ (e ≡ Trouble.NoMemory)) }
 {
+    numbers_are_in_range();
     let command = match command_given(alloc, words) {
         Ok(command) => command,
         Err(WordsFault::Refused) => return Err(Trouble::Words),

@@ -67,7 +67,6 @@ pub record ReadsReport (relations : List Relation) (source : List ℕ) (r : Read
 abbrev pub fault_of : TextFault → ReportFault
 fault_of (text.NotUtf8 line) = Refused code.NotUtf8 line
 fault_of (text.Syntax line) = Refused code.Syntax line
-fault_of (text.Unbuilt line) = Refused code.Unbuilt line
 fault_of text.NoMemory = NoMemory
 
 -- a text spells a report that says nothing of a specification, and this is the first refusal

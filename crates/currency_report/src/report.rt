@@ -68,7 +68,6 @@ impl From<TextFault> for ReportFault {
         let (code, line) = match fault {
             TextFault::NotUtf8 { line } => (ErrorCode::NotUtf8, line),
             TextFault::Syntax { line } => (ErrorCode::Syntax, line),
-            TextFault::Unbuilt { line } => (ErrorCode::Unbuilt, line),
             TextFault::NoMemory => return ReportFault::NoMemory,
         };
         ReportFault::Refused { code, line }

@@ -1,1 +1,2 @@
 mod Indexed
+mod Places

@@ -2,19 +2,25 @@
 use Rattle.std.specs.Prelude.{◌==◌, ◌&&◌, ◌||◌, ℕ, Bool, true, false, not, nat_lt, if◌then◌else◌, List, [], ◌∷◌, ◌++◌, length, map, Option, Some, None, slice_get}
 use Rattle.std.specs.List.{filter, list_all, list_any}
 use Rattle.currency_base.specs.declared.ids.AttrId.{AttrId}
+use Rattle.currency_base.specs.declared.ids.EntId.{EntId}
 use Rattle.currency_base.specs.declared.ids.RelId.{RelId}
 use Rattle.currency_base.specs.declared.ids.RowId.{RowId}
 use Rattle.currency_base.specs.declared.lit.Lit.{Lit}
 use Rattle.currency_base.specs.declared.pair.Pair.{Pair}
 use Rattle.currency_base.specs.declared.row.Row.{Row}
 use Rattle.currency_base.specs.declared.value.Cmp.TheVariants.{Eq}
+use Rattle.currency_base.specs.declared.value.Value.{Value}
 use Rattle.copy_functions.specs.Copies.{CopyFunction, source_at}
 use Rattle.copy_functions.specs.declared.place.Place.{Place}
 use Rattle.denial_rules.specs.Instances.{field_value, instance_of, is_compared}
 use Rattle.denial_rules.specs.declared.instance.RuleInstance.{RuleInstance}
 use Rattle.denial_rules.specs.declared.rule.Rule.{Rule}
 use Rattle.entity_rows.specs.Members.{members}
+use Rattle.match_premises.specs.Premises.{comparisons_are}
+use Rattle.match_premises.specs.declared.premise.Premise.{Premise}
 use Rattle.partial_orders.specs.Pairs.{entity_of, has_pair}
+use Rattle.query_model.specs.declared.query.Disjunct.{Disjunct}
+use Rattle.query_model.specs.declared.query.Query.{Query}
 use Rattle.spec_model.specs.Spec.{Spec}
 use Rattle.spec_model.specs.declared.relation.Relation.{Relation}
 use Rattle.refutation_log.specs.declared.statement.Statement.{Statement}
@@ -22,6 +28,8 @@ use Rattle.refutation_log.specs.declared.statement.Statement.TheVariants as says
 use Rattle.refutation_log.specs.declared.step.Label.{Label}
 use Rattle.refutation_log.specs.declared.step.Label.TheVariants as label
 use Rattle.log_axioms.specs.declared.signed.Signed.{Signed}
+use Rattle.log_axioms.specs.Matches.{answer_place, match_claims}
+use Rattle.log_axioms.specs.Posed.{Posed}
 use Rattle.log_axioms.specs.Truth.{meaning, rows_in}
 
 -- ---- statements with their signs
@@ -43,6 +51,10 @@ last rel attr row = record { statement = says.Last rel attr row; negative = fals
 
 abbrev pub not_last : RelId → AttrId → RowId → Signed
 not_last rel attr row = record { statement = says.Last rel attr row; negative = true }
+
+-- the tuple at a place is an answer
+abbrev pub answer : ℕ → Signed
+answer place = record { statement = says.Answer place; negative = false }
 
 -- ---- conditions
 
@@ -152,6 +164,17 @@ copy_clause copy place first second target source = of (source_at copy first) (s
         then place_clause copy first second s w (slice_get copy.places place) else None
     of s w = None
 
+-- of a match: its tuple is an answer, or one of what it claims is not the current value
+abbrev pub claimed_clause : Option ℕ → Option (List Premise) → Option (List Signed)
+claimed_clause (Some place) (Some premises) = Some (answer place ∷ map (λ p. not_last p.rel p.attr p.row) premises)
+claimed_clause place premises = None
+
+-- of one entity per atom of a disjunct and one value per variable, for which its comparisons hold
+abbrev pub match_clause : List Relation → List (List Value) → List EntId → List Value → Disjunct → Option (List Signed)
+match_clause relations answers entities values d =
+    if (length values == d.vars) && (length entities == length d.atoms) && comparisons_are values d.tests
+    then claimed_clause (answer_place answers values d.head) (match_claims relations values d.atoms entities) else None
+
 -- ---- the clause of a label
 
 -- what a relation gives, if it is there
@@ -173,17 +196,29 @@ of_copy s place first second None = None
 of_copy s place first second (Some copy) =
     in_relation s.relations copy.target (λ target. in_relation s.relations copy.source (copy_clause copy place first second target))
 
+-- what a disjunct gives, if it is there
+abbrev pub of_disjunct : List Relation → List (List Value) → List EntId → List Value → Option Disjunct → Option (List Signed)
+of_disjunct relations answers entities values None = None
+of_disjunct relations answers entities values (Some d) = match_clause relations answers entities values d
+
+-- what a query gives, if one is asked
+abbrev pub of_query : List Relation → List (List Value) → ℕ → List EntId → List Value → Option Query → Option (List Signed)
+of_query relations answers disjunct entities values None = None
+of_query relations answers disjunct entities values (Some q) =
+    of_disjunct relations answers entities values (slice_get q.disjuncts disjunct)
+
 -- the clause of a label; a label whose condition does not hold has none, and so has a match where no query is asked
-abbrev pub axiom_of : Spec → Label → Option (List Signed)
-axiom_of s (label.Given rel attr earlier later) = in_relation s.relations rel (given_clause rel attr earlier later)
-axiom_of s (label.Transitive rel attr first second third) = in_relation s.relations rel (transitive_clause rel attr first second third)
-axiom_of s (label.Rule rule rows) = of_rule s rows (slice_get s.rules rule.0)
-axiom_of s (label.Copy copy place first second) = of_copy s place first second (slice_get s.copies copy.0)
-axiom_of s (label.Above rel attr row other) = in_relation s.relations rel (above_clause rel attr row other)
-axiom_of s (label.Top rel attr row) = in_relation s.relations rel (top_clause rel attr row)
-axiom_of s (label.Last rel attr row) = in_relation s.relations rel (last_clause rel attr row)
-axiom_of s (label.Value rel attr row) = in_relation s.relations rel (value_clause rel attr row)
-axiom_of s (label.Match disjunct entities values) = None
+abbrev pub axiom_of : Spec → Posed → Label → Option (List Signed)
+axiom_of s posed (label.Given rel attr earlier later) = in_relation s.relations rel (given_clause rel attr earlier later)
+axiom_of s posed (label.Transitive rel attr first second third) = in_relation s.relations rel (transitive_clause rel attr first second third)
+axiom_of s posed (label.Rule rule rows) = of_rule s rows (slice_get s.rules rule.0)
+axiom_of s posed (label.Copy copy place first second) = of_copy s place first second (slice_get s.copies copy.0)
+axiom_of s posed (label.Above rel attr row other) = in_relation s.relations rel (above_clause rel attr row other)
+axiom_of s posed (label.Top rel attr row) = in_relation s.relations rel (top_clause rel attr row)
+axiom_of s posed (label.Last rel attr row) = in_relation s.relations rel (last_clause rel attr row)
+axiom_of s posed (label.Value rel attr row) = in_relation s.relations rel (value_clause rel attr row)
+axiom_of s posed (label.Match disjunct entities values) =
+    of_query s.relations posed.answers disjunct entities values posed.query
 
 -- ---- literals and the clause
 
@@ -211,6 +246,7 @@ says_same relations a b = by a.statement b.statement
     by (says.Last rel attr row) (says.Last rel' attr' row') =
         same_place rel attr rel' attr' && same_sign a.negative b.negative
         && same_entity (rows_in (slice_get relations rel.0)) row row' && same_value (rows_in (slice_get relations rel.0)) attr.0 row row'
+    by (says.Answer tuple) (says.Answer tuple') = (tuple == tuple') && same_sign a.negative b.negative
     by s t = false
 
 -- what is said, if anything is, is the same as a statement with its sign
@@ -229,8 +265,8 @@ is_clause relations statements lits clause =
     && list_all (λ s. list_any (lit_says relations statements s) lits) clause
 
 -- the literals are the clause of the label, if it has one
-abbrev pub is_axiom : Spec → List Statement → Label → List Lit → Bool
-is_axiom s statements l lits = of (axiom_of s l)
+abbrev pub is_axiom : Spec → Posed → List Statement → Label → List Lit → Bool
+is_axiom s posed statements l lits = of (axiom_of s posed l)
   where
     of : Option (List Signed) → Bool
     of None = false

@@ -39,31 +39,31 @@ pub record IsLast (c : Rankings) (rel attr : ℕ) (rows : List Row) (row : RowId
   pub of_row : field_value rows (Some row) attr ≡ Some value
   pub current : current_value c rel rows attr ent ≡ Some value
 
--- a statement is true in a completion. Where no query is asked no tuple is an answer
-abbrev pub IsTrueIn : List Relation → Rankings → Statement → Type 0
-IsTrueIn relations c (SaysBefore rel attr earlier later) = Before (lists_of c rel.0 attr.0) earlier later
-IsTrueIn relations c (Top rel attr row) = IsTop c rel.0 attr.0 (rows_in (slice_get relations rel.0)) row
-IsTrueIn relations c (Last rel attr row) = IsLast c rel.0 attr.0 (rows_in (slice_get relations rel.0)) row
-IsTrueIn relations c (Answer tuple) = ⊥
+-- a statement is true in a completion, over whose current instance these tuples are answers
+abbrev pub IsTrueIn : List Relation → Rankings → (ℕ → Type 0) → Statement → Type 0
+IsTrueIn relations c answers (SaysBefore rel attr earlier later) = Before (lists_of c rel.0 attr.0) earlier later
+IsTrueIn relations c answers (Top rel attr row) = IsTop c rel.0 attr.0 (rows_in (slice_get relations rel.0)) row
+IsTrueIn relations c answers (Last rel attr row) = IsLast c rel.0 attr.0 (rows_in (slice_get relations rel.0)) row
+IsTrueIn relations c answers (Answer tuple) = answers tuple
 
 -- a statement or its negation is true
-abbrev pub HoldsIn : List Relation → Rankings → Signed → Type 0
-HoldsIn relations c s = by s.negative
+abbrev pub HoldsIn : List Relation → Rankings → (ℕ → Type 0) → Signed → Type 0
+HoldsIn relations c answers s = by s.negative
   where
     by : Bool → Type 0
-    by false = IsTrueIn relations c s.statement
-    by true = IsTrueIn relations c s.statement → ⊥
+    by false = IsTrueIn relations c answers s.statement
+    by true = IsTrueIn relations c answers s.statement → ⊥
 
 -- a literal of a log is true; one whose variable is no statement says nothing, and is as true as its sign
-abbrev pub LitHolds : List Relation → Rankings → List Statement → Lit → Type 0
-LitHolds relations c statements lit = of (meaning statements lit)
+abbrev pub LitHolds : List Relation → Rankings → (ℕ → Type 0) → List Statement → Lit → Type 0
+LitHolds relations c answers statements lit = of (meaning statements lit)
   where
     of : Option Signed → Type 0
-    of (Some s) = HoldsIn relations c s
+    of (Some s) = HoldsIn relations c answers s
     of None = is_negative lit ≡ true
 
 -- a clause is true in a completion: one of its literals is
-pub record ClauseHolds (relations : List Relation) (c : Rankings) (statements : List Statement) (clause : List Lit) : Type 0 where
+pub record ClauseHolds (relations : List Relation) (c : Rankings) (answers : ℕ → Type 0) (statements : List Statement) (clause : List Lit) : Type 0 where
   pub lit : Lit
   pub is_in : Contains clause lit
-  pub is_true : LitHolds relations c statements lit
+  pub is_true : LitHolds relations c answers statements lit

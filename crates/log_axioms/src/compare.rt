@@ -141,6 +141,9 @@ fn says_same(relations: &[Relation], a: Signed, b: Signed) -> bool
                 && same_entity(rows, row, other_row)
                 && same_value(rows, attr, row, other_row)
         }
+        (Statement::Answer { tuple }, Statement::Answer { tuple: other }) => {
+            tuple == other && signs
+        }
         _ => false,
     }
 }

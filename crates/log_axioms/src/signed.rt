@@ -1,5 +1,5 @@
 ghost use Rattle.std.specs.Prelude.{◌≡◌};
-ghost use Rattle.log_axioms.specs.Axioms.{before, not_before, top, not_top, last, not_last};
+ghost use Rattle.log_axioms.specs.Axioms.{answer, before, not_before, top, not_top, last, not_last};
 
 use currency_base::{AttrId, ItemList, RelId, RowId};
 use refutation_log::Statement;
@@ -82,6 +82,16 @@ impl Signed {
         Signed {
             statement: Statement::Last { rel, attr, row },
             negative: true,
+        }
+    }
+
+    /// The tuple at a place is an answer.
+    pub(crate) fn answer(tuple: u32) -> Signed
+        ensures { result ≡ answer tuple }
+    {
+        Signed {
+            statement: Statement::Answer { tuple },
+            negative: false,
         }
     }
 }

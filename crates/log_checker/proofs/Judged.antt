@@ -1,24 +1,23 @@
 -- A log whose first steps are judged.
-use Rattle.std.proofs.Common.{◌≡◌, ◌⊎◌, inl, inr, ◌<◌, ◌≤◌, ◌+◌, ◌*◌, ℕ, zero, suc, Bool, true, false, ◌||◌, List, [], ◌∷◌, ◌++◌, length, map, take, replicate, All, Some, option_map, slice_get, slice_index_or, refl, sym, ap, subst, ◌∙◌, arith}
+use Rattle.std.proofs.Common.{◌≡◌, inl, inr, ◌<◌, ◌≤◌, ◌+◌, ◌*◌, ℕ, zero, suc, Bool, true, false, ◌||◌, List, [], ◌∷◌, ◌++◌, length, take, replicate, Some, option_map, slice_get, slice_index_or, refl, sym, ap, subst, ◌∙◌, arith}
 use Rattle.std.specs.List.{list_any}
 use Rattle.std.proofs.lemmas.Bool.{cases_lt}
 use Rattle.std.proofs.lemmas.List.Elements.{All-get_or}
 use Rattle.std.proofs.lemmas.Option.{get_or_from_slice_get, slice_get_within, slice_get-map}
-use Rattle.currency_base.specs.Literals.{var_of}
 use Rattle.currency_base.specs.declared.lit.Lit.{Lit}
 use Rattle.spec_model.specs.Spec.{Spec}
 use Rattle.refutation_log.specs.Steps.{clause_of, clauses_of}
-use Rattle.refutation_log.specs.Counted.{AreWithin}
 use Rattle.refutation_log.specs.declared.statement.Statement.{Statement}
 use Rattle.refutation_log.specs.declared.step.Step.{Step}
-use Rattle.log_checker.specs.Accepted.{IsAccepted, IsAcceptedStep, IsFirstFault, FailsAt, IsNumbered, HasFewHints}
+use Rattle.log_axioms.specs.Posed.{Posed}
+use Rattle.log_checker.specs.Accepted.{AreAccepted, IsAcceptedStep, FailsFirst, FailsAt, IsNumbered, HasFewHints}
 use Rattle.log_checker.specs.Shown.{Shown, is_empty, is_unit, shows_unit, IsShownBy, ShowsMore}
 use Rattle.log_checker.specs.declared.fault.LogFault.{LogFault}
 
 -- the steps before a place are accepted, the replay has their clauses, and exactly what they show is shown
-pub record IsJudged (s : Spec) (statements : List Statement) (steps : List Step) (place : ℕ) (replay : List (List Lit)) (shown : Shown) : Type 0 where
+pub record IsJudged (s : Spec) (posed : Posed) (statements : List Statement) (steps : List Step) (place : ℕ) (replay : List (List Lit)) (shown : Shown) : Type 0 where
   pub clauses : replay ≡ clauses_of (take place steps)
-  pub accepted : IsAccepted s statements (take place steps)
+  pub accepted : AreAccepted s posed statements (take place steps)
   pub shown_by : IsShownBy (clauses_of (take place steps)) shown
   pub room : length shown.units ≡ 2 * length statements
 
@@ -77,10 +76,10 @@ take_front (y ∷ xs) zero (suc i) h = absurd (omega arith)
 take_front (y ∷ xs) (suc k) (suc i) h = ap (λ ys. y ∷ ys) (take_front xs k i (omega arith))
 
 -- where the step at a place is accepted after those before it, these and it are
-pub accepted_more : (s : Spec) (statements : List Statement) (steps : List Step) (k : ℕ) (step : Step) → slice_get steps k ≡ Some step
-    → IsAccepted s statements (take k steps) → IsAcceptedStep s statements (clauses_of (take k steps)) step
-    → IsAccepted s statements (take (k + 1) steps)
-accepted_more s statements steps k step at before here i x e =
+pub accepted_more : (s : Spec) (posed : Posed) (statements : List Statement) (steps : List Step) (k : ℕ) (step : Step) → slice_get steps k ≡ Some step
+    → AreAccepted s posed statements (take k steps) → IsAcceptedStep s posed statements (clauses_of (take k steps)) step
+    → AreAccepted s posed statements (take (k + 1) steps)
+accepted_more s posed statements steps k step at before here i x e =
     let found = in_front steps (k + 1) i x e in
     let below : i < k + 1 = found.0 in
     let front : take i (take (k + 1) steps) ≡ take i steps = take_front steps (k + 1) i (omega arith) in
@@ -88,13 +87,13 @@ accepted_more s statements steps k step at before here i x e =
       | inl less ↦
           let there : slice_get (take k steps) i ≡ Some x = within_front steps k i x less found.1 in
           let same : take i (take k steps) ≡ take i steps = take_front steps k i (omega arith) in
-          subst (λ ys. IsAcceptedStep s statements (clauses_of ys) x) (same ∙ sym front) (before i x there)
+          subst (λ ys. IsAcceptedStep s posed statements (clauses_of ys) x) (same ∙ sym front) (before i x there)
       | inr more ↦
           let last : i ≡ k = omega arith in
           let is : slice_get steps k ≡ Some x = subst (λ n. slice_get steps n ≡ Some x) last found.1 in
           let same : step ≡ x = (let both : Some step ≡ Some x = sym at ∙ is in cc) in
-          subst (λ y. IsAcceptedStep s statements (clauses_of (take i (take (k + 1) steps))) y) same
-          (subst (λ ys. IsAcceptedStep s statements (clauses_of ys) step) (sym (front ∙ ap (λ n. take n steps) last)) here)
+          subst (λ y. IsAcceptedStep s posed statements (clauses_of (take i (take (k + 1) steps))) y) same
+          (subst (λ ys. IsAcceptedStep s posed statements (clauses_of ys) step) (sym (front ∙ ap (λ n. take n steps) last)) here)
     ]
 
 -- the clauses with one more show what is shown with one more
@@ -106,27 +105,27 @@ shown_more clauses clause old new is more =
       empty = more.empty ∙ ap (λ b. b || is_empty clause) is.empty ∙ sym (any_push is_empty clauses clause);
     }
 
-pub judged_more : (s : Spec) (statements : List Statement) (steps : List Step) (k : ℕ) (step : Step) (lits : List Lit)
+pub judged_more : (s : Spec) (posed : Posed) (statements : List Statement) (steps : List Step) (k : ℕ) (step : Step) (lits : List Lit)
     → (replay replay' : List (List Lit)) (shown shown' : Shown) → slice_get steps k ≡ Some step → slice_get (clauses_of steps) k ≡ Some lits
-    → IsJudged s statements steps k replay shown → IsAcceptedStep s statements replay step
-    → replay' ≡ replay ++ clause_of step ∷ [] → ShowsMore shown shown' lits → IsJudged s statements steps (k + 1) replay' shown'
-judged_more s statements steps k step lits replay replay' shown shown' at at_lits judged accepted added more =
+    → IsJudged s posed statements steps k replay shown → IsAcceptedStep s posed statements replay step
+    → replay' ≡ replay ++ clause_of step ∷ [] → ShowsMore shown shown' lits → IsJudged s posed statements steps (k + 1) replay' shown'
+judged_more s posed statements steps k step lits replay replay' shown shown' at at_lits judged accepted added more =
     let is_clause : clause_of step ≡ lits =
     (let both : Some (clause_of step) ≡ Some lits = sym (slice_get-map clause_of steps k ∙ ap (option_map clause_of) at) ∙ at_lits in cc) in
     let clauses : clauses_of (take (k + 1) steps) ≡ clauses_of (take k steps) ++ clause_of step ∷ [] = clauses_more steps k step at in
     record {
       clauses = added ∙ ap (λ cs. cs ++ clause_of step ∷ []) judged.clauses ∙ sym clauses;
-      accepted = accepted_more s statements steps k step at judged.accepted
-          (subst (λ cs. IsAcceptedStep s statements cs step) judged.clauses accepted);
+      accepted = accepted_more s posed statements steps k step at judged.accepted
+          (subst (λ cs. IsAcceptedStep s posed statements cs step) judged.clauses accepted);
       shown_by = subst (λ cs. IsShownBy cs shown') (sym clauses)
           (shown_more (clauses_of (take k steps)) (clause_of step) shown shown' judged.shown_by (subst (ShowsMore shown shown') (sym is_clause) more));
       room = more.room ∙ judged.room;
     }
 
 -- nothing is judged yet
-pub judged_none : (s : Spec) (statements : List Statement) (steps : List Step) (shown : Shown)
-    → shown ≡ record { units = replicate (2 * length statements) false; empty = false } → IsJudged s statements steps 0 [] shown
-judged_none s statements steps shown begun =
+pub judged_none : (s : Spec) (posed : Posed) (statements : List Statement) (steps : List Step) (shown : Shown)
+    → shown ≡ record { units = replicate (2 * length statements) false; empty = false } → IsJudged s posed statements steps 0 [] shown
+judged_none s posed statements steps shown begun =
     record {
       clauses = refl;
       accepted = λ place step e. cc;
@@ -144,11 +143,11 @@ judged_none s statements steps shown begun =
     count (suc n) = ap suc (count n)
 
 -- all steps are judged
-pub judged_all : (s : Spec) (statements : List Statement) (steps : List Step) (k : ℕ) (replay : List (List Lit)) (shown : Shown)
-    → length steps ≤ k → IsJudged s statements steps k replay shown → IsAccepted s statements steps × IsShownBy (clauses_of steps) shown
-judged_all s statements steps k replay shown past judged =
+pub judged_all : (s : Spec) (posed : Posed) (statements : List Statement) (steps : List Step) (k : ℕ) (replay : List (List Lit)) (shown : Shown)
+    → length steps ≤ k → IsJudged s posed statements steps k replay shown → AreAccepted s posed statements steps × IsShownBy (clauses_of steps) shown
+judged_all s posed statements steps k replay shown past judged =
     let all : take k steps ≡ steps = whole steps k past in
-    (subst (IsAccepted s statements) all judged.accepted, subst (λ ys. IsShownBy (clauses_of ys) shown) all judged.shown_by)
+    (subst (AreAccepted s posed statements) all judged.accepted, subst (λ ys. IsShownBy (clauses_of ys) shown) all judged.shown_by)
   where
     whole : {A : Type 0} (xs : List A) (k : ℕ) → length xs ≤ k → take k xs ≡ xs
     whole [] zero h = refl
@@ -157,11 +156,11 @@ judged_all s statements steps k replay shown past judged =
     whole (y ∷ xs) (suc k) h = ap (λ ys. y ∷ ys) (whole xs k (omega arith))
 
 -- the step at a place fails, and those before it are accepted
-pub first_fault : (s : Spec) (statements : List Statement) (steps : List Step) (k : ℕ) (step : Step) (replay : List (List Lit)) (shown : Shown) (fault : LogFault)
-    → slice_get steps k ≡ Some step → IsJudged s statements steps k replay shown → FailsAt s statements replay k step fault
-    → IsFirstFault s statements steps fault
-first_fault s statements steps k step replay shown fault at judged fails =
-    record { place = k; step = step; is_step = at; earlier = judged.accepted; fails = subst (λ cs. FailsAt s statements cs k step fault) judged.clauses fails }
+pub first_fault : (s : Spec) (posed : Posed) (statements : List Statement) (steps : List Step) (k : ℕ) (step : Step) (replay : List (List Lit)) (shown : Shown) (fault : LogFault)
+    → slice_get steps k ≡ Some step → IsJudged s posed statements steps k replay shown → FailsAt s posed statements replay k step fault
+    → FailsFirst s posed statements steps fault
+first_fault s posed statements steps k step replay shown fault at judged fails =
+    record { place = k; step = step; is_step = at; earlier = judged.accepted; fails = subst (λ cs. FailsAt s posed statements cs k step fault) judged.clauses fails }
 
 -- a step's hints are few, and its literals have room
 pub few_hints_at : (statements : List Statement) (steps : List Step) (k : ℕ) (step : Step) → IsNumbered statements steps

@@ -1,5 +1,5 @@
 -- What becomes of a log is determined.
-use Rattle.std.proofs.Common.{◌≡◌, ◌⊎◌, inl, inr, ◌∙◌, refl, sym, ap, subst, ◌<◌, ℕ, Bool, true, false, List, length, take, Some, slice_get, Result, Ok, Err, IfErr, arith}
+use Rattle.std.proofs.Common.{◌≡◌, ◌⊎◌, inl, inr, ◌∙◌, sym, ap, subst, ◌<◌, ℕ, true, List, length, take, Some, slice_get, Result, Ok, Err, IfErr, arith}
 use Rattle.std.proofs.lemmas.Bool.{cases_order, both_ways}
 use Rattle.currency_base.specs.declared.lit.Lit.{Lit}
 use Rattle.spec_model.specs.Spec.{Spec}
@@ -14,18 +14,19 @@ use Rattle.log_replay.specs.declared.fault.StepFault.{StepFault}
 use Rattle.log_replay.specs.declared.fault.StepFault.TheVariants as cause
 use Rattle.log_replay.proofs.OneEnd.{follows_not_refused, one_refusal}
 use Rattle.log_axioms.specs.Axioms.{is_axiom}
-use Rattle.log_checker.specs.Accepted.{IsAccepted, IsAcceptedStep, IsFirstFault, FailsAt, FailsAsAxiom, FailsToFollow}
+use Rattle.log_axioms.specs.Posed.{Posed}
+use Rattle.log_checker.specs.Accepted.{AreAccepted, IsAcceptedStep, FailsFirst, FailsAt, FailsAsAxiom, FailsToFollow}
 use Rattle.log_checker.specs.declared.fault.LogFault.{LogFault}
 use Rattle.log_checker.specs.declared.fault.LogFault.TheVariants.{NotAnAxiom, NotDerived, UnknownHint, NoMemory}
 use Rattle.log_checker.specs.Shown.{Shown}
 use Rattle.log_checker.proofs.Judged.{take_front, within_front}
 
-module _ (s : Spec) (statements : List Statement) where
+module _ (s : Spec) (posed : Posed) (statements : List Statement) where
   -- ---- one step
 
-  axiom_fails : (at : ℕ) (l : Label) (lits : List Lit) (fault : LogFault) → is_axiom s statements l lits ≡ true
-      → FailsAsAxiom s statements at l lits fault → ⊥
-  axiom_fails at l lits (NotAnAxiom step) passed fails = both_ways (is_axiom s statements l lits) fails.1 passed
+  axiom_fails : (at : ℕ) (l : Label) (lits : List Lit) (fault : LogFault) → is_axiom s posed statements l lits ≡ true
+      → FailsAsAxiom s posed statements at l lits fault → ⊥
+  axiom_fails at l lits (NotAnAxiom step) passed fails = both_ways (is_axiom s posed statements l lits) fails.1 passed
   axiom_fails at l lits (NotDerived step place) passed fails = fails
   axiom_fails at l lits (UnknownHint step) passed fails = fails
   axiom_fails at l lits NoMemory passed fails = fails
@@ -41,14 +42,14 @@ module _ (s : Spec) (statements : List Statement) where
   follow_fails earlier at lits hints (UnknownHint step) from fails = follows_not_refused earlier lits hints (cause.UnknownHint fails.1.0) from fails.1.1
   follow_fails earlier at lits hints NoMemory from fails = fails
 
-  step_fails : (earlier : List (List Lit)) (at : ℕ) (step : Step) (fault : LogFault) → IsAcceptedStep s statements earlier step
-      → FailsAt s statements earlier at step fault → ⊥
+  step_fails : (earlier : List (List Lit)) (at : ℕ) (step : Step) (fault : LogFault) → IsAcceptedStep s posed statements earlier step
+      → FailsAt s posed statements earlier at step fault → ⊥
   step_fails earlier at (Axiom l lits) fault passed fails = axiom_fails at l lits fault passed fails
   step_fails earlier at (OnDemand l lits) fault passed fails = axiom_fails at l lits fault passed fails
   step_fails earlier at (Learn lits hints counted) fault passed fails = follow_fails earlier at lits hints fault passed fails
 
-  same_axiom_fault : (at : ℕ) (l : Label) (lits : List Lit) (one other : LogFault) → FailsAsAxiom s statements at l lits one
-      → FailsAsAxiom s statements at l lits other → one ≡ other
+  same_axiom_fault : (at : ℕ) (l : Label) (lits : List Lit) (one other : LogFault) → FailsAsAxiom s posed statements at l lits one
+      → FailsAsAxiom s posed statements at l lits other → one ≡ other
   same_axiom_fault at l lits (NotAnAxiom m) (NotAnAxiom n) f g = ap NotAnAxiom (f.0 ∙ sym g.0)
   same_axiom_fault at l lits (NotAnAxiom m) (NotDerived n place) f g = absurd g
   same_axiom_fault at l lits (NotAnAxiom m) (UnknownHint n) f g = absurd g
@@ -88,37 +89,37 @@ module _ (s : Spec) (statements : List Statement) where
     same_follow_fault at (UnknownHint m) NoMemory f g = absurd g
     same_follow_fault at NoMemory other f g = absurd f
 
-  same_fault : (earlier : List (List Lit)) (at : ℕ) (step : Step) (one other : LogFault) → FailsAt s statements earlier at step one
-      → FailsAt s statements earlier at step other → one ≡ other
+  same_fault : (earlier : List (List Lit)) (at : ℕ) (step : Step) (one other : LogFault) → FailsAt s posed statements earlier at step one
+      → FailsAt s posed statements earlier at step other → one ≡ other
   same_fault earlier at (Axiom l lits) one other f g = same_axiom_fault at l lits one other f g
   same_fault earlier at (OnDemand l lits) one other f g = same_axiom_fault at l lits one other f g
   same_fault earlier at (Learn lits hints counted) one other f g = same_follow_fault earlier lits hints at one other f g
 
   -- ---- a log
 
-  pub accepted_has_no_fault : (steps : List Step) (fault : LogFault) → IsAccepted s statements steps → IsFirstFault s statements steps fault → ⊥
+  pub accepted_has_no_fault : (steps : List Step) (fault : LogFault) → AreAccepted s posed statements steps → FailsFirst s posed statements steps fault → ⊥
   accepted_has_no_fault steps fault accepted first =
       step_fails (clauses_of (take first.place steps)) first.place first.step fault (accepted first.place first.step first.is_step) first.fails
 
   -- where the steps before a later place are accepted, no earlier one fails
-  earlier_fails : (steps : List Step) (one other : LogFault) (f : IsFirstFault s statements steps one) (g : IsFirstFault s statements steps other)
+  earlier_fails : (steps : List Step) (one other : LogFault) (f : FailsFirst s posed statements steps one) (g : FailsFirst s posed statements steps other)
       → f.place < g.place → ⊥
   earlier_fails steps one other f g below =
       let at : slice_get (take g.place steps) f.place ≡ Some f.step = within_front steps g.place f.place f.step below f.is_step in
       let front : take f.place (take g.place steps) ≡ take f.place steps = take_front steps g.place f.place (omega arith) in
       step_fails (clauses_of (take f.place steps)) f.place f.step one
-      (subst (λ ys. IsAcceptedStep s statements (clauses_of ys) f.step) front (g.earlier f.place f.step at)) f.fails
+      (subst (λ ys. IsAcceptedStep s posed statements (clauses_of ys) f.step) front (g.earlier f.place f.step at)) f.fails
 
-  at_one_place : (steps : List Step) (one other : LogFault) (f : IsFirstFault s statements steps one) (g : IsFirstFault s statements steps other)
+  at_one_place : (steps : List Step) (one other : LogFault) (f : FailsFirst s posed statements steps one) (g : FailsFirst s posed statements steps other)
       → f.place ≡ g.place → one ≡ other
   at_one_place steps one other f g same =
       let step : f.step ≡ g.step = (let both : Some f.step ≡ Some g.step = sym f.is_step ∙ ap (slice_get steps) same ∙ g.is_step in cc) in
-      let fails : FailsAt s statements (clauses_of (take f.place steps)) f.place f.step other =
-      subst (λ x. FailsAt s statements (clauses_of (take f.place steps)) f.place x other) (sym step)
-      (subst (λ n. FailsAt s statements (clauses_of (take n steps)) n g.step other) (sym same) g.fails) in
+      let fails : FailsAt s posed statements (clauses_of (take f.place steps)) f.place f.step other =
+      subst (λ x. FailsAt s posed statements (clauses_of (take f.place steps)) f.place x other) (sym step)
+      (subst (λ n. FailsAt s posed statements (clauses_of (take n steps)) n g.step other) (sym same) g.fails) in
       same_fault (clauses_of (take f.place steps)) f.place f.step one other f.fails fails
 
-  pub one_first_fault : (steps : List Step) (one other : LogFault) → IsFirstFault s statements steps one → IsFirstFault s statements steps other → one ≡ other
+  pub one_first_fault : (steps : List Step) (one other : LogFault) → FailsFirst s posed statements steps one → FailsFirst s posed statements steps other → one ≡ other
   one_first_fault steps one other f g =
       elim (cases_order f.place g.place) [
         | inl same ↦ at_one_place steps one other f g same
@@ -127,8 +128,8 @@ module _ (s : Spec) (statements : List Statement) where
       ]
 
   -- of an accepted log no fault but want of memory is told
-  pub no_fault_where_accepted : (steps : List Step) (outcome : Result Shown LogFault) → IsAccepted s statements steps
-      → IfErr outcome (λ (e : LogFault). (e ≡ NoMemory) ⊎ IsFirstFault s statements steps e) → IfErr outcome (λ (e : LogFault). e ≡ NoMemory)
+  pub no_fault_where_accepted : (steps : List Step) (outcome : Result Shown LogFault) → AreAccepted s posed statements steps
+      → IfErr outcome (λ (e : LogFault). (e ≡ NoMemory) ⊎ FailsFirst s posed statements steps e) → IfErr outcome (λ (e : LogFault). e ≡ NoMemory)
   no_fault_where_accepted steps (Ok shown) accepted refused = refused
   no_fault_where_accepted steps (Err fault) accepted refused =
       elim refused [ inl e ↦ e | inr first ↦ absurd (accepted_has_no_fault steps fault accepted first) ]

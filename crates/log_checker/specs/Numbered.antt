@@ -1,5 +1,5 @@
 -- The test for logs that can be checked.
-use Rattle.std.specs.Prelude.{◌&&◌, ◌^◌, ℕ, Bool, true, nat_lt, List, length}
+use Rattle.std.specs.Prelude.{◌&&◌, ◌^◌, ℕ, Bool, nat_lt, List, length}
 use Rattle.std.specs.List.{list_all}
 use Rattle.currency_base.specs.Literals.{var_of}
 use Rattle.currency_base.specs.declared.lit.Lit.{Lit}

@@ -1,5 +1,5 @@
 -- What an accepted log shows: the literals whose units it has, and whether it has the empty clause.
-use Rattle.std.specs.Prelude.{◌≡◌, ◌==◌, ◌||◌, ◌<◌, ◌*◌, ℕ, Bool, true, false, List, [], ◌∷◌, length}
+use Rattle.std.specs.Prelude.{◌≡◌, ◌==◌, ◌||◌, Bool, true, false, List, [], ◌∷◌, length}
 use Rattle.std.specs.List.{list_all, list_any, slice_index_or}
 use Rattle.currency_base.specs.declared.lit.Lit.{Lit}
 

@@ -9,5 +9,4 @@ pub mod Logs
 pub mod EndingReaders
 pub mod LogParts
 pub mod Sizes
-pub mod Plain
 mod WholeLogs

@@ -9,8 +9,7 @@ use Rattle.text_grammar.specs.Reading.{both}
 use Rattle.text_grammar.specs.Laws.{IsReader, Stopped}
 use Rattle.text_grammar.proofs.Readers.{always, Begins, Image, Joins, reads_both, reads_made, reads_same, reads_two, stopped_at_first}
 use Rattle.text_grammar.proofs.Choices.{Either}
-use Rattle.text_grammar.proofs.FixedTokens.{after_symbol, after_word, apart, before_symbol, begins_fixed}
-use Rattle.text_grammar.proofs.SequenceTellings.{either_apart}
+use Rattle.text_grammar.proofs.FixedTokens.{after_symbol, after_word, apart, before_symbol, begins_fixed, either_apart}
 use Rattle.currency_base.specs.declared.value.Value.{Value}
 use Rattle.refutation_log.specs.declared.statement.Statement.{Statement}
 use Rattle.refutation_log.specs.declared.statement.Statement.TheVariants as statement

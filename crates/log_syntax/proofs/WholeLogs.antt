@@ -3,9 +3,9 @@ use Rattle.std.proofs.Common.{◌≡◌, ℕ, Bor, List, map, refl, sym, ap, sub
 use Rattle.text_tokens.specs.Lexeme.{Lexeme, lexeme_of}
 use Rattle.text_tokens.specs.declared.token.Token.{Token}
 use Rattle.text_tokens.specs.declared.token.TextFault.{TextFault}
-use Rattle.text_tokens.specs.declared.token.TextFault.TheVariants.{NotUtf8, Syntax, Unbuilt, NoMemory}
+use Rattle.text_tokens.specs.declared.token.TextFault.TheVariants.{NotUtf8, Syntax, NoMemory}
 use Rattle.text_grammar.specs.Grammar.{RefusedAt}
-use Rattle.text_grammar.specs.Reading.{GivesWhole, Stop, refuse, refuse_unbuilt}
+use Rattle.text_grammar.specs.Reading.{GivesWhole, Stop, refuse}
 use Rattle.text_grammar.specs.declared.refusal.Refusal.{Refusal}
 use Rattle.text_grammar.specs.declared.refusal.Refusal.TheVariants as refusal
 use Rattle.text_grammar.proofs.TextLaws.{one_place}
@@ -43,12 +43,6 @@ pub refusal_is : (tokens : List Lexeme) (end line : ℕ) (r : Refusal) (left : B
 refusal_is tokens end line r left h e f =
     is_refused_on tokens end line (refuse (map lexeme_of left.now)) (subst (λ (r : Refusal). GivesWhole {A = ReadLog} (Err r) (log_of tokens)) e h) f
 
-pub unbuilt_is : (tokens : List Lexeme) (end line : ℕ) (r : Refusal) (left : Bor (List Token))
-    → GivesWhole {A = ReadLog} (Err r) (log_of tokens) → r ≡ refusal.Unbuilt left
-    → line ≡ line_at end (map lexeme_of left.now) → RefusesLog tokens end (Syntax line)
-unbuilt_is tokens end line r left h e f =
-    is_refused_on tokens end line (refuse_unbuilt (map lexeme_of left.now)) (subst (λ (r : Refusal). GivesWhole {A = ReadLog} (Err r) (log_of tokens)) e h) f
-
 -- ---- one log, or one refusal
 
 same_ok : (a b : ReadLog) → ◌≡◌ {A = Result ReadLog Stop} (Ok a) (Ok b) → a ≡ b
@@ -62,10 +56,8 @@ one_log tokens a b h k = sym h.1 ∙ ap (λ (r : ReadLog). r.log) (one_read_log 
 
 pub one_refusal : (tokens : List Lexeme) (end : ℕ) (e f : TextFault) → RefusesLog tokens end e → RefusesLog tokens end f → e ≡ f
 one_refusal tokens end (NotUtf8 line) f h k = absurd h
-one_refusal tokens end (Unbuilt line) f h k = absurd h
 one_refusal tokens end NoMemory f h k = absurd h
 one_refusal tokens end (Syntax line) (NotUtf8 line') h k = absurd k
-one_refusal tokens end (Syntax line) (Unbuilt line') h k = absurd k
 one_refusal tokens end (Syntax line) NoMemory h k = absurd k
 one_refusal tokens end (Syntax line) (Syntax line') h k =
     ap (λ (n : ℕ). Syntax n) (h.on_line ∙ ap (line_at end) (one_place SpellsLogOrNothing tokens h.left k.left h.place k.place) ∙ sym k.on_line)
@@ -74,5 +66,4 @@ pub not_both : (tokens : List Lexeme) (end : ℕ) (log : Log) (e : TextFault) �
     → RefusesLog tokens end e → ⊥
 not_both tokens end log (Syntax line) h k = k.place.none log h
 not_both tokens end log (NotUtf8 line) h k = k
-not_both tokens end log (Unbuilt line) h k = k
 not_both tokens end log NoMemory h k = k

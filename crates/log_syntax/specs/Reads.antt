@@ -2,7 +2,7 @@
 use Rattle.std.specs.Prelude.{◌≡◌, ℕ, List, [], ◌∷◌}
 use Rattle.text_tokens.specs.Lexeme.{Lexeme}
 use Rattle.text_tokens.specs.declared.token.TextFault.{TextFault}
-use Rattle.text_tokens.specs.declared.token.TextFault.TheVariants.{NotUtf8, Syntax, Unbuilt, NoMemory}
+use Rattle.text_tokens.specs.declared.token.TextFault.TheVariants.{NotUtf8, Syntax, NoMemory}
 use Rattle.text_grammar.specs.Grammar.{RefusedAt}
 use Rattle.refutation_log.specs.declared.log.Log.{Log}
 use Rattle.log_syntax.specs.Grammar.{SpellsLogPart}
@@ -27,5 +27,4 @@ pub record RefusedOn (tokens : List Lexeme) (end line : ℕ) : Type 0 where
 abbrev pub RefusesLog : List Lexeme → ℕ → TextFault → Type 0
 RefusesLog tokens end (Syntax line) = RefusedOn tokens end line
 RefusesLog tokens end (NotUtf8 line) = ⊥
-RefusesLog tokens end (Unbuilt line) = ⊥
 RefusesLog tokens end NoMemory = ⊥

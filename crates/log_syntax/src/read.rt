@@ -12,8 +12,8 @@ use text_tokens::{TextFault, Token};
 /// The log that the tokens spell, all of them; no token is the empty log.
 ///
 /// Syntax comes where they spell none, at the line of the first token at which no log goes on, or at the
-/// line `end` where the tokens end too early. NotUtf8 and Unbuilt never come. The time is linear in the
-/// tokens' text.
+/// line `end` where the tokens end too early. NotUtf8 never comes. The time is linear in the tokens'
+/// text.
 #[tactic(auto, using(crate::proofs::WholeLogs::is_spelled, crate::proofs::WholeLogs::is_refused_on))]
 pub fn read_log(alloc: Global, tokens: &[Token], end: u32) -> Result<Log, TextFault>
     ensures read { IfOk result (λ log. SpellsLogOrNothing log (map lexeme_of tokens.now)) }
@@ -22,9 +22,6 @@ pub fn read_log(alloc: Global, tokens: &[Token], end: u32) -> Result<Log, TextFa
     match log_or_nothing(alloc, tokens) {
         Ok(read) => Ok(read.log),
         Err(Refusal::Syntax(left)) => Err(TextFault::Syntax {
-            line: line_at(end, left),
-        }),
-        Err(Refusal::Unbuilt(left)) => Err(TextFault::Syntax {
             line: line_at(end, left),
         }),
         Err(Refusal::NoMemory) => Err(TextFault::NoMemory),

@@ -1,4 +1,4 @@
--- What a set of pairs and a map of rows have after one more.
+-- What a set and a map of rows have after one more.
 use Rattle.std.proofs.Common.{◌≡◌, ◌⊎◌, inl, inr, Bool, true, false, cond, List, [], ◌∷◌, ◌++◌, Contains, Option, Some, None, refl, sym, ap, ◌∙◌, subst, ⊎_elim}
 use Rattle.std.proofs.lemmas.Bool.{cases_Bool}
 use Rattle.std.proofs.lemmas.List.Elements.{Contains-append_left, Contains-push, Contains-push_cases}
@@ -9,6 +9,7 @@ use Rattle.std.specs.List.{list_any}
 use Rattle.std.specs.Map.{lookup}
 use Rattle.std.specs.Option.{unwrap_or}
 use Rattle.std.specs.Ordering.{is_eq}
+use Rattle.std.specs.declared.cmp.Ordering.{Ordering}
 use Rattle.currency_base.specs.declared.ids.RowId.{RowId}
 use Rattle.log_units.specs.Said.{Adds, has_row, place_cmp, rows_at}
 use Rattle.log_units.specs.declared.said.Place.{Place}
@@ -21,41 +22,56 @@ use Rattle.log_units.proofs.Keys.{pair_cmp, pair_is, pair_itself, place_is, plac
 pub adds_nothing : {K : Type 0} (has : K → Type 0) → Adds has has None
 adds_nothing has = record { kept = λ k h. h; there = λ k e. absurd (none-some k e); only = λ k h. inl h }
 
+-- ---- sets
+
+-- a set that an order looks through, which is equal for equal items alone
+module _ {K : Type 0} (cmp : K → K → Ordering) (is_same : (x y : K) → is_eq (cmp x y) ≡ true → x ≡ y) (itself : (x : K) → is_eq (cmp x x) ≡ true) where
+  -- the item is found
+  abbrev finds : List K → K → Bool
+  finds items k = list_any (λ q. is_eq (cmp k q)) items
+
+  pub item_in : (items : List K) (k : K) → finds items k ≡ true → Contains items k
+  item_in items k e = Contains-from_any {eq = λ x y. is_eq (cmp x y)} is_same k items e
+
+  pub item_found : (items : List K) (k : K) → Contains items k → finds items k ≡ true
+  item_found items k is =
+      any_passes_from_place (λ q. is_eq (cmp k q)) items is.0 k (slice_get-get_or items is.0 k is.1 ∙ ap Some is.2) (itself k)
+
+  pub adds_item : (old new : List K) (k : K)
+      → ((q : K) → finds new q ≡ cond (is_eq (cmp k q)) true (finds old q))
+      → Adds (Contains old) (Contains new) (Some k)
+  adds_item old new k updates = record {
+    kept = λ q is. item_in new q (kept q (is_eq (cmp k q)) (updates q) (item_found old q is));
+    there = λ q e. item_in new q (updates q ∙ there q (same_Some k q e));
+    only = λ q is. only q (is_eq (cmp k q)) refl (sym (updates q) ∙ item_found new q is);
+  }
+    where
+      kept : (q : K) (b : Bool) → finds new q ≡ cond b true (finds old q) → finds old q ≡ true → finds new q ≡ true
+      kept q true e was = e
+      kept q false e was = e ∙ was
+
+      there : (q : K) → k ≡ q → cond (is_eq (cmp k q)) true (finds old q) ≡ true
+      there q same =
+          let here : is_eq (cmp k q) ≡ true = ap (λ r. is_eq (cmp k r)) (sym same) ∙ itself k in
+          ap (λ b. cond b true (finds old q)) here
+
+      only : (q : K) (b : Bool) → is_eq (cmp k q) ≡ b → cond b true (finds old q) ≡ true
+          → Contains old q ⊎ (Some k ≡ Some q)
+      only q true here e = inr (ap Some (is_same k q here))
+      only q false here e = inl (item_in old q e)
+
 -- ---- pairs
 
--- the pair is found
-abbrev finds : List SaidPair → SaidPair → Bool
-finds pairs p = list_any (λ q. is_eq (pair_cmp p q)) pairs
+pub pair_in : (pairs : List SaidPair) (p : SaidPair) → finds pair_cmp pair_is pair_itself pairs p ≡ true → Contains pairs p
+pair_in = item_in pair_cmp pair_is pair_itself
 
-pub pair_in : (pairs : List SaidPair) (p : SaidPair) → finds pairs p ≡ true → Contains pairs p
-pair_in pairs p e = Contains-from_any {eq = λ x y. is_eq (pair_cmp x y)} pair_is p pairs e
-
-pub pair_found : (pairs : List SaidPair) (p : SaidPair) → Contains pairs p → finds pairs p ≡ true
-pair_found pairs p is =
-    any_passes_from_place (λ q. is_eq (pair_cmp p q)) pairs is.0 p (slice_get-get_or pairs is.0 p is.1 ∙ ap Some is.2) (pair_itself p)
+pub pair_found : (pairs : List SaidPair) (p : SaidPair) → Contains pairs p → finds pair_cmp pair_is pair_itself pairs p ≡ true
+pair_found = item_found pair_cmp pair_is pair_itself
 
 pub adds_pair : (old new : List SaidPair) (p : SaidPair)
-    → ((q : SaidPair) → finds new q ≡ cond (is_eq (pair_cmp p q)) true (finds old q))
+    → ((q : SaidPair) → finds pair_cmp pair_is pair_itself new q ≡ cond (is_eq (pair_cmp p q)) true (finds pair_cmp pair_is pair_itself old q))
     → Adds (Contains old) (Contains new) (Some p)
-adds_pair old new p updates = record {
-  kept = λ q is. pair_in new q (kept q (is_eq (pair_cmp p q)) (updates q) (pair_found old q is));
-  there = λ q e. pair_in new q (updates q ∙ there q (same_Some p q e));
-  only = λ q is. only q (is_eq (pair_cmp p q)) refl (sym (updates q) ∙ pair_found new q is);
-}
-  where
-    kept : (q : SaidPair) (b : Bool) → finds new q ≡ cond b true (finds old q) → finds old q ≡ true → finds new q ≡ true
-    kept q true e was = e
-    kept q false e was = e ∙ was
-
-    there : (q : SaidPair) → p ≡ q → cond (is_eq (pair_cmp p q)) true (finds old q) ≡ true
-    there q same =
-        let here : is_eq (pair_cmp p q) ≡ true = ap (λ r. is_eq (pair_cmp p r)) (sym same) ∙ pair_itself p in
-        ap (λ b. cond b true (finds old q)) here
-
-    only : (q : SaidPair) (b : Bool) → is_eq (pair_cmp p q) ≡ b → cond b true (finds old q) ≡ true
-        → Contains old q ⊎ (Some p ≡ Some q)
-    only q true here e = inr (ap Some (pair_is p q here))
-    only q false here e = inl (pair_in old q e)
+adds_pair = adds_item pair_cmp pair_is pair_itself
 
 -- ---- rows
 

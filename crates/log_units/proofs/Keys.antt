@@ -1,12 +1,15 @@
 -- Keys that compare as equal are equal.
-use Rattle.std.proofs.Common.{◌≡◌, ℕ, true, refl, ◌∙◌}
+use Rattle.std.proofs.Common.{◌≡◌, ℕ, true, List, refl, ◌∙◌}
 use Rattle.std.proofs.lemmas.Bool.{and_parts, false≢true}
 use Rattle.std.proofs.lemmas.Cmp.{nat_cmp_total}
 use Rattle.std.proofs.lemmas.Map.Lookups.{exact_unsigned}
-use Rattle.std.specs.Cmp.{tied_then}
+use Rattle.std.specs.Cmp.{IsTotalOrder, tied_then}
+use Rattle.std.specs.Cmp.Lexicographic.{slice_cmp}
 use Rattle.std.specs.Ordering.{is_eq, nat_cmp, on, ordering_reverse, ordering_then, then_cmp}
 use Rattle.std.specs.declared.cmp.Ordering.{Ordering}
 use Rattle.std.specs.declared.cmp.Ordering.TheVariants.{Less, Equal, Greater}
+use Rattle.currency_base.specs.Values.{value_cmp}
+use Rattle.currency_base.specs.declared.value.Value.{Value}
 use Rattle.log_units.specs.Said.{place_cmp}
 use Rattle.log_units.specs.declared.said.Place.{Place}
 use Rattle.log_units.specs.declared.said.SaidPair.{SaidPair}
@@ -82,3 +85,15 @@ pub place_itself : (x : Place) → is_eq (place_cmp x x) ≡ true
 place_itself x =
     both (nat_cmp x.rel.0 x.rel.0) _ (number_itself x.rel.0)
     (both (nat_cmp x.attr.0 x.attr.0) (nat_cmp x.ent.0 x.ent.0) (number_itself x.attr.0) (number_itself x.ent.0))
+
+-- ---- tuples
+
+abbrev pub tuple_cmp : List Value → List Value → Ordering
+tuple_cmp = slice_cmp value_cmp
+
+-- by the laws of the order of tuples
+pub tuple_is : ((a b : List Value) → tuple_cmp a b ≡ Equal → a ≡ b) → (x y : List Value) → is_eq (tuple_cmp x y) ≡ true → x ≡ y
+tuple_is exact x y e = exact x y (equal_order (tuple_cmp x y) e)
+
+pub tuple_itself : IsTotalOrder tuple_cmp → (x : List Value) → is_eq (tuple_cmp x x) ≡ true
+tuple_itself total x = own (tuple_cmp x x) (total.antisymm x x)

@@ -2,3 +2,4 @@ mod Keys
 mod Changes
 mod Noting
 mod Says
+mod SaysAnswers

@@ -13,7 +13,7 @@ use Rattle.refutation_log.specs.declared.log.Log.{Log}
 use Rattle.refutation_log.specs.declared.statement.Statement.{Statement}
 use Rattle.spec_model.specs.declared.relation.Relation.{Relation}
 use Rattle.log_units.specs.Noted.{AreNoted, IsSaid, Notes}
-use Rattle.log_units.specs.Said.{Adds, has_row, pair_of, row_of}
+use Rattle.log_units.specs.Said.{Adds, has_row, pair_of, row_of, tuple_of}
 use Rattle.log_units.specs.declared.index.Index.{Index}
 
 lit_is : (a b : Lit) → a.0 ≡ b.0 → a ≡ b
@@ -97,23 +97,27 @@ module _ {K : Type 0} (said_by : Signed → Option K) (log : Log) where
           (adds.only k h);
     }
 
--- ---- pairs and rows
+-- ---- pairs, rows and answers
 
 module _ (relations : List Relation) (log : Log) where
   not_in : {A : Type 0} (x : A) → Contains [] x → ⊥
   not_in x is = let below = is.1 in absurd (omega arith)
 
-  pub noted_none : (index : Index) → index.pairs ≡ [] → index.rows ≡ [] → AreNoted relations log 0 index
-  noted_none index pairs rows = record {
+  pub noted_none : (index : Index) → index.pairs ≡ [] → index.rows ≡ [] → index.answers ≡ [] → AreNoted relations log 0 index
+  noted_none index pairs rows answers = record {
     pairs = notes_none pair_of log (Contains index.pairs) (λ k h. not_in k (subst (λ ps. Contains ps k) pairs h));
     rows = notes_none (row_of relations) log (has_row index.rows) (λ k h. not_in k.row (subst (λ es. has_row es k) rows h));
+    answers = notes_none (tuple_of log.answers) log (Contains index.answers) (λ k h. not_in k (subst (λ ps. Contains ps k) answers h));
   }
 
-  pub noted_nothing : (below : ℕ) (index : Index) → log.steps ≡ [] → index.pairs ≡ [] → index.rows ≡ [] → AreNoted relations log below index
-  noted_nothing below index empty pairs rows = record {
+  pub noted_nothing : (below : ℕ) (index : Index) → log.steps ≡ [] → index.pairs ≡ [] → index.rows ≡ [] → index.answers ≡ []
+      → AreNoted relations log below index
+  noted_nothing below index empty pairs rows answers = record {
     pairs = notes_nothing pair_of log below (Contains index.pairs) (ap clauses_of empty) (λ k h. not_in k (subst (λ ps. Contains ps k) pairs h));
     rows = notes_nothing (row_of relations) log below (has_row index.rows) (ap clauses_of empty)
         (λ k h. not_in k.row (subst (λ es. has_row es k) rows h));
+    answers = notes_nothing (tuple_of log.answers) log below (Contains index.answers) (ap clauses_of empty)
+        (λ k h. not_in k (subst (λ ps. Contains ps k) answers h));
   }
 
   pub noted_no_more : (lit : Lit) (index : Index) → list_any (is_unit lit) (clauses_of log.steps) ≡ false
@@ -121,23 +125,26 @@ module _ (relations : List Relation) (log : Log) where
   noted_no_more lit index missing noted = record {
     pairs = notes_no_more pair_of log lit (Contains index.pairs) missing noted.pairs;
     rows = notes_no_more (row_of relations) log lit (has_row index.rows) missing noted.rows;
+    answers = notes_no_more (tuple_of log.answers) log lit (Contains index.answers) missing noted.answers;
   }
 
   pub noted_more : (lit : Lit) (old new : Index) (statement : Statement) → list_any (is_unit lit) (clauses_of log.steps) ≡ true
       → slice_get log.statements (var_of lit) ≡ Some statement
       → Adds (Contains old.pairs) (Contains new.pairs) (pair_of record { statement = statement; negative = is_negative lit })
       → Adds (has_row old.rows) (has_row new.rows) (row_of relations record { statement = statement; negative = is_negative lit })
+      → Adds (Contains old.answers) (Contains new.answers) (tuple_of log.answers record { statement = statement; negative = is_negative lit })
       → AreNoted relations log lit.0 old → AreNoted relations log (lit.0 + 1) new
-  noted_more lit old new statement there at pairs rows noted =
+  noted_more lit old new statement there at pairs rows answers noted =
       let signed : Signed = record { statement = statement; negative = is_negative lit } in
       let means : meaning log.statements lit ≡ Some signed =
       ap (option_map (λ (s : Statement). let m : Signed = record { statement = s; negative = is_negative lit } in m)) at in
       record {
         pairs = notes_more pair_of log lit (Contains old.pairs) (Contains new.pairs) signed there means pairs noted.pairs;
         rows = notes_more (row_of relations) log lit (has_row old.rows) (has_row new.rows) signed there means rows noted.rows;
+        answers = notes_more (tuple_of log.answers) log lit (Contains old.answers) (Contains new.answers) signed there means answers noted.answers;
       }
 
--- what follows from two facts of a success
-pub both_ok : {X Y : Type 0} (r : Result X Y) (P Q R : Type 0) → OnOk r P → OnOk r Q → (P → Q → R) → OnOk r R
-both_ok (Ok x) P Q R p q f = f p q
-both_ok (Err y) P Q R p q f = tt
+-- what follows from three facts of a success
+pub three_ok : {X Y : Type 0} (r : Result X Y) (P Q R S : Type 0) → OnOk r P → OnOk r Q → OnOk r R → (P → Q → R → S) → OnOk r S
+three_ok (Ok x) P Q R S p q s f = f p q s
+three_ok (Err y) P Q R S p q s f = tt

@@ -32,7 +32,7 @@ use Rattle.log_units.specs.declared.index.Index.{Index}
 use Rattle.log_units.specs.declared.said.SaidPair.{SaidPair}
 use Rattle.log_units.specs.declared.said.SaidRow.{SaidRow}
 
-abbrev signed : Statement → Bool → Signed
+abbrev pub signed : Statement → Bool → Signed
 signed statement negative = record { statement = statement; negative = negative }
 
 abbrev said_pair : RelId → AttrId → RowId → RowId → SaidPair
@@ -211,13 +211,13 @@ last_alike relations m rel attr ent v row of_ent of_value e = by m.statement m.n
 -- ---- units
 
 -- a unit whose literal says something: the literal is of a statement
-record IsMeant (relations : List Relation) (log : Log) (lit : Lit) (s : Signed) : Type 0 where
-  meant : Signed
-  means : meaning log.statements lit ≡ Some meant
-  same : says_same relations meant s ≡ true
-  early : lit.0 < 2 * length log.statements
+pub record IsMeant (relations : List Relation) (log : Log) (lit : Lit) (s : Signed) : Type 0 where
+  pub meant : Signed
+  pub means : meaning log.statements lit ≡ Some meant
+  pub same : says_same relations meant s ≡ true
+  pub early : lit.0 < 2 * length log.statements
 
-is_meant : (relations : List Relation) (log : Log) (lit : Lit) (s : Signed) → lit_says relations log.statements s lit ≡ true
+pub is_meant : (relations : List Relation) (log : Log) (lit : Lit) (s : Signed) → lit_says relations log.statements s lit ≡ true
     → IsMeant relations log lit s
 is_meant relations log lit s e = by (slice_get log.statements (var_of lit)) refl e
   where

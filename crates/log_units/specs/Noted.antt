@@ -8,7 +8,7 @@ use Rattle.log_checker.specs.Shown.{is_unit}
 use Rattle.refutation_log.specs.Steps.{clauses_of}
 use Rattle.refutation_log.specs.declared.log.Log.{Log}
 use Rattle.spec_model.specs.declared.relation.Relation.{Relation}
-use Rattle.log_units.specs.Said.{has_row, pair_of, row_of}
+use Rattle.log_units.specs.Said.{has_row, pair_of, row_of, tuple_of}
 use Rattle.log_units.specs.declared.index.Index.{Index}
 
 -- a unit of a literal below a number says this
@@ -25,7 +25,8 @@ pub record Notes {K : Type 0} (said_by : Signed → Option K) (log : Log) (below
   pub all : (k : K) → IsSaid said_by log below k → noted k
   pub only : (k : K) → noted k → IsSaid said_by log below k
 
--- exactly the pairs and the rows of which such units speak are noted
+-- exactly the pairs, the rows and the tuples of which such units speak are noted
 pub record AreNoted (relations : List Relation) (log : Log) (below : ℕ) (index : Index) : Type 0 where
   pub pairs : Notes pair_of log below (Contains index.pairs)
   pub rows : Notes (row_of relations) log below (has_row index.rows)
+  pub answers : Notes (tuple_of log.answers) log below (Contains index.answers)

@@ -1,4 +1,4 @@
--- What statements with their signs say of pairs and of current values, and when it is noted.
+-- What statements with their signs say of pairs, of current values and of answers, and when it is noted.
 use Rattle.std.specs.Prelude.{◌≡◌, ◌⊎◌, Bool, true, false, List, [], Contains, Option, Some, None, option_map, slice_get, unwrap_or}
 use Rattle.std.specs.Map.{lookup}
 use Rattle.std.specs.Ordering.{nat_cmp, on, then_cmp, is_eq}
@@ -6,6 +6,7 @@ use Rattle.std.specs.declared.cmp.Ordering.{Ordering}
 use Rattle.currency_base.specs.declared.ids.AttrId.{AttrId}
 use Rattle.currency_base.specs.declared.ids.RelId.{RelId}
 use Rattle.currency_base.specs.declared.ids.RowId.{RowId}
+use Rattle.currency_base.specs.declared.value.Value.{Value}
 use Rattle.log_axioms.specs.Truth.{rows_in}
 use Rattle.log_axioms.specs.declared.signed.Signed.{Signed}
 use Rattle.partial_orders.specs.Pairs.{entity_of}
@@ -39,6 +40,21 @@ row_of relations s = by s.statement s.negative
   where
     by : Statement → Bool → Option SaidRow
     by (says.Last rel attr row) false = row_at relations rel attr row
+    by t n = None
+
+-- a tuple is a list of values
+abbrev pub TupleValues : Type 0
+TupleValues = List Value
+
+abbrev pub Tuples : Type 0
+Tuples = List TupleValues
+
+-- the tuple that is said to be an answer, if it is there
+abbrev pub tuple_of : Tuples → Signed → Option TupleValues
+tuple_of answers s = by s.statement s.negative
+  where
+    by : Statement → Bool → Option TupleValues
+    by (says.Answer place) false = slice_get answers place
     by t n = None
 
 -- ---- rows by their places

@@ -1,6 +1,7 @@
 //! What the units of a log say, so that a claim is looked up without a scan of the log.
 #![tactic(auto)]
 
+mod answers;
 mod index;
 mod pairs;
 mod rows;

@@ -1,7 +1,7 @@
-ghost use Rattle.std.specs.Prelude.{◌≡◌};
-ghost use Rattle.log_units.specs.Said.{pair_of, row_at, row_of};
+ghost use Rattle.std.specs.Prelude.{◌≡◌, option_map, slice_get};
+ghost use Rattle.log_units.specs.Said.{pair_of, row_at, row_of, tuple_of};
 
-use currency_base::{AttrId, EntId, RelId, RowId};
+use currency_base::{AttrId, EntId, RelId, RowId, Tuple};
 use log_axioms::Signed;
 use refutation_log::Statement;
 use spec_model::Relation;
@@ -77,6 +77,29 @@ pub(crate) fn row_of(relations: &[Relation], said: Signed) -> Option<SaidRow>
         }
         _ => None,
     }
+}
+
+/// The tuple that a statement with its sign says to be an answer, if it says so of one that is there.
+pub(crate) fn tuple_of(tuples: &[Tuple], said: Signed) -> Option<&Tuple>
+    ensures { option_map (λ t. t.now) result ≡ tuple_of tuples.now said }
+{
+    match said.statement {
+        Statement::Answer { tuple } => {
+            if said.negative {
+                None
+            } else {
+                tuple_at(tuples, tuple)
+            }
+        }
+        _ => None,
+    }
+}
+
+// The tuple at a place, if there is one.
+fn tuple_at(tuples: &[Tuple], place: u32) -> Option<&Tuple>
+    ensures { option_map (λ t. t.now) result ≡ slice_get tuples.now place }
+{
+    tuples.get(place as usize)
 }
 
 // A row, if it is there, at the place of its value.

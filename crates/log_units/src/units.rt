@@ -5,23 +5,23 @@ ghost use Rattle.denial_rules.specs.Instances.{field_value, is_compared};
 ghost use Rattle.refutation_log.specs.Steps.{clauses_of};
 ghost use Rattle.log_axioms.specs.Axioms.{before};
 ghost use Rattle.log_checker.specs.Shown.{IsShownBy};
-ghost use Rattle.log_units.specs.Units.{HasUnit, HasLastUnit};
+ghost use Rattle.log_units.specs.Units.{HasAnswerUnit, HasLastUnit, HasUnit};
 
 use crate::index::Index;
 use crate::said::{Place, SaidPair};
-use currency_base::{AttrId, Cmp, EntId, Lit, NoMemory, RelId, RowId, Rows, Value};
+use currency_base::{AttrId, Cmp, EntId, Lit, NoMemory, RelId, RowId, Rows, Tuple, Value};
 use log_checker::Checked;
 use refutation_log::Log;
 use spec_model::{Relation, Specification};
 use std::alloc::Global;
 use std::marker::Model;
 
-/// What the units of a log say of a specification's rows. Contracts see the relations and the log.
+/// What the units of a log say of a specification's rows, and of answers. Contracts see the relations and the log.
 #[derive(Drop)]
 pub struct Units<'a> {
     spec: &'a Specification,
     log: &'a Log,
-    index: Index,
+    index: Index<'a>,
 }
 
 impl<'a> Model for Units<'a> {
@@ -50,15 +50,16 @@ impl<'a> Units<'a> {
         ensures log { IfOk result (λ u. u.log ≡ log.now) }
     {
         let statements = log.statements.as_slice();
+        let tuples = log.answers.as_slice();
         if statements.len() > 1 << 31 {
             return Err(NoMemory);
         }
         let mut index = Index::new(alloc);
         for (var, statement) in statements.iter().enumerate() {
             let plain = Lit::new(var as u32, false);
-            index.note_unit(spec.relations(), *statement, plain, checked)?;
+            index.note_unit(spec.relations(), tuples, *statement, plain, checked)?;
             let negation = Lit::new(var as u32, true);
-            index.note_unit(spec.relations(), *statement, negation, checked)?;
+            index.note_unit(spec.relations(), tuples, *statement, negation, checked)?;
         }
         Ok(Units { spec, log, index })
     }
@@ -87,6 +88,15 @@ impl<'a> Units<'a> {
             earlier,
             later,
         })
+    }
+
+    /// Has the log the unit that a tuple is an answer? It is found by halving among the tuples of which units say so.
+    /// Takes no memory.
+    pub fn has_answer(&self, tuple: &'a Tuple) -> bool
+        ensures there { result ≡ true → HasAnswerUnit self.now.relations self.now.log tuple.now }
+        ensures missing { result ≡ false → HasAnswerUnit self.now.relations self.now.log tuple.now → ⊥ }
+    {
+        self.index.answers.has(tuple)
     }
 
     /// Has the log the unit that a value is the current one of an entity? Takes time in proportion to the rows

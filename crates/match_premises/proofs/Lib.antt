@@ -1,2 +1,2 @@
-mod Folds
-mod Matching
+pub mod Folds
+pub mod Matching

@@ -4,24 +4,26 @@ use Rattle.std.proofs.lemmas.List.{append-nil, length-map, length-replicate}
 use Rattle.std.proofs.lemmas.List.FromFn.{length-range_with_len}
 use Rattle.std.specs.List.{range_with_len}
 use Rattle.order_clauses.specs.Clauses.{AreAxioms}
-use Rattle.order_clauses.specs.Subject.{Subject}
 use Rattle.search_trail.specs.Trails.{Trail, lits_of, value_in, values_of}
 use Rattle.watch_solver.specs.Decided.{Solver}
-use Rattle.search_logs.specs.SearchLogs.{IsWithin}
-use Rattle.order_search.specs.Kept.{IsHeld, vars_of}
+use Rattle.search_logs.specs.SearchLogs.{IsPosed, IsWithin}
+use Rattle.order_search.specs.Kept.{IsHeld, posed_of, vars_of}
+use Rattle.order_search.specs.Searches.{Subject}
 use Rattle.order_search.proofs.Growing.{asked_axioms, axioms_next}
 use Rattle.order_search.proofs.Marking.{none_marked}
 
-pub held_begun : (s : Subject) (solver : Solver) → IsWithin s.spec → s.wanted.answers ≡ 0 → solver.frame.answers ≡ [] → solver.frame.statements ≡ vars_of s
-    → AreAxioms s.spec s.wanted.currents (vars_of s) solver.steps → IsHeld s solver (replicate (length (vars_of s)) false)
-held_begun s solver within none answers statements are =
-    let next = axioms_next s [] solver.steps solver.steps refl (asked_axioms s solver.steps are) in
+pub held_begun : (s : Subject) (solver : Solver) → IsWithin s.spec → IsPosed (posed_of s solver.frame) → s.wanted.answers ≡ length solver.frame.answers
+    → solver.frame.statements ≡ vars_of s → AreAxioms s.spec s.wanted.currents (vars_of s) solver.steps
+    → IsHeld s solver (replicate (length (vars_of s)) false)
+held_begun s solver within is_posed many statements are =
+    let next = axioms_next s (posed_of s solver.frame) [] solver.steps solver.steps refl (asked_axioms s solver.steps are) in
     record {
       search = record {
         within = within;
         log = record {
-          none_wanted = none;
-          answers = answers;
+          is_posed = is_posed;
+          as_many = many;
+          answers = refl;
           statements = statements;
           steps = λ place taken at. (next.each place taken (omega arith) at).0;
         };

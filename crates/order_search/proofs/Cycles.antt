@@ -18,7 +18,6 @@ use Rattle.order_literals.specs.Axioms.{AreTwo, IsAxiom}
 use Rattle.order_literals.specs.Numbers.{numbers_of}
 use Rattle.order_literals.specs.Said.{IsClauseTrue, IsSaidTrue, Said, Says, before, not_before}
 use Rattle.order_clauses.specs.Clauses.{SaysOneOf}
-use Rattle.order_clauses.specs.Subject.{Subject}
 use Rattle.literal_laws.proofs.Deciding.{pair_exclude, said_exclude, said_of_pairs}
 use Rattle.literal_laws.proofs.Saying.{says_within, tells}
 use Rattle.completion_build.specs.Ranked.{IsCycle}
@@ -26,6 +25,7 @@ use Rattle.completion_build.specs.declared.built.Cycle.{Cycle}
 use Rattle.watch_propagate.proofs.KeptLists.{contains_at, stands_at}
 use Rattle.watch_solver.specs.Decided.{Solver}
 use Rattle.order_search.specs.Kept.{AreBrought, AreBroughtIn, AreTrue, Brings, HaveThrees, IsBrought, IsHeld, IsMarked, IsOfList, unmarked, vars_of}
+use Rattle.order_search.specs.Searches.{Subject}
 use Rattle.order_search.proofs.Marking.{brought_mark, unmarked_fewer, unmarked_later}
 
 -- ---- a cycle is of a list

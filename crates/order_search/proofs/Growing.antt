@@ -14,14 +14,15 @@ use Rattle.refutation_log.specs.declared.statement.Statement.{Statement}
 use Rattle.refutation_log.specs.declared.step.Label.TheVariants as label
 use Rattle.refutation_log.specs.declared.step.Step.{Step}
 use Rattle.refutation_log.specs.declared.step.Step.TheVariants.{Axiom, Learn, OnDemand}
+use Rattle.log_axioms.specs.Posed.{Posed}
 use Rattle.literal_laws.proofs.Saying.{says_within}
 use Rattle.order_clauses.specs.Clauses.{AreAxioms, AreTransitive}
-use Rattle.order_clauses.specs.Subject.{Subject}
 use Rattle.search_state.specs.States.{Frame, IsFit}
 use Rattle.watch_propagate.proofs.KeptLists.{contains_at, get_front}
 use Rattle.watch_solver.specs.Decided.{HasGrown, IsLearnedAfter, Solver}
-use Rattle.search_logs.specs.SearchLogs.{IsSearchStep}
-use Rattle.order_search.specs.Kept.{AreBrought, HasAdded, HasAxioms, HaveThrees, IsAxiomOf, IsFitAxiom, IsHeld, vars_of}
+use Rattle.search_logs.specs.SearchLogs.{IsPosed, IsSearchStep}
+use Rattle.order_search.specs.Kept.{AreBrought, HasAdded, HasAxioms, HaveThrees, IsAxiomOf, IsFitAxiom, IsHeld, posed_of, vars_of}
+use Rattle.order_search.specs.Searches.{Subject}
 
 -- ---- lists
 
@@ -35,28 +36,26 @@ stood : (old added new : List Step) (place : ℕ) (taken : Step) → new ≡ old
 stood old added new place taken is h at = get_front old added place taken h (ap (λ (ss : List Step). slice_get ss place) (sym is) ∙ at)
 
 -- what stands behind a list is among what was put there
-behind : (xs ys : List Step) (i : ℕ) (x : Step) → length xs ≤ i → slice_get (xs ++ ys) i ≡ Some x → Contains ys x
+pub behind : (xs ys : List Step) (i : ℕ) (x : Step) → length xs ≤ i → slice_get (xs ++ ys) i ≡ Some x → Contains ys x
 behind [] ys i x h is = contains_at ys i x is
 behind (z ∷ xs) ys zero x h is = absurd (omega (arith, h))
 behind (z ∷ xs) ys (suc i) x h is = behind xs ys i x (omega (arith, h)) is
 
-pub added_none : (old new : List Step) → new ≡ old → HasAdded old new
-added_none old new is = record { added = []; steps = is ∙ sym (append-nil old) }
-
-pub added_then : (old middle new : List Step) → HasAdded old middle → HasAdded middle new → HasAdded old new
+pub added_then : (old middle new : Solver) → HasAdded old middle → HasAdded middle new → HasAdded old new
 added_then old middle new one other = record {
+  frame = other.frame ∙ one.frame;
   added = one.added ++ other.added;
-  steps = other.steps ∙ ap (λ (ss : List Step). ss ++ other.added) one.steps ∙ append_assoc old one.added other.added;
+  steps = other.steps ∙ ap (λ (ss : List Step). ss ++ other.added) one.steps ∙ append_assoc old.steps one.added other.added;
 }
 
 -- ---- steps that may be added
 
 -- each is one of a search, and new if it is counted
-pub record AreNext (s : Subject) (old new : List Step) : Type 0 where
+pub record AreNext (s : Subject) (posed : Posed) (old new : List Step) : Type 0 where
   pub added : List Step
   pub steps : new ≡ old ++ added
   pub each : (place : ℕ) (taken : Step) → length old ≤ place → slice_get new place ≡ Some taken
-      → IsSearchStep s.spec (vars_of s) (clauses_of (take place new)) taken × (is_counted taken ≡ true → IsNew (clauses_of (take place new)) taken)
+      → IsSearchStep s.spec posed (vars_of s) (clauses_of (take place new)) taken × (is_counted taken ≡ true → IsNew (clauses_of (take place new)) taken)
 
 -- a list that was brought in stays so
 brought_more : (s : Subject) (old added new : List Step) (brought : List Bool) → new ≡ old ++ added → AreBrought s old brought → AreBrought s new brought
@@ -74,11 +73,11 @@ brought_more s old added new brought is were = record {
 }
 
 module _ (s : Subject) (solver new : Solver) (brought : List Bool) (held : IsHeld s solver brought) (frame : new.frame ≡ solver.frame)
-    (next : AreNext s solver.steps new.steps) where
+    (next : AreNext s (posed_of s solver.frame) solver.steps new.steps) where
   search_steps : (place : ℕ) (taken : Step) → slice_get new.steps place ≡ Some taken → (place < length solver.steps) ⊎ (length solver.steps ≤ place)
-      → IsSearchStep s.spec (vars_of s) (clauses_of (take place new.steps)) taken
+      → IsSearchStep s.spec (posed_of s solver.frame) (vars_of s) (clauses_of (take place new.steps)) taken
   search_steps place taken at (inl below) =
-      subst (λ (ss : List Step). IsSearchStep s.spec (vars_of s) (clauses_of ss) taken)
+      subst (λ (ss : List Step). IsSearchStep s.spec (posed_of s solver.frame) (vars_of s) (clauses_of ss) taken)
       (sym (take_front solver.steps next.added new.steps place next.steps (omega (arith, below))))
       (held.search.log.steps place taken (stood solver.steps next.added new.steps place taken next.steps below at))
   search_steps place taken at (inr above) = (next.each place taken above at).0
@@ -96,10 +95,13 @@ module _ (s : Subject) (solver new : Solver) (brought : List Bool) (held : IsHel
     search = record {
       within = held.search.within;
       log = record {
-        none_wanted = held.search.log.none_wanted;
-        answers = ap (λ (f : Frame). f.answers) frame ∙ held.search.log.answers;
+        is_posed = subst (λ (f : Frame). IsPosed (posed_of s f)) (sym frame) held.search.log.is_posed;
+        as_many = held.search.log.as_many ∙ ap (λ (f : Frame). length f.answers) (sym frame);
+        answers = refl;
         statements = ap (λ (f : Frame). f.statements) frame ∙ held.search.log.statements;
-        steps = λ place taken at. search_steps place taken at (cases_lt place (length solver.steps));
+        steps = λ place taken at.
+            subst (λ (f : Frame). IsSearchStep s.spec (posed_of s f) (vars_of s) (clauses_of (take place new.steps)) taken) (sym frame)
+            (search_steps place taken at (cases_lt place (length solver.steps)));
       };
       begins = record {
         axioms = held.search.begins.axioms;
@@ -116,48 +118,45 @@ module _ (s : Subject) (solver new : Solver) (brought : List Bool) (held : IsHel
 
 -- ---- what a solver learns
 
-learned_next : (s : Subject) (earlier : List (List Lit)) (taken : Step) → IsLearnedAfter (length (vars_of s)) earlier taken
-    → IsSearchStep s.spec (vars_of s) earlier taken × (is_counted taken ≡ true → IsNew earlier taken)
-learned_next s earlier (Axiom l lits) learned = absurd learned
-learned_next s earlier (OnDemand l lits) learned = absurd learned
-learned_next s earlier (Learn lits hints counted) learned = (
+learned_next : (s : Subject) (posed : Posed) (earlier : List (List Lit)) (taken : Step) → IsLearnedAfter (length (vars_of s)) earlier taken
+    → IsSearchStep s.spec posed (vars_of s) earlier taken × (is_counted taken ≡ true → IsNew earlier taken)
+learned_next s posed earlier (Axiom l lits) learned = absurd learned
+learned_next s posed earlier (OnDemand l lits) learned = absurd learned
+learned_next s posed earlier (Learn lits hints counted) learned = (
   record { follows = learned.0; within = learned.1.within; lits_once = learned.1.once; hints_once = learned.2 },
   λ is. learned.3 is,
 )
 
-grown_next : (s : Subject) (old new : List Step) → HasGrown (length (vars_of s)) old new → AreNext s old new
-grown_next s old new grown = record {
+grown_next : (s : Subject) (posed : Posed) (old new : List Step) → HasGrown (length (vars_of s)) old new → AreNext s posed old new
+grown_next s posed old new grown = record {
   added = grown.added;
   steps = grown.steps;
-  each = λ place taken h at. learned_next s (clauses_of (take place new)) taken (grown.learned place taken h at);
+  each = λ place taken h at. learned_next s posed (clauses_of (take place new)) taken (grown.learned place taken h at);
 }
 
 pub held_grown : (s : Subject) (solver new : Solver) (brought : List Bool) → IsHeld s solver brought → new.frame ≡ solver.frame
     → HasGrown (length solver.frame.statements) solver.steps new.steps → IsHeld s new brought
 held_grown s solver new brought held frame grown =
     held_next s solver new brought held frame
-    (grown_next s solver.steps new.steps
+    (grown_next s (posed_of s solver.frame) solver.steps new.steps
     (subst (λ (ss : List Statement). HasGrown (length ss) solver.steps new.steps) held.search.log.statements grown))
-
-pub added_grown : (vars : ℕ) (old new : List Step) → HasGrown vars old new → HasAdded old new
-added_grown vars old new grown = record { added = grown.added; steps = grown.steps }
 
 -- ---- axioms
 
-axiom_next : (s : Subject) (earlier : List (List Lit)) (taken : Step) → IsAxiomOf s taken
-    → IsSearchStep s.spec (vars_of s) earlier taken × (is_counted taken ≡ true → IsNew earlier taken)
-axiom_next s earlier taken is =
-    subst (λ (t : Step). IsSearchStep s.spec (vars_of s) earlier t × (is_counted t ≡ true → IsNew earlier t)) (sym is.step.is_step) (
-      record { is_step = refl; clause = is.step.clause; is_axiom = is.step.is_axiom; are_lits = is.step.are_lits },
+axiom_next : (s : Subject) (posed : Posed) (earlier : List (List Lit)) (taken : Step) → IsAxiomOf s taken
+    → IsSearchStep s.spec posed (vars_of s) earlier taken × (is_counted taken ≡ true → IsNew earlier taken)
+axiom_next s posed earlier taken is =
+    subst (λ (t : Step). IsSearchStep s.spec posed (vars_of s) earlier t × (is_counted t ≡ true → IsNew earlier t)) (sym is.step.is_step) (
+      inl (record { is_step = refl; clause = is.step.clause; is_axiom = is.step.is_axiom; are_lits = is.step.are_lits }),
       λ counted. let no : ⊥ = cc in absurd no,
     )
 
-pub axioms_next : (s : Subject) (old axioms new : List Step) → new ≡ old ++ axioms → All (IsAxiomOf s) axioms → AreNext s old new
-axioms_next s old axioms new is all = record {
+pub axioms_next : (s : Subject) (posed : Posed) (old axioms new : List Step) → new ≡ old ++ axioms → All (IsAxiomOf s) axioms → AreNext s posed old new
+axioms_next s posed old axioms new is all = record {
   added = axioms;
   steps = is;
   each = λ place taken h at.
-      axiom_next s (clauses_of (take place new)) taken
+      axiom_next s posed (clauses_of (take place new)) taken
       (All-contains (IsAxiomOf s) axioms taken all (behind old axioms place taken h (ap (λ (ss : List Step). slice_get ss place) (sym is) ∙ at)));
 }
 
@@ -238,13 +237,10 @@ some_axioms s count axioms all = All-take (IsAxiomOf s) count axioms all
 pub held_axioms : (s : Subject) (solver new : Solver) (brought : List Bool) → IsHeld s solver brought → new.frame ≡ solver.frame
     → HasAxioms s solver.steps new.steps → IsHeld s new brought
 held_axioms s solver new brought held frame has =
-    held_next s solver new brought held frame (axioms_next s solver.steps has.axioms new.steps has.steps has.are_axioms)
+    held_next s solver new brought held frame (axioms_next s (posed_of s solver.frame) solver.steps has.axioms new.steps has.steps has.are_axioms)
 
 pub same_units : (s : Subject) (old new : List Step) → HasAxioms s old new → counted_steps new ≡ counted_steps old
 same_units s old new has = counted_added s old has.axioms new has.steps has.are_axioms
-
-pub added_axioms : (s : Subject) (old new : List Step) → HasAxioms s old new → HasAdded old new
-added_axioms s old new has = record { added = has.axioms; steps = has.steps }
 
 pub has_none : (s : Subject) (old new : List Step) → new ≡ old → HasAxioms s old new
 has_none s old new is = record { axioms = []; steps = is ∙ sym (append-nil old); are_axioms = All-nil (IsAxiomOf s) }

@@ -3,4 +3,6 @@ mod Marking
 mod Cycles
 mod Models
 mod Beginning
+mod Falsified
+mod Matched
 mod Rows

@@ -2,8 +2,8 @@
 use Rattle.std.proofs.Common.{◌≡◌, ◌⊎◌, ◌<◌, ◌≤◌, ◌∙◌, ℕ, zero, suc, Bool, true, false, List, [], ◌∷◌, Some, replicate, slice_get, slice_set, refl, sym, ap, subst, inl, inr, arith}
 use Rattle.std.proofs.lemmas.List.{length-set}
 use Rattle.refutation_log.specs.declared.step.Step.{Step}
-use Rattle.order_clauses.specs.Subject.{Subject}
 use Rattle.order_search.specs.Kept.{AreBrought, IsBrought, unmarked}
+use Rattle.order_search.specs.Searches.{Subject}
 
 -- ---- how many have none
 

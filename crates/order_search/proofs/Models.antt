@@ -10,7 +10,6 @@ use Rattle.refutation_log.specs.Counted.{IsOpenLog, holds}
 use Rattle.refutation_log.specs.Steps.{clause_of, clauses_of}
 use Rattle.refutation_log.specs.declared.step.Step.{Step}
 use Rattle.order_literals.specs.Said.{IsClauseTrue, IsLitTrue}
-use Rattle.order_clauses.specs.Subject.{Subject}
 use Rattle.order_adequacy.specs.Laws.{IsModelOf, ModelsAreCompletions}
 use Rattle.completion_build.specs.Ranked.{IsRankedBy}
 use Rattle.search_trail.specs.Trails.{AreEntries, Trail, entries_up_to}
@@ -18,7 +17,8 @@ use Rattle.conflict_analysis.specs.Analyses.{lits_below}
 use Rattle.search_state.specs.States.{IsFit}
 use Rattle.watch_propagate.proofs.KeptLits.{front_of_trail_consistent}
 use Rattle.watch_solver.specs.Decided.{IsDue, IsModel, Solver, truth_in}
-use Rattle.order_search.specs.Kept.{AreTrue, IsHeld, vars_of}
+use Rattle.order_search.specs.Kept.{AreTrue, IsHeld, search_of, vars_of}
+use Rattle.order_search.specs.Searches.{AreClausesTrue, IsCounter, Subject}
 
 -- ---- truths
 
@@ -59,6 +59,15 @@ model_of law s solver marks truths c held whole all ranked =
     let begins = held.search.begins in
     law s.spec s.wanted held.search.within.specification begins.axioms begins.are_axioms truths whole
     (front_true truths begins.axioms begins.later (subst (AreTrue truths) begins.steps_are all)) c ranked
+
+-- and then, where no step was put after those that are true, it is one in which the goal is false
+pub counter_of : (s : Subject) (vars : ℕ) (solver new : Solver) (goal : Option Lit) (truths : List Bool) (c : Rankings) → IsModel vars solver.steps goal truths
+    → new.steps ≡ solver.steps → IsModelOf s.spec s.wanted truths c → IsCounter (search_of s new) goal truths c
+counter_of s vars solver new goal truths c model same of = record {
+  model = of;
+  clauses_true = subst (AreClausesTrue truths) (sym same) model.clauses_true;
+  goal_false = model.goal_false;
+}
 
 -- ---- open logs
 

@@ -15,7 +15,6 @@ use Rattle.spec_model.specs.Spec.{Spec}
 use Rattle.spec_model.specs.declared.relation.Relation.{Relation}
 use Rattle.value_names.proofs.NameFacts
 use Rattle.value_names.specs.Names.{name_of}
-use Rattle.order_clauses.specs.Subject.{Subject}
 use Rattle.order_literals.proofs.Callers.{table_at, pair_of, row_of, name_is, own_name}
 use Rattle.order_literals.specs.Axioms.{AreTwo}
 use Rattle.order_literals.specs.Numbers.{IsPairOf, IsRowOf, Numbered, Numbers, numbered, numbers_of}
@@ -27,7 +26,7 @@ use Rattle.order_links.specs.Lists.{IsListOf}
 use Rattle.order_links.specs.declared.list.ListId.{ListId}
 use Rattle.watch_solver.specs.Decided.{Solver}
 use Rattle.order_search.specs.Kept.{AreRowsOf, IsOfList, search_of, vars_of}
-use Rattle.order_search.specs.Searches.{IsSearch, IsWantedRow, Search}
+use Rattle.order_search.specs.Searches.{IsSearch, IsWantedRow, Search, Subject}
 
 -- ---- the rows of a list
 

@@ -5,6 +5,7 @@ use Rattle.currency_base.specs.declared.ids.AttrId.{AttrId}
 use Rattle.currency_base.specs.declared.ids.RelId.{RelId}
 use Rattle.currency_base.specs.declared.ids.RowId.{RowId}
 use Rattle.currency_base.specs.declared.lit.Lit.{Lit}
+use Rattle.currency_base.specs.declared.value.Value.{Value}
 use Rattle.entity_lists.specs.Lists.{entities_of, rows_of}
 use Rattle.partial_orders.specs.Pairs.{entity_of}
 use Rattle.spec_model.specs.declared.relation.Relation.{Relation}
@@ -15,19 +16,24 @@ use Rattle.refutation_log.specs.declared.step.Label.{Label}
 use Rattle.refutation_log.specs.declared.step.Label.TheVariants as label
 use Rattle.refutation_log.specs.declared.step.Step.{Step}
 use Rattle.refutation_log.specs.declared.step.Step.TheVariants as step
+use Rattle.log_axioms.specs.Posed.{Posed}
 use Rattle.order_literals.specs.Axioms.{IsAxiom}
 use Rattle.order_literals.specs.Numbers.{IsPairOf, numbers_of}
 use Rattle.order_literals.specs.Said.{IsClauseTrue, Said, Says, before}
 use Rattle.order_clauses.specs.Clauses.{IsAxiomStep, StandsAmong}
-use Rattle.order_clauses.specs.Subject.{Subject}
 use Rattle.completion_build.specs.Ranked.{IsCycle}
 use Rattle.completion_build.specs.declared.built.Cycle.{Cycle}
+use Rattle.match_clauses.specs.Clauses.{AreMatchLits}
+use Rattle.match_clauses.specs.Matched.{IsMatchIn, IsOfWanted}
+use Rattle.query_model.specs.declared.query.Match.{Match}
+use Rattle.query_model.specs.declared.query.Query.{Query}
+use Rattle.spec_model.specs.Completion.{IsCompletion, Rankings}
 use Rattle.order_links.specs.Lists.{IsListOf}
 use Rattle.order_links.specs.declared.list.ListId.{ListId}
-use Rattle.search_state.specs.States.{IsFit}
-use Rattle.watch_solver.specs.Decided.{Solver}
+use Rattle.search_state.specs.States.{Frame, IsFit}
+use Rattle.watch_solver.specs.Decided.{Solver, axiom_step}
 use Rattle.search_logs.specs.SearchLogs.{variables}
-use Rattle.order_search.specs.Searches.{IsSearch, Search}
+use Rattle.order_search.specs.Searches.{IsSearch, Search, Subject}
 
 -- the statements of the variables
 abbrev pub vars_of : Subject → List Statement
@@ -48,10 +54,11 @@ pub record IsFitAxiom (vars : ℕ) (taken : Step) : Type 0 where
   pub is_step : taken ≡ step.Axiom label lits
   pub fit : IsFit vars lits
 
--- steps were put after the others
-pub record HasAdded (old new : List Step) : Type 0 where
+-- steps were put after the others of a solver's log
+pub record HasAdded (old new : Solver) : Type 0 where
+  pub frame : new.frame ≡ old.frame
   pub added : List Step
-  pub steps : new ≡ old ++ added
+  pub steps : new.steps ≡ old.steps ++ added
 
 -- axioms were put after the others
 pub record HasAxioms (s : Subject) (old new : List Step) : Type 0 where
@@ -86,10 +93,15 @@ unmarked (false ∷ brought) = suc (unmarked brought)
 
 -- ---- the search
 
+-- what is posed of a subject, with the answers of a log
+abbrev pub posed_of : Subject → Frame → Posed
+posed_of s frame = record { query = s.query; answers = frame.answers }
+
 -- the search over a subject, where a solver came so far
 abbrev pub search_of : Subject → Solver → Search
 search_of s solver = record {
   spec = s.spec;
+  posed = posed_of s solver.frame;
   wanted = s.wanted;
   log = record { answers = solver.frame.answers; statements = solver.frame.statements; steps = solver.steps };
 }
@@ -140,3 +152,26 @@ pub record AreBroughtIn (s : Subject) (cycles : List Cycle) (place : ℕ) (old_s
   pub begun : place ≡ 0 → (new_steps ≡ old_steps) × (new ≡ old)
   pub fewer : 0 < place → (truths : List Bool) → AreTrue truths old_steps → All (IsCycle s.spec.relations (vars_of s) truths) cycles
       → unmarked new < unmarked old
+
+-- ---- matches
+
+-- a match of the query, over the current instance of a completion, that makes the tuple at a place of the answers one; the current
+-- values of its atoms' relations are wanted
+pub record IsMatchFor (s : Subject) (c : Rankings) (m : Match) (answer : ℕ) : Type 0 where
+  pub query : Query
+  pub is_query : s.query ≡ Some query
+  pub completion : IsCompletion s.spec.relations c
+  pub answer_within : answer < s.wanted.answers
+  pub tuple : List Value
+  pub is_match : IsMatchIn s.spec.relations c query tuple m
+  pub of_wanted : IsOfWanted s.wanted.currents query m
+
+-- the literals of its axiom
+abbrev pub AreLitsFor : Subject → Rankings → Match → ℕ → List Lit → Type 0
+AreLitsFor s c m answer lits = (query : Query) → s.query ≡ Some query → AreMatchLits s.spec s.wanted query c m answer lits
+
+-- the axiom of a match was put after the others, counted or not
+pub record HasMatched (s : Subject) (c : Rankings) (m : Match) (answer : ℕ) (counted : Bool) (old new : List Step) : Type 0 where
+  pub lits : List Lit
+  pub are_lits : AreLitsFor s c m answer lits
+  pub steps : new ≡ old ++ axiom_step (label.Match m.disjunct m.entities m.values) lits counted ∷ []

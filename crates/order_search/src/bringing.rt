@@ -25,7 +25,7 @@ pub(crate) fn bring_all(
     requires held { IsHeld subject.now progress.old.solver progress.old.brought.items }
     requires cycles { All (IsOfList subject.now) cycles.now }
     ensures held { IsHeld subject.now progress.new.solver progress.new.brought.items }
-    ensures added { HasAdded progress.old.solver.steps progress.new.solver.steps }
+    ensures added { HasAdded progress.old.solver progress.new.solver }
     ensures units { counted_steps progress.new.solver.steps ≡ counted_steps progress.old.solver.steps }
     ensures fewer { OnOk result ((truths : List Bool) → AreTrue truths progress.old.solver.steps
         → All (IsCycle subject.now.spec.relations (vars_of subject.now) truths) cycles.now → cycles.now ≢ []
@@ -52,7 +52,7 @@ pub(crate) fn bring_in(
     requires held { IsHeld subject.now progress.old.solver progress.old.brought.items }
     requires cycle { IsOfList subject.now cycle }
     ensures held { IsHeld subject.now progress.new.solver progress.new.brought.items }
-    ensures added { HasAdded progress.old.solver.steps progress.new.solver.steps }
+    ensures added { HasAdded progress.old.solver progress.new.solver }
     ensures units { counted_steps progress.new.solver.steps ≡ counted_steps progress.old.solver.steps }
     ensures later { unmarked progress.new.brought.items ≤ unmarked progress.old.brought.items }
     ensures brings { OnOk result (Brings subject.now cycle progress.old.solver.steps progress.old.brought.items progress.new.brought.items) }

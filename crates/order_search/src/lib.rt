@@ -4,6 +4,8 @@
 
 mod bringing;
 mod linked;
+mod matching;
+mod opening;
 mod outcome;
 mod progress;
 mod rounds;

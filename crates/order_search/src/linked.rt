@@ -27,7 +27,7 @@ pub(crate) fn bring_linked(
     requires list { IsListOf subject.now.spec.relations list }
     requires links { links.old ≡ subject.now.spec.relations }
     ensures held { IsHeld subject.now progress.new.solver progress.new.brought.items }
-    ensures added { HasAdded progress.old.solver.steps progress.new.solver.steps }
+    ensures added { HasAdded progress.old.solver progress.new.solver }
     ensures units { counted_steps progress.new.solver.steps ≡ counted_steps progress.old.solver.steps }
     ensures links { links.new ≡ links.old }
 {
@@ -50,7 +50,7 @@ fn bring_lists(
     requires held { IsHeld subject.now progress.old.solver progress.old.brought.items }
     requires lists { All (IsListOf subject.now.spec.relations) lists.now }
     ensures held { IsHeld subject.now progress.new.solver progress.new.brought.items }
-    ensures added { HasAdded progress.old.solver.steps progress.new.solver.steps }
+    ensures added { HasAdded progress.old.solver progress.new.solver }
     ensures units { counted_steps progress.new.solver.steps ≡ counted_steps progress.old.solver.steps }
 {
     for place in 0..lists.len() {
@@ -74,7 +74,7 @@ fn bring_list(
     requires held { IsHeld subject.now progress.old.solver progress.old.brought.items }
     requires list { IsListOf subject.now.spec.relations list }
     ensures held { IsHeld subject.now progress.new.solver progress.new.brought.items }
-    ensures added { HasAdded progress.old.solver.steps progress.new.solver.steps }
+    ensures added { HasAdded progress.old.solver progress.new.solver }
     ensures units { counted_steps progress.new.solver.steps ≡ counted_steps progress.old.solver.steps }
 {
     let rows = subject.rows(list);

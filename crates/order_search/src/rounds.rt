@@ -30,7 +30,7 @@ pub(crate) fn decided(
     requires held { IsHeld subject.now progress.old.solver progress.old.brought.items }
     requires goal { IfSome goal (λ lit. var_of lit < length (vars_of subject.now)) }
     ensures held { IsHeld subject.now progress.new.solver progress.new.brought.items }
-    ensures added { HasAdded progress.old.solver.steps progress.new.solver.steps }
+    ensures added { HasAdded progress.old.solver progress.new.solver }
     ensures units { counted_steps progress.new.solver.steps + budget.new ≡ counted_steps progress.old.solver.steps + budget.old }
     ensures found { IfOk result (Tells (search_of subject.now progress.new.solver) goal budget.new) }
 {
@@ -55,7 +55,7 @@ fn round(
     requires held { IsHeld subject.now progress.old.solver progress.old.brought.items }
     requires goal { IfSome goal (λ lit. var_of lit < length (vars_of subject.now)) }
     ensures held { IsHeld subject.now progress.new.solver progress.new.brought.items }
-    ensures added { HasAdded progress.old.solver.steps progress.new.solver.steps }
+    ensures added { HasAdded progress.old.solver progress.new.solver }
     ensures units { counted_steps progress.new.solver.steps + budget.new ≡ counted_steps progress.old.solver.steps + budget.old }
     ensures some { IfOk result (λ outcome. IfSome outcome (Tells (search_of subject.now progress.new.solver) goal budget.new)) }
     ensures none { IfOk result (λ outcome. IfNone outcome (unmarked progress.new.brought.items < unmarked progress.old.brought.items)) }
@@ -92,9 +92,10 @@ fn completed(
     requires whole { length truths.now ≡ length (vars_of subject.now) }
     requires holds { AreTrue truths.now progress.old.solver.steps }
     ensures held { IsHeld subject.now progress.new.solver progress.new.brought.items }
-    ensures added { HasAdded progress.old.solver.steps progress.new.solver.steps }
+    ensures added { HasAdded progress.old.solver progress.new.solver }
     ensures units { counted_steps progress.new.solver.steps ≡ counted_steps progress.old.solver.steps }
     ensures some { IfOk result (λ completion. IfSome completion (IsModelOf subject.now.spec subject.now.wanted truths.now)) }
+    ensures kept { IfOk result (λ completion. IfSome completion (λ c. progress.new.solver.steps ≡ progress.old.solver.steps)) }
     ensures none { IfOk result (λ completion. IfNone completion (unmarked progress.new.brought.items < unmarked progress.old.brought.items)) }
 {
     models_are_completions();

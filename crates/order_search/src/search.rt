@@ -1,9 +1,9 @@
-ghost use Rattle.std.specs.Prelude.{◌≡◌, ◌+◌, ◌<◌, List, IfOk, IfSome, Some, false, length, replicate, slice_get};
+ghost use Rattle.std.specs.Prelude.{◌≡◌, ◌+◌, ◌<◌, IfOk, IfSome, OnOk, Some, false, length, option_map, slice_get, true};
 ghost use Rattle.currency_base.specs.Literals.{var_of};
-ghost use Rattle.refutation_log.specs.Counted.{counted_steps};
-ghost use Rattle.search_logs.specs.SearchLogs.{IsWithin};
-ghost use Rattle.order_search.specs.Kept.{IsHeld, vars_of};
-ghost use Rattle.order_search.specs.Searches.{IsSearch, HasGone, IsWantedRow, Tells};
+ghost use Rattle.match_clauses.specs.Clauses.{SaysAnswer};
+ghost use Rattle.refutation_log.specs.Counted.{IsOpenLog, counted_steps};
+ghost use Rattle.search_logs.specs.SearchLogs.{IsPosed, IsWithin};
+ghost use Rattle.order_search.specs.Searches.{AreClausesTrue, HasGone, HasTaken, IsAnswerCounter, IsMatchOf, IsSearch, IsWantedRow, Tells};
 ghost use Rattle.order_clauses.specs.Subject.{IsPairIn};
 ghost use Rattle.order_links.specs.Lists.{IsListOf};
 ghost use Rattle.order_literals.specs.Said.{Says, before, last};
@@ -12,19 +12,22 @@ ghost use Rattle.value_names.specs.Names.{name_of};
 
 use crate::Outcome;
 use crate::linked::bring_linked;
+use crate::matching::{add_match, demand_match};
+use crate::opening::{begun, guess};
 use crate::progress::Progress;
 use crate::rounds::decided;
 use crate::subject::Subject;
-use currency_base::{AttrId, Lit, NoMemory, RelId, RowId};
+use currency_base::{Assignment, AttrId, Lit, NoMemory, RelId, RowId, TupleList};
 use literal_laws::one_literal;
 use order_links::{Links, ListId};
 use order_literals::Wanted;
+use query_model::{Match, Query};
 use refutation_log::Log;
 use solver_guides::Guides;
-use spec_model::Specification;
+use spec_model::{Completion, RelList, Specification};
 use std::alloc::Global;
 use std::marker::Model;
-use watch_solver::{Budget, Solver};
+use watch_solver::Budget;
 
 /// A search over the statements of a specification. Contracts see its log, the specification and what is wanted.
 #[derive(Drop)]
@@ -50,21 +53,29 @@ impl<'a> Model for Search<'a> {
 }
 
 impl<'a> Search<'a> {
-    /// A search whose log has the axioms that are brought in from the start. The guides make room for its variables,
-    /// and learn of a first guess at a model.
+    /// A search whose log has the axioms that are brought in from the start, where a query may be posed, the tuples whose
+    /// being an answer is numbered are these, and the current values of these relations are wanted. The log takes the
+    /// tuples. The guides make room for its variables, and learn of a first guess at a model.
     pub fn new(
         alloc: Global,
         spec: &'a Specification,
-        wanted: Wanted,
+        query: Option<&'a Query>,
+        currents: RelList,
+        answers: TupleList,
         guides: &mut Guides,
     ) -> Result<Search<'a>, NoMemory>
         requires within { IsWithin spec.now }
-        requires answers { wanted.answers ≡ 0 }
+        requires posed { IsPosed (record { query = option_map (λ q. q.now) query; answers = answers }) }
         ensures spec { IfOk result (λ s. s.spec ≡ spec.now) }
-        ensures wanted { IfOk result (λ s. s.wanted ≡ wanted) }
+        ensures posed { IfOk result (λ s. s.posed ≡ record { query = option_map (λ q. q.now) query.entry; answers = answers }) }
+        ensures wanted { IfOk result (λ s. s.wanted ≡ record { currents = currents; answers = length answers }) }
         ensures uncounted { IfOk result (λ s. counted_steps s.log.steps ≡ 0) }
     {
-        let subject = match Subject::new(alloc, spec, wanted) {
+        let wanted = Wanted {
+            currents,
+            answers: answers.len() as u32,
+        };
+        let subject = match Subject::new(alloc, spec, query, wanted) {
             Ok(subject) => subject,
             Err(error) => return Err(error),
         };
@@ -72,7 +83,7 @@ impl<'a> Search<'a> {
             Ok(links) => links,
             Err(error) => return Err(error),
         };
-        match begun(&subject, alloc, guides) {
+        match begun(&subject, alloc, answers, guides) {
             Ok(progress) => Ok(Search {
                 subject,
                 progress,
@@ -162,6 +173,83 @@ impl<'a> Search<'a> {
         outcome
     }
 
+    /// Puts the axiom of a match of the posed query after the steps, whose tuple stands at a place of the posed answers. No unit
+    /// is taken.
+    pub fn add_match(
+        &mut self,
+        alloc: Global,
+        completion: &Completion,
+        m: &Match,
+        answer: u32,
+        guides: &mut Guides,
+    ) -> Result<(), NoMemory>
+        requires { IsMatchOf self.old completion.now m.now answer }
+        ensures gone { HasGone self.old self.new }
+        ensures units { counted_steps self.new.log.steps ≡ counted_steps self.old.log.steps }
+        ensures put { OnOk result (HasTaken self.old self.new completion.now m.now answer false) }
+    {
+        if self.failed {
+            return Err(NoMemory);
+        }
+        let outcome = add_match(
+            &self.subject,
+            &mut self.progress,
+            alloc,
+            completion,
+            m,
+            answer,
+            guides,
+        );
+        self.failed = outcome.is_err();
+        outcome
+    }
+
+    /// Puts the axiom of a match after the steps as one that the search demands: over the current instance of a completion
+    /// in which the tuple is said to be no answer, so that the step is new. It takes a unit, if there is memory.
+    pub fn demand_match(
+        &mut self,
+        alloc: Global,
+        completion: &Completion,
+        m: &Match,
+        answer: u32,
+        truths: &Assignment,
+        budget: &mut Budget,
+        guides: &mut Guides,
+    ) -> Result<(), NoMemory>
+        requires is_match { IsMatchOf self.old completion.now m.now answer }
+        requires unit { 0 < budget.old }
+        requires counter { IsAnswerCounter self.old answer truths.now completion.now }
+        ensures gone { HasGone self.old self.new }
+        ensures units { counted_steps self.new.log.steps + budget.new ≡ counted_steps self.old.log.steps + budget.old }
+        ensures put { OnOk result (HasTaken self.old self.new completion.now m.now answer true) }
+        ensures taken { OnOk result (budget.new + 1 ≡ budget.old) }
+    {
+        if self.failed {
+            return Err(NoMemory);
+        }
+        let outcome = demand_match(
+            &self.subject,
+            &mut self.progress,
+            alloc,
+            completion,
+            m,
+            answer,
+            truths,
+            budget,
+            guides,
+        );
+        self.failed = outcome.is_err();
+        outcome
+    }
+
+    /// No work: the caller learns that the log is open where each step's clause is true.
+    pub fn is_open(&self, truths: &Assignment)
+        requires { AreClausesTrue truths.now self.now.log.steps }
+        ensures { IsOpenLog self.now.log.steps }
+    {
+        self.progress.solver.is_solver();
+    }
+
     /// Lets the guides begin from another guess at a model: one whose free pairs are turned round.
     pub fn turn(&mut self, alloc: Global, guides: &mut Guides) -> Result<(), NoMemory>
         ensures { self.new ≡ self.old }
@@ -195,67 +283,14 @@ impl<'a> Search<'a> {
         one_literal();
         self.subject.current(rel, attr, row)
     }
-}
 
-// The start of a search: the log with the axioms from the start, and the guides with a first guess at a model.
-fn begun(subject: &Subject<'_>, alloc: Global, guides: &mut Guides) -> Result<Progress, NoMemory>
-    requires within { IsWithin subject.now.spec }
-    requires answers { subject.now.wanted.answers ≡ 0 }
-    ensures held { IfOk result (λ p. IsHeld subject.now p.solver p.brought.items) }
-    ensures uncounted { IfOk result (λ p. counted_steps p.solver.steps ≡ 0) }
-{
-    let mut solver = match solver_of(subject, alloc) {
-        Ok(solver) => solver,
-        Err(error) => return Err(error),
-    };
-    match guess(subject, alloc, &mut solver, false, guides) {
-        Ok(()) => {}
-        Err(error) => return Err(error),
-    }
-    match Vec::from_elem(alloc, false, subject.vars() as usize) {
-        Ok(brought) => Ok(Progress { solver, brought }),
-        Err(_) => Err(NoMemory),
-    }
-}
-
-// A solver over the log with the axioms from the start.
-fn solver_of(subject: &Subject<'_>, alloc: Global) -> Result<Solver, NoMemory>
-    requires within { IsWithin subject.now.spec }
-    requires answers { subject.now.wanted.answers ≡ 0 }
-    ensures held { IfOk result (λ s. IsHeld subject.now s (replicate (length (vars_of subject.now)) false)) }
-    ensures uncounted { IfOk result (λ s. counted_steps s.steps ≡ 0) }
-{
-    one_literal();
-    let _few = subject.vars();
-    let log = match subject.log(alloc) {
-        Ok(log) => log,
-        Err(error) => return Err(error),
-    };
-    match Solver::new(alloc, log) {
-        Ok(solver) => Ok(solver),
-        Err(error) => Err(error),
-    }
-}
-
-// The guides learn of a guess at a model, made of what unit propagation finds where nothing is assumed.
-fn guess(
-    subject: &Subject<'_>,
-    alloc: Global,
-    solver: &mut Solver,
-    turned: bool,
-    guides: &mut Guides,
-) -> Result<(), NoMemory>
-    requires { solver.old.frame.statements ≡ vars_of subject.now }
-    ensures frame { solver.new.frame ≡ solver.old.frame }
-    ensures steps { solver.new.steps ≡ solver.old.steps }
-{
-    solver.settle(guides);
-    solver.is_solver();
-    match subject.start(alloc, solver.trail().values(), turned) {
-        Ok(start) => {
-            guides.fit_all(alloc, &start);
-            Ok(())
-        }
-        Err(error) => Err(error),
+    /// The literal that says that the tuple at a place of the posed answers is an answer.
+    pub fn answer(&self, place: u32) -> Lit
+        requires { place < length self.now.posed.answers }
+        ensures says { SaysAnswer self.now.log.statements place result }
+        ensures within { var_of result < length self.now.log.statements }
+    {
+        one_literal();
+        self.subject.answer(place)
     }
 }

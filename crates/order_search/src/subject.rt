@@ -1,4 +1,5 @@
-ghost use Rattle.std.specs.Prelude.{◌≡◌, ◌<◌, ◌^◌, [], length, take, Some, slice_get, IfOk};
+ghost use Rattle.std.specs.Prelude.{◌≡◌, ◌<◌, ◌≤◌, ◌^◌, length, option_map, take, Some, slice_get, IfOk};
+ghost use Rattle.match_clauses.specs.Clauses.{SaysAnswer};
 ghost use Rattle.spec_model.specs.declared.relation.Relation.{Relation};
 ghost use Rattle.order_literals.specs.Numbers.{IsPairOf, numbers_of};
 ghost use Rattle.order_literals.specs.Said.{Says, before, last};
@@ -10,26 +11,30 @@ ghost use Rattle.order_clauses.specs.Clauses.{AreAxioms, AreTransitive};
 ghost use Rattle.completion_build.specs.Ranked.{IsBuilt};
 ghost use Rattle.order_start.specs.Guess.{IsGuess};
 ghost use Rattle.search_logs.specs.SearchLogs.{IsWithin};
-ghost use Rattle.order_search.specs.Kept.{AreRowsOf, vars_of};
+ghost use Rattle.order_search.specs.Kept.{AreLitsFor, AreRowsOf, IsMatchFor, vars_of};
 ghost use Rattle.order_search.specs.Searches.{IsWantedRow};
 
 use completion_build::{Built, rank};
-use currency_base::{Assignment, AttrId, EntId, Lit, NoMemory, RelId, RowId, TupleList};
+use currency_base::{Assignment, AttrId, EntId, Lit, LitList, NoMemory, RelId, RowId, TupleList};
+use match_clauses::{answer_lit, match_lits};
 use order_clauses::{clauses, transitive};
 use order_limits::number;
 use order_links::ListId;
 use order_literals::{Numbering, Wanted};
 use order_start::start;
+use query_model::{Match, Query};
 use refutation_log::{Log, StatementList, Steps};
 use search_trail::Values;
-use spec_model::{Relation, Specification};
+use spec_model::{Completion, Relation, Specification};
 use std::alloc::Global;
 use std::marker::Model;
 
-/// A specification, and the numbers of the statements on it. Contracts see the specification and what is wanted.
+/// A specification, the query that is posed of it, if one is, and the numbers of the statements on it. Contracts see these two
+/// and what is wanted.
 #[derive(Drop)]
 pub(crate) struct Subject<'a> {
     spec: &'a Specification,
+    query: Option<&'a Query>,
     wanted: Wanted,
     numbering: Numbering,
 }
@@ -37,11 +42,12 @@ pub(crate) struct Subject<'a> {
 impl<'a> Model for Subject<'a> {
     ghost use Rattle.std.specs.Prelude.{◌≡◌};
     ghost use Rattle.order_literals.specs.Numbers.{numbers_of};
-    ghost use Rattle.order_clauses.specs.Subject.{Subject as Subjects};
+    ghost use Rattle.std.specs.Prelude.{option_map};
+    ghost use Rattle.order_search.specs.Searches.{Subject as Subjects};
 
     ghost Value = { Subjects };
 
-    ghost view = { λ s. record { spec = s.spec.now; wanted = s.wanted } };
+    ghost view = { λ s. record { spec = s.spec.now; query = option_map (λ q. q.now) s.query; wanted = s.wanted } };
 
     ghost invariant = { λ s. s.numbering ≡ numbers_of s.spec.now.relations s.wanted };
 }
@@ -51,16 +57,19 @@ impl<'a> Subject<'a> {
     pub(crate) fn new(
         alloc: Global,
         spec: &'a Specification,
+        query: Option<&'a Query>,
         wanted: Wanted,
     ) -> Result<Subject<'a>, NoMemory>
         requires within { IsWithin spec.now }
-        requires answers { wanted.answers ≡ 0 }
+        requires answers { wanted.answers ≤ 1000000 }
         ensures spec { IfOk result (λ s. s.spec ≡ spec.now) }
+        ensures query { IfOk result (λ s. s.query ≡ option_map (λ q. q.now) query.entry) }
         ensures wanted { IfOk result (λ s. s.wanted ≡ wanted) }
     {
         match number(alloc, spec, &wanted) {
             Ok(numbering) => Ok(Subject {
                 spec,
+                query,
                 wanted,
                 numbering,
             }),
@@ -76,9 +85,9 @@ impl<'a> Subject<'a> {
         self.numbering.vars()
     }
 
-    /// A log with the axioms that are brought in from the start.
-    pub(crate) fn log(&self, alloc: Global) -> Result<Log, NoMemory>
-        ensures answers { IfOk result (λ log. log.answers ≡ []) }
+    /// A log of these answers with the axioms that are brought in from the start.
+    pub(crate) fn log(&self, alloc: Global, answers: TupleList) -> Result<Log, NoMemory>
+        ensures answers { IfOk result (λ log. log.answers ≡ answers) }
         ensures statements { IfOk result (λ log. log.statements ≡ vars_of self.now) }
         ensures steps { IfOk result (λ log. AreAxioms self.now.spec self.now.wanted.currents (vars_of self.now) log.steps) }
     {
@@ -91,7 +100,7 @@ impl<'a> Subject<'a> {
             Err(error) => return Err(error),
         };
         Ok(Log {
-            answers: TupleList::new(alloc),
+            answers,
             statements,
             steps,
         })
@@ -155,6 +164,40 @@ impl<'a> Subject<'a> {
         ensures { Says (vars_of self.now) result (before rel attr first second) }
     {
         self.numbering.before(rel, attr, first, second)
+    }
+
+    /// The literal that says that the tuple at a place of the answers is one.
+    pub(crate) fn answer(&self, place: u32) -> Lit
+        requires { place < self.now.wanted.answers }
+        ensures { SaysAnswer (vars_of self.now) place result }
+    {
+        answer_lit(&self.numbering, place)
+    }
+
+    /// The literals of the axiom of a match of the query that is posed.
+    pub(crate) fn match_lits(
+        &self,
+        alloc: Global,
+        completion: &Completion,
+        m: &Match,
+        answer: u32,
+    ) -> Result<LitList, NoMemory>
+        requires { IsMatchFor self.now completion.now m.now answer }
+        ensures { IfOk result (AreLitsFor self.now completion.now m.now answer) }
+    {
+        match self.query {
+            Some(query) => match_lits(
+                alloc,
+                self.spec,
+                &self.numbering,
+                &self.wanted,
+                query,
+                completion,
+                m,
+                answer,
+            ),
+            None => unreachable!(),
+        }
     }
 
     /// The literal that says that the value of a row of a wanted relation is current.

@@ -1,8 +1,7 @@
 ghost use Rattle.std.specs.Prelude.{◌≡◌, []};
 
 use crate::{Outcome, Search};
-use currency_base::NoMemory;
-use order_literals::Wanted;
+use currency_base::{NoMemory, TupleList};
 use solver_guides::Guides;
 use spec_model::{RelList, Specification};
 use std::alloc::Global;
@@ -16,11 +15,9 @@ fn finds_nothing(alloc: Global, spec: &Specification, guides: &mut Guides) -> Re
     let _ = spec.relations().len();
     let _ = spec.rules().len();
     let _ = spec.copies().len();
-    let wanted = Wanted {
-        currents: RelList::new(alloc),
-        answers: 0,
-    };
-    match Search::new(alloc, spec, wanted, guides) {
+    let currents = RelList::new(alloc);
+    let answers = TupleList::new(alloc);
+    match Search::new(alloc, spec, None, currents, answers, guides) {
         Ok(mut search) => is_nothing(&mut search, alloc, guides),
         Err(error) => Err(error),
     }

@@ -8,9 +8,9 @@ use Rattle.clap.specs.Faults.{entered_fault, fault_of, level_fault}
 use Rattle.clap.specs.Kinds.{Kinds}
 use Rattle.clap.specs.Simple.{Shape, argument_words, built, entered, label_of, names_of, rows_at, subcommand_of}
 use Rattle.clap.specs.Walk.{Row, Text, answers_to, first_of, nothing_held, rows_after, stop_after}
-use Rattle.program_words.specs.Line.{ask_shape, bare_line, forced_shape, line, verify_shape}
-use Rattle.program_words.specs.Numbers.{number_if_given, number_or}
-use Rattle.program_words.specs.Words.{AskFor, CommandSaid, ForcedOf, IsRefused, VerifyOf, ask_in, command_in, command_of, has_wrong_number, is_set, unless_fault}
+use Rattle.program_words.specs.Line.{ask_shape, bare_line, forced_shape, line, trial_shape, verify_shape}
+use Rattle.program_words.specs.Numbers.{number_if_given, number_or, number_up_to}
+use Rattle.program_words.specs.Words.{AskFor, CommandSaid, ForcedOf, IsRefused, TrialOf, VerifyOf, ask_in, command_in, command_of, has_wrong_number, is_ask_wrong, is_set, is_trial_wrong, trial_in, unless_fault}
 use Rattle.program_words.proofs.TextRows.{found_holds}
 use Rattle.program_words.proofs.TextWalks.{AreValued, level_texts}
 use Rattle.program_words.proofs.RequiredTexts.{none_wanted, required_text}
@@ -45,21 +45,34 @@ forced_whole : (spec : Option Text) → is_some spec ≡ true → option_map (λ
 forced_whole None s e = cc
 forced_whole (Some spec) s e = cc
 
+trial_number : (text : Option Text) → is_some text ≡ true → option_and_then (λ t. option_map (λ n. TrialOf n) (number_up_to 1000 t)) text ≡ None
+    → option_map_or (λ t. not (is_some (number_up_to 1000 t))) text false ≡ true
+trial_number None s e = cc
+trial_number (Some text) s e = by (number_up_to 1000 text) e
+  where
+    by : (o : Option ℕ) → option_map (λ n. TrialOf n) o ≡ None → not (is_some o) ≡ true
+    by None e = refl
+    by (Some n) e = cc
+
 -- each argument of a command has a text where it is used
 ask_valued : AreValued (sub 0).rules
-unfolding line bare_line ask_shape verify_shape forced_shape
+unfolding line bare_line ask_shape verify_shape forced_shape trial_shape
 ask_valued = (record { acts = λ values rows. refl; stands = λ e. cc }, (record { acts = λ values rows. refl; stands = λ e. cc }, (record { acts = λ values rows. refl; stands = λ e. cc }, (record { acts = λ values rows. refl; stands = λ e. omega arith }, (record { acts = λ values rows. refl; stands = λ e. cc }, tt)))))
 
 verify_valued : AreValued (sub 1).rules
-unfolding line bare_line ask_shape verify_shape forced_shape
+unfolding line bare_line ask_shape verify_shape forced_shape trial_shape
 verify_valued = (record { acts = λ values rows. refl; stands = λ e. cc }, (record { acts = λ values rows. refl; stands = λ e. cc }, (record { acts = λ values rows. refl; stands = λ e. cc }, tt)))
 
 forced_valued : AreValued (sub 2).rules
-unfolding line bare_line ask_shape verify_shape forced_shape
+unfolding line bare_line ask_shape verify_shape forced_shape trial_shape
 forced_valued = (record { acts = λ values rows. refl; stands = λ e. cc }, tt)
 
+trial_valued : AreValued (sub 3).rules
+unfolding line bare_line ask_shape verify_shape forced_shape trial_shape
+trial_valued = (record { acts = λ values rows. refl; stands = λ e. cc }, tt)
+
 ask_caused : IsCaused (sub 0)
-unfolding line bare_line ask_shape verify_shape forced_shape
+unfolding line bare_line ask_shape verify_shape forced_shape trial_shape
 ask_caused words free none =
     let rows = rows_after (sub 0).rules [] words in
     ask_number (first_of (codes "SPEC") rows) (first_of (codes "QUESTION") rows) (number_or 100000 10000000 (first_of (codes "budget") rows))
@@ -68,7 +81,7 @@ ask_caused words free none =
     (required_text (sub 0) words (codes "QUESTION") ask_valued (inr (inl (refl, refl))) free) none
 
 verify_caused : IsCaused (sub 1)
-unfolding line bare_line ask_shape verify_shape forced_shape
+unfolding line bare_line ask_shape verify_shape forced_shape trial_shape
 verify_caused words free none =
     let rows = rows_after (sub 1).rules [] words in
     absurd (verify_whole (first_of (codes "SPEC") rows) (first_of (codes "QUESTION") rows) (first_of (codes "REPORT") rows)
@@ -77,14 +90,20 @@ verify_caused words free none =
     (required_text (sub 1) words (codes "REPORT") verify_valued (inr (inr (inl (refl, refl)))) free) none)
 
 forced_caused : IsCaused (sub 2)
-unfolding line bare_line ask_shape verify_shape forced_shape
+unfolding line bare_line ask_shape verify_shape forced_shape trial_shape
 forced_caused words free none =
     let rows = rows_after (sub 2).rules [] words in
     absurd (forced_whole (first_of (codes "SPEC") rows) (required_text (sub 2) words (codes "SPEC") forced_valued (inl (refl, refl)) free) none)
 
+trial_caused : IsCaused (sub 3)
+unfolding line bare_line ask_shape verify_shape forced_shape trial_shape
+trial_caused words free none =
+    let rows = rows_after (sub 3).rules [] words in
+    trial_number (first_of (codes "N") rows) (required_text (sub 3) words (codes "N") trial_valued (inl (refl, refl)) free) none
+
 all_caused : AllByRecursion IsCaused (built line).subs
 unfolding line bare_line
-all_caused = (ask_caused, (verify_caused, (forced_caused, tt)))
+all_caused = (ask_caused, (verify_caused, (forced_caused, (trial_caused, tt))))
 
 -- the same of the command that was entered
 entered_caused : (stop : Option (Text × List Text)) → is_some (entered (built line) stop) ≡ true → entered_fault (built line) stop ≡ []
@@ -136,15 +155,25 @@ ask_none (Some spec) (Some question) None guide brief e = refl
 ask_none (Some spec) (Some question) (Some budget) None brief e = refl
 ask_none (Some spec) (Some question) (Some budget) (Some guide) brief e = cc
 
+trial_none : (text : Option Text) → option_map_or (λ t. not (is_some (number_up_to 1000 t))) text false ≡ true
+    → option_and_then (λ t. option_map (λ n. TrialOf n) (number_up_to 1000 t)) text ≡ None
+trial_none None e = refl
+trial_none (Some text) e = by (number_up_to 1000 text) e
+  where
+    by : (o : Option ℕ) → not (is_some o) ≡ true → option_map (λ n. TrialOf n) o ≡ None
+    by None e = refl
+    by (Some n) e = cc
+
 wrong_is_none : (found : Option (Text × List Row)) → option_map_or has_wrong_number found false ≡ true → option_and_then command_in found ≡ None
 wrong_is_none None wrong = refl
-wrong_is_none (Some p) wrong = by (bytes_eq p.0 (codes "ask")) _ wrong
+wrong_is_none (Some p) wrong = by (bytes_eq p.0 (codes "ask")) (bytes_eq p.0 (codes "trial")) _ wrong
   where
-    by : (b : Bool) (other : Option CommandSaid)
-        → (b && (not (is_some (number_or 100000 10000000 (first_of (codes "budget") p.1))) || not (is_some (number_if_given 4 (first_of (codes "guide") p.1))))) ≡ true
-        → cond b (ask_in p.1) other ≡ None
-    by true other w = ask_none (first_of (codes "SPEC") p.1) (first_of (codes "QUESTION") p.1) _ _ _ w
-    by false other w = cc
+    by : (is_ask is_trial : Bool) (other : Option CommandSaid)
+        → cond is_ask (is_ask_wrong p.1) (cond is_trial (is_trial_wrong p.1) false) ≡ true
+        → cond is_ask (ask_in p.1) (cond is_trial (trial_in p.1) other) ≡ None
+    by true is_trial other w = ask_none (first_of (codes "SPEC") p.1) (first_of (codes "QUESTION") p.1) _ _ _ w
+    by false true other w = trial_none (first_of (codes "N") p.1) w
+    by false false other w = cc
 
 pub refused : (words : List Text) → IsRefused words → command_of words ≡ None
 unfolding command_of

@@ -37,6 +37,10 @@ verify_shape = record (new_shape (codes "verify")) {
 unfoldable pub forced_shape : Shape
 forced_shape = record (new_shape (codes "forced")) { rules = required_rule (codes "SPEC") ∷ [] }
 
+-- trial N
+unfoldable pub trial_shape : Shape
+trial_shape = record (new_shape (codes "trial")) { rules = required_rule (codes "N") ∷ [] }
+
 -- the program with no command yet: one has to be named, and neither help nor a version is added
 unfoldable pub bare_line : App
 bare_line = record (new_app (codes "currency")) {
@@ -48,6 +52,6 @@ bare_line = record (new_app (codes "currency")) {
   };
 }
 
--- the program with its three commands
+-- the program with its four commands
 unfoldable pub line : App
-line = with_subcommand (with_subcommand (with_subcommand bare_line ask_shape) verify_shape) forced_shape
+line = with_subcommand (with_subcommand (with_subcommand (with_subcommand bare_line ask_shape) verify_shape) forced_shape) trial_shape

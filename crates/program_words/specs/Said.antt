@@ -1,7 +1,7 @@
 -- What the code's own types say.
-use Rattle.program_words.specs.Words.{CommandSaid, AskFor, VerifyOf, ForcedOf}
+use Rattle.program_words.specs.Words.{CommandSaid, AskFor, VerifyOf, ForcedOf, TrialOf}
 use Rattle.program_words.specs.declared.command.Command.{Command}
-use Rattle.program_words.specs.declared.command.Command.TheVariants.{Ask, Verify, Forced}
+use Rattle.program_words.specs.declared.command.Command.TheVariants.{Ask, Verify, Forced, Trial}
 
 -- a command, with the names of documents as bytes
 abbrev pub said_of : Command → CommandSaid
@@ -9,3 +9,4 @@ said_of (Ask a) =
     AskFor (record { spec = a.spec.now; question = a.question.now; budget = a.budget; brief = a.brief; guide = a.guide })
 said_of (Verify v) = VerifyOf (record { spec = v.spec.now; question = v.question.now; report = v.report.now })
 said_of (Forced name) = ForcedOf name.now
+said_of (Trial size) = TrialOf size

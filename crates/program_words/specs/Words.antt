@@ -6,7 +6,7 @@ use Rattle.clap.specs.Walk.{Row, Text, first_of}
 use Rattle.clap.specs.Simple.{subcommand_of}
 use Rattle.clap.specs.Kinds.{Kinds}
 use Rattle.clap.specs.Faults.{fault_of}
-use Rattle.program_words.specs.Numbers.{number_if_given, number_or}
+use Rattle.program_words.specs.Numbers.{number_if_given, number_or, number_up_to}
 use Rattle.program_words.specs.Line.{line}
 
 -- ask SPEC QUESTION, with its options: the budget, whether the text is brief, and the one guide that is kept, counted from 1
@@ -23,11 +23,12 @@ pub record VerifySaid : Type 0 where
   pub question : List ℕ
   pub report : List ℕ
 
--- a command: ask, verify, or forced SPEC
+-- a command: ask, verify, forced SPEC, or trial N
 pub data CommandSaid : Type 0 where
   AskFor : AskSaid → CommandSaid
   VerifyOf : VerifySaid → CommandSaid
   ForcedOf : List ℕ → CommandSaid
+  TrialOf : ℕ → CommandSaid
 
 -- a flag's text says that it was given
 abbrev pub is_set : Option Text → Bool
@@ -57,9 +58,14 @@ verify_in rows = option_and_then (λ spec. option_and_then (λ question.
 abbrev pub forced_in : List Row → Option CommandSaid
 forced_in rows = option_map (λ spec. ForcedOf spec) (first_of (codes "SPEC") rows)
 
+-- `trial` with these rows; none where the number is wrong
+abbrev pub trial_in : List Row → Option CommandSaid
+trial_in rows = option_and_then (λ text. option_map (λ size. TrialOf size) (number_up_to 1000 text)) (first_of (codes "N") rows)
+
 -- the command of this name with these rows
 abbrev pub command_in : Text × List Row → Option CommandSaid
 command_in p = if bytes_eq p.0 (codes "ask") then ask_in p.1
+    else if bytes_eq p.0 (codes "trial") then trial_in p.1
     else if bytes_eq p.0 (codes "verify") then verify_in p.1
     else if bytes_eq p.0 (codes "forced") then forced_in p.1
     else None
@@ -75,11 +81,20 @@ unless_fault (kind ∷ kinds) said = None
 unfoldable pub command_of : List (List ℕ) → Option CommandSaid
 command_of words = unless_fault (fault_of line words) (option_and_then command_in (subcommand_of line words))
 
+-- a number that `ask` is given is wrong
+abbrev pub is_ask_wrong : List Row → Bool
+is_ask_wrong rows = not (is_some (number_or 100000 10000000 (first_of (codes "budget") rows)))
+    || not (is_some (number_if_given 4 (first_of (codes "guide") rows)))
+
+-- the number that `trial` is given is wrong
+abbrev pub is_trial_wrong : List Row → Bool
+is_trial_wrong rows = option_map_or (λ text. not (is_some (number_up_to 1000 text))) (first_of (codes "N") rows) false
+
 -- a number that this command is given is wrong
 abbrev pub has_wrong_number : Text × List Row → Bool
-has_wrong_number p = bytes_eq p.0 (codes "ask")
-    && (not (is_some (number_or 100000 10000000 (first_of (codes "budget") p.1)))
-    || not (is_some (number_if_given 4 (first_of (codes "guide") p.1))))
+has_wrong_number p = if bytes_eq p.0 (codes "ask") then is_ask_wrong p.1
+    else if bytes_eq p.0 (codes "trial") then is_trial_wrong p.1
+    else false
 
 -- clap sees a fault in the words, or a number in them is wrong
 abbrev pub IsRefused : List Text → Type 0

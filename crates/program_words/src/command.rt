@@ -5,6 +5,8 @@ pub enum Command<'a> {
     Verify(Verify<'a>),
     /// The forced pairs of the specification of this name.
     Forced(&'a str),
+    /// `trial N`: the four questions about a generated specification of so many entities, 1 to 1000.
+    Trial(u64),
 }
 
 /// `ask SPEC QUESTION [--budget N] [--brief] [--guide K]`.

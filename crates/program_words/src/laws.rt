@@ -1,6 +1,6 @@
 ghost use Rattle.std.specs.Prelude.{◌≡◌, ◌≤◌, IfSome, ℕ, List, [], ◌∷◌, None, Some, codes, false, true};
 ghost use Rattle.program_words.specs.Examples.{ask_for, said, said_after_ask};
-ghost use Rattle.program_words.specs.Words.{AskFor, AskSaid, ForcedOf, IsRefused, VerifyOf, command_of};
+ghost use Rattle.program_words.specs.Words.{AskFor, AskSaid, ForcedOf, IsRefused, TrialOf, VerifyOf, command_of};
 
 /// Examples of words: what they say, and which are refused.
 pub fn words_are_read()
@@ -12,6 +12,8 @@ pub fn words_are_read()
     ensures verify { said (codes "verify" ∷ codes "s" ∷ codes "q" ∷ codes "r" ∷ [])
         ≡ Some (VerifyOf (record { spec = codes "s"; question = codes "q"; report = codes "r" })) }
     ensures forced { said (codes "forced" ∷ codes "s" ∷ []) ≡ Some (ForcedOf (codes "s")) }
+    ensures trial { said (codes "trial" ∷ codes "12" ∷ []) ≡ Some (TrialOf 12) }
+    ensures trial_most { said (codes "trial" ∷ codes "1000" ∷ []) ≡ Some (TrialOf 1000) }
     ensures no_name { command_of [] ≡ None }
     ensures no_word { said [] ≡ None }
     ensures unknown { said (codes "explain" ∷ codes "s" ∷ codes "q" ∷ codes "1" ∷ []) ≡ None }
@@ -25,6 +27,10 @@ pub fn words_are_read()
     ensures missing_report { said (codes "verify" ∷ codes "s" ∷ codes "q" ∷ []) ≡ None }
     ensures no_spec { said (codes "forced" ∷ []) ≡ None }
     ensures no_options { said (codes "forced" ∷ codes "s" ∷ codes "--brief" ∷ []) ≡ None }
+    ensures no_size { said (codes "trial" ∷ []) ≡ None }
+    ensures size_zero { said (codes "trial" ∷ codes "0" ∷ []) ≡ None }
+    ensures size_past { said (codes "trial" ∷ codes "1001" ∷ []) ≡ None }
+    ensures two_sizes { said (codes "trial" ∷ codes "1" ∷ codes "2" ∷ []) ≡ None }
     ensures budget_zero { said_after_ask (codes "--budget" ∷ codes "0" ∷ []) ≡ None }
     ensures budget_past { said_after_ask (codes "--budget" ∷ codes "10000001" ∷ []) ≡ None }
     ensures budget_letter { said_after_ask (codes "--budget" ∷ codes "x" ∷ []) ≡ None }
@@ -46,9 +52,10 @@ pub fn refusals_have_causes()
     ensures refused { (words : List (List ℕ)) → IsRefused words → command_of words ≡ None }
 {}
 
-/// The numbers of an `ask` that words say are in their ranges: a budget of 1 to 10,000,000 and, where one guide is kept, its
-/// number of 1 to 4.
+/// The numbers that words say are in their ranges: of `ask` a budget of 1 to 10,000,000 and, where one guide is kept, its
+/// number of 1 to 4; of `trial` a size of 1 to 1000.
 pub fn numbers_are_in_range()
     ensures budget { (words : List (List ℕ)) (a : AskSaid) → command_of words ≡ Some (AskFor a) → (1 ≤ a.budget) × (a.budget ≤ 10000000) }
     ensures guide { (words : List (List ℕ)) (a : AskSaid) → command_of words ≡ Some (AskFor a) → IfSome a.guide (λ k. (1 ≤ k) × (k ≤ 4)) }
+    ensures size { (words : List (List ℕ)) (n : ℕ) → command_of words ≡ Some (TrialOf n) → (1 ≤ n) × (n ≤ 1000) }
 {}

@@ -1,7 +1,7 @@
 ghost use Rattle.std.specs.Prelude.{◌≡◌, IfOk, false};
 ghost use Rattle.clap.specs.Words.{app_of, rule_of, shape_of, with_subcommand};
 ghost use Rattle.clap.specs.declared.builder.command.Command.TheViews.{out-Command};
-ghost use Rattle.program_words.specs.Line.{ask_shape, ask_words_shape, bare_line, flag_rule, forced_shape, line, option_rule, required_rule, verify_shape};
+ghost use Rattle.program_words.specs.Line.{ask_shape, ask_words_shape, bare_line, flag_rule, forced_shape, line, option_rule, required_rule, trial_shape, verify_shape};
 
 use clap::{Arg, ArgAction, Command};
 use std::alloc::{AllocError, Global};
@@ -71,6 +71,14 @@ fn forced<'a>(alloc: Global) -> Result<Command<'a>, AllocError>
     Command::new(alloc, "forced").arg(required(alloc, "SPEC"))
 }
 
+#[tactic(auto, unfolding(crate::specs::Line::trial_shape))]
+fn trial<'a>(alloc: Global) -> Result<Command<'a>, AllocError>
+    ensures shape { IfOk result (λ c. shape_of c ≡ trial_shape) }
+    ensures local { IfOk result (λ c. (out-Command c).has_globals ≡ false) }
+{
+    Command::new(alloc, "trial").arg(required(alloc, "N"))
+}
+
 /// The program with no command yet. Subcommands take its settings on help and version.
 #[tactic(auto, unfolding(crate::specs::Line::bare_line))]
 fn bare_line<'a>(alloc: Global) -> Command<'a>
@@ -93,11 +101,12 @@ fn with_subcommand<'a>(
     command.subcommand(subcommand)
 }
 
-/// The program with its three commands.
+/// The program with its four commands.
 pub(crate) fn line<'a>(alloc: Global) -> Result<Command<'a>, AllocError>
     ensures { IfOk result (λ c. app_of c ≡ line) }
 {
     let with_ask = with_subcommand(bare_line(alloc), ask(alloc)?)?;
     let with_verify = with_subcommand(with_ask, verify(alloc)?)?;
-    with_subcommand(with_verify, forced(alloc)?)
+    let with_forced = with_subcommand(with_verify, forced(alloc)?)?;
+    with_subcommand(with_forced, trial(alloc)?)
 }

@@ -2,7 +2,7 @@ ghost use Rattle.std.specs.Prelude.{◌≡◌, None, Some, if◌then◌else◌, 
 ghost use Rattle.program_words.specs.Numbers.{number_if_given, number_or, number_up_to};
 
 /// The number from 1 to `most` that the text writes in decimal digits, with neither a sign nor a zero in front.
-fn number_up_to(text: &str, most: u64) -> Option<u64>
+pub(crate) fn number_up_to(text: &str, most: u64) -> Option<u64>
     ensures { result ≡ number_up_to most text.now }
 {
     let bytes = text.as_bytes();

@@ -1,9 +1,9 @@
 ghost use Rattle.std.specs.Prelude.{◌≡◌, codes, option_and_then, option_map};
 ghost use Rattle.clap.specs.Words.{found_of, first_of, rows_of, subcommand_rows_of};
 ghost use Rattle.program_words.specs.Said.{said_of};
-ghost use Rattle.program_words.specs.Words.{ask_in, command_in, forced_in, is_set, verify_in};
+ghost use Rattle.program_words.specs.Words.{ask_in, command_in, forced_in, is_set, trial_in, verify_in};
 
-use crate::number::{number_if_given, number_or};
+use crate::number::{number_if_given, number_or, number_up_to};
 use crate::{Ask, Command, Verify};
 use clap::ArgMatches;
 
@@ -60,6 +60,13 @@ fn forced_in<'a>(given: &ArgMatches<'a>) -> Option<Command<'a>>
     Some(Command::Forced(spec))
 }
 
+fn trial_in<'a>(given: &ArgMatches<'a>) -> Option<Command<'a>>
+    ensures { option_map said_of result ≡ trial_in (rows_of (found_of given.now)) }
+{
+    let size = number_up_to(text_of(given, "N")?, 1000)?;
+    Some(Command::Trial(size))
+}
+
 /// The command that was found, with what was given to it.
 pub(crate) fn command_in<'a>(matches: &ArgMatches<'a>) -> Option<Command<'a>>
     ensures { option_map said_of result ≡ option_and_then command_in (subcommand_rows_of matches.now) }
@@ -67,6 +74,7 @@ pub(crate) fn command_in<'a>(matches: &ArgMatches<'a>) -> Option<Command<'a>>
     let (name, given) = matches.subcommand()?;
     match name {
         "ask" => ask_in(given),
+        "trial" => trial_in(given),
         "verify" => verify_in(given),
         "forced" => forced_in(given),
         _ => None,

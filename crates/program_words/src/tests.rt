@@ -50,6 +50,7 @@ fn reads_commands(rt: HostRuntime) -> Result<(), Fail> {
     });
     assert!(rt; gives(alloc, "currency verify s q r", Ok(verify))?);
     assert!(rt; gives(alloc, "currency forced s", Ok(Command::Forced("s")))?);
+    assert!(rt; gives(alloc, "currency trial 12", Ok(Command::Trial(12)))?);
     Ok(())
 }
 
@@ -66,6 +67,8 @@ fn refuses_words(rt: HostRuntime) -> Result<(), Fail> {
         "currency ask s q --budget 007",
         "currency ask s q --guide 5",
         "currency ask s q --brief --brief",
+        "currency trial 0",
+        "currency trial 1001",
     ];
     for line in lines.iter() {
         assert!(rt; gives(alloc, line, Err(WordsFault::Refused))?);

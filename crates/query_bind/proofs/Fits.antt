@@ -32,9 +32,9 @@ use Rattle.bind_faults.specs.Faults.{all_of, and_then, found_or, refused_at}
 use Rattle.bind_faults.specs.declared.fault.BindFault.{BindFault}
 use Rattle.spec_model.specs.declared.relation.Relation.{Relation}
 use Rattle.spec_names.specs.Names.{place_of}
-use Rattle.query_bind.specs.Fitting.{IsAtomOn, IsTermOn, IsTestOn}
-use Rattle.query_bind.specs.Fitting as fit
-use Rattle.query_bind.specs.Queried.{all_parts, atom_of, atoms_of, disjunct_of, is_atom, is_test, kind_in, part_mismatch, place_kinds, relation_at, relation_of, side_kind, side_line, side_of, term_of, test_of, tests_of, unsafe_code, var_named, vars_of}
+use Rattle.spec_model.specs.Queries.{IsAtomOn, IsTermOn, IsTestOn, place_kinds}
+use Rattle.spec_model.specs.Queries as fit
+use Rattle.query_bind.specs.Queried.{all_parts, atom_of, atoms_of, disjunct_of, is_atom, is_test, kind_in, part_mismatch, relation_at, relation_of, side_kind, side_line, side_of, term_of, test_of, tests_of, unsafe_code, var_named, vars_of}
 use Rattle.query_bind.proofs.Lists.{IsIn, and_then_ok, as_many, each_is, gives, made_of, none_of}
 use Rattle.query_bind.proofs.Names.{its_place, place_within, stands_at, var_stands, vars_once}
 use Rattle.query_bind.proofs.OneKind.{IsAgreed, agreed_atom, no_clash, place_kind, var_kind}

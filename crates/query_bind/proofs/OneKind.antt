@@ -19,7 +19,8 @@ use Rattle.bind_faults.specs.Faults.{first_of, refused_at}
 use Rattle.bind_faults.specs.declared.fault.BindFault.TheVariants.{Refused}
 use Rattle.spec_model.specs.declared.relation.Attr.{Attr}
 use Rattle.spec_model.specs.declared.relation.Relation.{Relation}
-use Rattle.query_bind.specs.Queried.{all_parts, atom_mismatch, clash, differ, first_at, first_some, kind_by, kind_in, kind_in_part, kind_in_places, part_mismatch, place_kinds, place_mismatch, relation_of}
+use Rattle.spec_model.specs.Queries.{place_kinds}
+use Rattle.query_bind.specs.Queried.{all_parts, atom_mismatch, clash, differ, first_at, first_some, kind_by, kind_in, kind_in_part, kind_in_places, part_mismatch, place_mismatch, relation_of}
 use Rattle.query_bind.proofs.Lists.{IsIn, if_none, neither, none_from, none_of, none_some, some_from, some_in}
 use Rattle.query_bind.proofs.Names.{own_bytes, same_bytes}
 

@@ -22,7 +22,8 @@ use Rattle.bind_faults.specs.declared.fault.BindFault.TheVariants.{Refused, Limi
 use Rattle.bind_faults.proofs.Outcomes.{all_reads, due_reads, then_reads}
 use Rattle.spec_model.specs.declared.relation.Relation.{Relation}
 use Rattle.spec_names.specs.Names.{place_of}
-use Rattle.query_bind.specs.Queried.{all_parts, place_kinds, side_kind, side_line, atom_mismatch, atom_of, atoms_of, clash, differ, disjunct_of, first_at, kind_before, kind_in, mismatch_after, mismatch_in, missing, or_first, part_mismatch, place_mismatch, queried_on, relation_of, resolved, side_of, term_of, test_of, tests_of, too_large, unknown_in, unknown_part, unsafe_code, var_named, vars_of}
+use Rattle.spec_model.specs.Queries.{place_kinds}
+use Rattle.query_bind.specs.Queried.{all_parts, side_kind, side_line, atom_mismatch, atom_of, atoms_of, clash, differ, disjunct_of, first_at, kind_before, kind_in, mismatch_after, mismatch_in, missing, or_first, part_mismatch, place_mismatch, queried_on, relation_of, resolved, side_of, term_of, test_of, tests_of, too_large, unknown_in, unknown_part, unsafe_code, var_named, vars_of}
 
 -- a fault, if there is one, is no read fault
 abbrev pub IsPlain : Option BindFault → Type 0

@@ -19,7 +19,7 @@ use Rattle.bind_faults.specs.Faults.{all_of, first_of}
 use Rattle.bind_faults.specs.declared.fault.BindFault.{BindFault}
 use Rattle.bind_faults.specs.declared.fault.BindFault.TheVariants.{Limit}
 use Rattle.spec_model.specs.declared.relation.Relation.{Relation}
-use Rattle.query_bind.specs.Fitting.{IsDisjunctOn, IsQueryOn}
+use Rattle.spec_model.specs.Queries.{IsDisjunctOn, IsQueryOn}
 use Rattle.query_bind.specs.Queried.{all_parts, disjunct_of, first_some, is_atom, is_large, is_test, kind_before, kind_in, made, mismatch_after, mismatch_in, missing, or_first, queried_on, query_of, resolved, too_large, unknown_in, var_named, vars_of}
 use Rattle.query_bind.proofs.Fits.{IsMade, atoms_fit, atoms_many, is_disjunct, is_made, kind_at, kinds_in, number_of, or_text, tests_fit, tests_many, var_fits}
 use Rattle.query_bind.proofs.Lists.{IsIn, and_then_ok, any_in, as_many, each_is, first_ok, if_none, neither, not_any, one_ok, unless_ok}

@@ -6,7 +6,7 @@ use Rattle.std.specs.List.{count_by, fold, list_any}
 use Rattle.std.specs.Str.{bytes_eq}
 use Rattle.currency_base.specs.Values.{kind_of}
 use Rattle.currency_base.specs.declared.error_code.ErrorCode.{ErrorCode}
-use Rattle.currency_base.specs.declared.error_code.ErrorCode.TheVariants.{UnknownName, Mismatch}
+use Rattle.currency_base.specs.declared.error_code.ErrorCode.TheVariants.{UnknownName, Mismatch, UnsafeVariable}
 use Rattle.currency_base.specs.declared.value.Kind.{Kind}
 use Rattle.currency_base.specs.declared.value.Kind.TheVariants.{Text, Int}
 use Rattle.text_grammar.specs.declared.named.Named.{Named}
@@ -32,7 +32,7 @@ use Rattle.bind_faults.specs.Faults.{refused_at, found_or, and_then, unless, or_
 use Rattle.bind_faults.specs.declared.fault.BindFault.{BindFault}
 use Rattle.bind_faults.specs.declared.fault.BindFault.TheVariants.{Refused, Limit}
 use Rattle.spec_model.specs.Spec.{Spec}
-use Rattle.spec_model.specs.Facts.{kinds_of}
+use Rattle.spec_model.specs.Queries.{place_kinds}
 use Rattle.spec_model.specs.declared.relation.Relation.{Relation}
 use Rattle.spec_names.specs.Names.{place_of}
 
@@ -74,10 +74,6 @@ abbrev pub relation_of : List (List ℕ) → List Relation → Named → Option 
 relation_of names relations named = relation_at relations (place_of names named.name)
 
 -- ---- kinds
-
--- the kinds of an atom's places: the entity's name is text, and each further place is of the kind of an attribute
-abbrev pub place_kinds : Relation → List Kind
-place_kinds r = Text ∷ kinds_of r
 
 -- the first that there is
 abbrev pub or_first : {A : Type 0} → Option A → Option A → Option A
@@ -202,7 +198,7 @@ too_large ds = if nat_lt 16 (length ds) || list_any is_large ds then Some (Limit
 
 -- the code of a variable that stands in no atom of a disjunct
 abbrev pub unsafe_code : ErrorCode
-unsafe_code = UnknownName
+unsafe_code = UnsafeVariable
 
 -- the refusal of a variable of the head that is not among those of each disjunct
 abbrev pub missing : List (List (List ℕ)) → Named → Option BindFault

@@ -1,7 +1,7 @@
 ghost use Rattle.std.specs.Prelude.{◌≡◌, ◌<◌, ◌≤◌, All, IfOk, length};
 ghost use Rattle.bind_faults.specs.Faults.{IsDue, IsReadFault};
 ghost use Rattle.spec_names.specs.Names.{all_names_of};
-ghost use Rattle.query_bind.specs.Fitting.{IsQueryOn};
+ghost use Rattle.spec_model.specs.Queries.{IsQueryOn};
 ghost use Rattle.query_bind.specs.Queried.{made, queried, queried_on, resolved, vars_of};
 
 use crate::heads::head_fault;

@@ -18,7 +18,7 @@ use text_grammar::Named;
 pub fn unsafe_code() -> ErrorCode
     ensures { result ≡ unsafe_code }
 {
-    ErrorCode::UnknownName
+    ErrorCode::UnsafeVariable
 }
 
 /// The refusal of the first variable of the head that stands in no atom of some disjunct.

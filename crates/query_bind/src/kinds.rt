@@ -2,7 +2,8 @@
 
 ghost use Rattle.std.specs.Prelude.{◌≡◌, slice_get};
 ghost use Rattle.spec_model.specs.Facts.{kinds_of};
-ghost use Rattle.query_bind.specs.Queried.{clash, differ, place_kinds};
+ghost use Rattle.spec_model.specs.Queries.{place_kinds};
+ghost use Rattle.query_bind.specs.Queried.{clash, differ};
 
 use bind_faults::{BindFault, Refusal};
 use currency_base::{ErrorCode, Kind};

@@ -3,7 +3,8 @@
 ghost use Rattle.std.specs.Prelude.{◌≡◌, IfOk, is_some, None, ◌==◌, ◌+◌, [], length};
 ghost use Rattle.bind_faults.specs.Faults.{first_of, or_else};
 ghost use Rattle.spec_names.specs.Names.{place_of};
-ghost use Rattle.query_bind.specs.Queried.{atom_mismatch, clash, first_at, kind_in, mismatch_after, mismatch_by, part_mismatch, place_kinds, place_mismatch, relation_of, side_kind, side_line};
+ghost use Rattle.spec_model.specs.Queries.{place_kinds};
+ghost use Rattle.query_bind.specs.Queried.{atom_mismatch, clash, first_at, kind_in, mismatch_after, mismatch_by, part_mismatch, place_mismatch, relation_of, side_kind, side_line};
 ghost use Rattle.query_bind.specs.Steps.{kind_among, kind_for, mismatch_from, Notes};
 
 use crate::kinds::{clash, place_kind};

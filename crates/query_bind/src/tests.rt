@@ -1,6 +1,6 @@
 use crate::bind::bind_on;
 use bind_faults::{BindFault, Refusal};
-use currency_base::ErrorCode::{self, Mismatch, UnknownName};
+use currency_base::ErrorCode::{self, Mismatch, UnknownName, UnsafeVariable};
 use currency_base::Kind::{self, Int, Text};
 use currency_base::{Name, NameList, NoMemory, RelId, Rows, Value};
 use name_index::NameIndex;
@@ -180,11 +180,11 @@ fn comparisons(rt: HostRuntime) {
         ),
         (
             "answers () where S(x, _) and\nx < \"a\" and x =\nz or S(z, _)",
-            Outcome::At(UnknownName, 3),
+            Outcome::At(UnsafeVariable, 3),
         ),
         (
             "answers () where S(x, _) and\ny =\nz",
-            Outcome::At(UnknownName, 2),
+            Outcome::At(UnsafeVariable, 2),
         ),
     ];
     for (source, wanted) in rows {
@@ -198,15 +198,15 @@ fn heads(rt: HostRuntime) {
         ("answers (x, x) where S(x, _)", Outcome::Bound),
         (
             "answers (x,\ny) where S(x, y) or S(x, _)",
-            Outcome::At(UnknownName, 2),
+            Outcome::At(UnsafeVariable, 2),
         ),
         (
             "answers (x,\ny,\nz) where S(x, z) or S(x, y) and\nv = 1",
-            Outcome::At(UnknownName, 2),
+            Outcome::At(UnsafeVariable, 2),
         ),
         (
             "answers (x) where S(x, _) and\nx = v or S(\n_, _)",
-            Outcome::At(UnknownName, 1),
+            Outcome::At(UnsafeVariable, 1),
         ),
     ];
     for (source, wanted) in rows {

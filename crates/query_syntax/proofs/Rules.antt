@@ -10,7 +10,7 @@ use Rattle.currency_base.specs.declared.value.Cmp.TheVariants.{Eq}
 use Rattle.text_grammar.specs.Words.{constant, int_value, is_symbol, is_variable, is_variable_token, is_word, named, same_kind, value_in, value_on_line, variable}
 use Rattle.text_grammar.specs.Grammar.{CanGoOn, Language, ◌⋅◌, Says, IsWord, IsSymbol, SpellsName, Maybe, Listed}
 use Rattle.text_grammar.specs.Reading.{after, both, listed, one}
-use Rattle.text_grammar.specs.Laws.{IsReader, IsPlain}
+use Rattle.text_grammar.specs.Laws.{IsReader}
 use Rattle.text_grammar.specs.declared.named.Const.{Const}
 use Rattle.text_grammar.specs.declared.named.Named.{Named}
 use Rattle.text_grammar.proofs.Readers.{always, Begins, Continues, Ended, Image, begins_image, first_says, first_then, reads_as, reads_continued, reads_made, reads_mapped, reads_one, reads_same, reads_then, reads_two}
@@ -18,7 +18,6 @@ use Rattle.text_grammar.proofs.Choices.{Either, maybe_ends, reads_choose, reads_
 use Rattle.text_grammar.proofs.ListReaders.{ends, reads_listed, reads_many_plain, reads_until}
 use Rattle.text_grammar.proofs.FixedTokens.{FixedIs, a_fixed, a_fixed_is, apart, fixed_is, reads_constant, reads_name, reads_variable, after_word, after_symbol, before_symbol, listed_symbol, begins_fixed}
 use Rattle.text_grammar.proofs.VariableTokens.{constant_is_no_variable, variable_is}
-use Rattle.text_grammar.proofs.Tellings.{plain_one, plain_both, plain_continued, plain_after, plain_before, plain_mapped, plain_maybe, plain_choose, plain_many, plain_listed}
 use Rattle.rule_syntax.specs.Grammar.{SpellsVariable, SpellsConst, cmp_named}
 use Rattle.query_syntax.specs.declared.trees.AtomTree.{AtomTree}
 use Rattle.query_syntax.specs.declared.trees.DisjunctTree.{DisjunctTree}
@@ -31,7 +30,7 @@ use Rattle.query_syntax.specs.declared.trees.TestTermTree.{TestTermTree}
 use Rattle.query_syntax.specs.declared.trees.TestTermTree.TheVariants as term
 use Rattle.query_syntax.specs.declared.trees.TestTree.{TestTree}
 use Rattle.query_syntax.specs.Grammar.{SpellsAtom, SpellsDisjunct, SpellsHead, SpellsPart, SpellsPlace, SpellsQuery, SpellsTest, SpellsTestTerm, any_line}
-use Rattle.query_syntax.specs.Reading.{all_of, atom_after, atom_at, constant_place_at, constant_term_at, disjunct_at, further_part_at, head_at, is_open, part_at, place_at, query_at, term_at, test_after, variable_place_at, variable_term_at}
+use Rattle.query_syntax.specs.Reading.{all_of, atom_after, atom_at, constant_place_at, disjunct_at, further_part_at, head_at, is_open, part_at, place_at, query_at, term_at, test_after, variable_place_at}
 use Rattle.query_syntax.proofs.Parts.{PartHead, NameOrTerm, NameAlone, TermAlone, atom_part, head_name, head_of, head_term, no_int, part_after, part_head, part_is_headed, term_is_named, term_named, test_part}
 
 -- ---- places
@@ -521,57 +520,3 @@ query_ends text a t e =
 -- a query begins with the word `answers`
 pub begins_query : (test : Lexeme → Bool) (b : Bool) → ((t : Lexeme) → is_word (codes "answers") t ≡ true → test t ≡ b) → Begins test b SpellsQuery
 begins_query test b goes = begins_fixed (λ (q : QueryTree). IsSymbol (codes "(") ⋅ Body (q.head, q.disjuncts)) Word (codes "answers") test b goes
-
--- ---- no word of a query is one of a form that isn't built
-
-plain_variable_place : IsPlain variable_place_at
-unfolding variable_place_at
-plain_variable_place = plain_mapped (λ (v : Named). place.Var v) (plain_one variable)
-
-plain_constant_place : IsPlain constant_place_at
-unfolding constant_place_at
-plain_constant_place = plain_mapped (λ (c : Const). place.Constant c) (plain_one constant)
-
-plain_place : IsPlain place_at
-unfolding place_at
-plain_place = plain_choose is_variable_token plain_variable_place
-    (plain_choose (is_word (codes "_")) (plain_mapped (λ (line : ℕ). place.Any line) (plain_one any_line)) plain_constant_place)
-
-plain_atom_after : (n : Named) → IsPlain (atom_after n)
-unfolding atom_after
-plain_atom_after n = plain_mapped (atom_of n)
-    (plain_after (is_symbol (codes "(")) (plain_before (is_symbol (codes ")")) (plain_listed (is_symbol (codes ",")) plain_place)))
-
-plain_atom : IsPlain atom_at
-unfolding atom_at
-plain_atom = plain_continued (plain_one named) plain_atom_after
-
-plain_term : IsPlain term_at
-unfolding term_at variable_term_at constant_term_at
-plain_term = plain_choose is_variable_token (plain_mapped (λ (v : Named). term.Var v) (plain_one variable)) (plain_mapped (λ (c : Const). term.Constant c) (plain_one constant))
-
-plain_test_after : (x : TestTermTree) → IsPlain (test_after x)
-unfolding test_after
-plain_test_after x = plain_mapped (test_of x) (plain_both (plain_one cmp_named) plain_term)
-
-plain_part_after : (h : PartHead) → IsPlain (part_after h)
-plain_part_after (NameOrTerm n x) = plain_choose is_open (plain_mapped (λ (a : AtomTree). part.Atom a) (plain_atom_after n)) (plain_mapped (λ (t : TestTree). part.Test t) (plain_test_after x))
-plain_part_after (NameAlone n) = plain_mapped (λ (a : AtomTree). part.Atom a) (plain_atom_after n)
-plain_part_after (TermAlone x) = plain_mapped (λ (t : TestTree). part.Test t) (plain_test_after x)
-
-plain_part : IsPlain part_at
-plain_part tokens s e = plain_continued (plain_one part_head) plain_part_after tokens s (sym (part_is_headed tokens) ∙ e)
-
-plain_disjunct : IsPlain disjunct_at
-unfolding disjunct_at further_part_at
-plain_disjunct = plain_mapped disjunct_of (plain_both plain_atom (plain_many (is_word (codes "and")) (plain_after (is_word (codes "and")) plain_part)))
-
-plain_head : IsPlain head_at
-unfolding head_at
-plain_head = plain_mapped all_of (plain_maybe is_variable_token (plain_listed (is_symbol (codes ",")) (plain_one variable)))
-
-pub plain_query : IsPlain query_at
-unfolding query_at
-plain_query = plain_mapped query_of
-    (plain_after (is_word (codes "answers")) (plain_after (is_symbol (codes "(")) (plain_both plain_head
-    (plain_after (is_symbol (codes ")")) (plain_after (is_word (codes "where")) (plain_listed (is_word (codes "or")) plain_disjunct))))))

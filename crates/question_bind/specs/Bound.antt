@@ -11,6 +11,8 @@ use Rattle.spec_model.specs.declared.question.Asked.{Asked}
 use Rattle.spec_model.specs.declared.question.Question.{Question}
 use Rattle.spec_model.specs.declared.question.Question.TheVariants as asked
 use Rattle.spec_model.specs.declared.relation.Relation.{Relation}
+use Rattle.query_syntax.specs.declared.trees.QueryTree.{QueryTree}
+use Rattle.query_bind.specs.Queried.{queried_on}
 use Rattle.question_syntax.specs.declared.trees.AskedTree.{AskedTree}
 use Rattle.question_syntax.specs.declared.trees.AskedTree.TheVariants.{Ordering, Table}
 use Rattle.question_syntax.specs.declared.trees.QuestionTree.{QuestionTree}
@@ -68,6 +70,12 @@ abbrev pub same_of : List Relation → List Named → Result Question BindFault
 same_of relations names =
     and_then (all_of (relation_named relations) names) (λ rels. unless (first_again [] names rels) (Ok (asked.Same (rel_ids rels))))
 
+-- ---- queries
+
+-- the question on the answers of the query that a tree says of these relations, or the query's first fault
+abbrev pub answers_of : List Relation → QueryTree → Result Question BindFault
+answers_of relations query = and_then (queried_on (map (λ r. r.name) relations) relations query) (λ q. Ok (asked.Answers q))
+
 -- ---- questions
 
 -- what a tree is bound to
@@ -77,6 +85,7 @@ IsQuestionBound told relations (tree.Certain line trees) outcome =
     (pairs : Result (List Asked) BindFault) × AreGroupsAsked told relations [] (groups_of trees) pairs
     × (outcome ≡ and_then pairs (certain_of line))
 IsQuestionBound told relations (tree.Same names) outcome = outcome ≡ same_of relations names
+IsQuestionBound told relations (tree.Answers query) outcome = outcome ≡ answers_of relations query
 
 -- ---- tables that are due
 

@@ -4,6 +4,7 @@ ghost use Rattle.bind_faults.specs.Faults.{IsSettled, IsReadFault, IsReadFaultOf
 ghost use Rattle.spec_model.specs.Questions.{IsQuestionOn};
 ghost use Rattle.question_bind.specs.Bound.{IsQuestionBound, IsQuestionTableDue};
 
+use crate::answers::bind_answers;
 use crate::certain::bind_certain;
 use crate::same::bind_same;
 use bind_faults::BindFault;
@@ -24,6 +25,11 @@ use std::alloc::Global;
 ///
 /// Of a question on relations, the first unknown name is refused, and then the first whose relation stands
 /// before.
+///
+/// Of a query, each check goes over the whole query before the next: an unknown relation is refused; then
+/// an atom that has not one place more than its relation has attributes, or what is of two kinds; then what
+/// is above limit 12; then a variable of the head that stands in no atom of some disjunct; then a variable
+/// of a comparison that stands in no atom of its disjunct.
 pub fn bind_question<S: Shelf>(
     alloc: Global,
     spec: &Specification,
@@ -44,5 +50,6 @@ pub fn bind_question<S: Shelf>(
             bind_certain(alloc, spec, *line, asked.as_slice(), shelf)
         }
         QuestionTree::Same(named) => bind_same(alloc, spec, named.as_slice()),
+        QuestionTree::Answers(query) => bind_answers(alloc, spec, query),
     }
 }

@@ -2,6 +2,7 @@
 //! specification.
 #![tactic(auto)]
 
+mod answers;
 mod asked;
 mod bind;
 mod certain;

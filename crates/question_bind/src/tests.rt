@@ -2,7 +2,7 @@ use crate::bind_question;
 use bind_faults::{BindFault, Refusal};
 use currency_base::ErrorCode;
 use currency_edge::MemoryShelf;
-use question_syntax::{AskedTreeList, QuestionTree};
+use question_syntax::{AskedTreeList, QuestionTree, read_question};
 use spec_model::{Question, Specification};
 use std::alloc::Global;
 use std::test::Fail;
@@ -27,5 +27,21 @@ fn questions_on_nothing(rt: HostRuntime) -> Result<(), Fail> {
         line: 3,
     };
     assert_eq!(rt; certain, Err(BindFault::Refused(refusal)));
+    Ok(())
+}
+
+#[test]
+fn queries_on_nothing(rt: HostRuntime) -> Result<(), Fail> {
+    let alloc = rt.alloc();
+    let tree = read_question(alloc, b"answers () where\nR(x);")?;
+    let refusal = Refusal {
+        code: ErrorCode::UnknownName,
+        document: None,
+        line: 2,
+    };
+    assert_eq!(rt;
+        bound_to_nothing(alloc, &tree),
+        Err(BindFault::Refused(refusal))
+    );
     Ok(())
 }

@@ -4,24 +4,26 @@ use Rattle.std.specs.Str.{bytes_eq}
 use Rattle.text_tokens.specs.Lexeme.{Lexeme}
 use Rattle.text_tokens.specs.declared.token.TokenKind.{TokenKind}
 use Rattle.text_tokens.specs.declared.token.TokenKind.TheVariants.{Word, Negative, Text, Symbol, Fault}
-use Rattle.text_grammar.specs.Words.{same_kind, is_word, is_symbol, as_text, name_in, named, on_line, quoted}
+use Rattle.text_grammar.specs.Words.{same_kind, is_word, is_symbol, as_text, name_in, named, on_line}
 use Rattle.text_grammar.specs.Grammar.{Language, ◌⋅◌, Says, IsWord, IsSymbol, SpellsName, SpellsString, Listed}
-use Rattle.text_grammar.specs.Reading.{one, before, choose, listed, only}
-use Rattle.text_grammar.specs.Laws.{IsReader, IsPlain, Tells, AtFirst}
+use Rattle.text_grammar.specs.Reading.{one, before, choose, listed}
+use Rattle.text_grammar.specs.Laws.{IsReader}
 use Rattle.text_grammar.specs.declared.named.Named.{Named}
 use Rattle.text_grammar.proofs.Readers.{always, Begins, Ended, Image, begins_image, first_says, first_then, reads_one, reads_two, reads_mapped, reads_same}
-use Rattle.text_grammar.proofs.Choices.{Either, reads_choose, reads_only}
+use Rattle.text_grammar.proofs.Choices.{Either, reads_choose}
 use Rattle.text_grammar.proofs.ListReaders.{ends, reads_listed}
 use Rattle.text_grammar.proofs.FixedTokens.{a_fixed, a_fixed_is, apart, reads_name, reads_string, reads_symbol, after_word, before_symbol, listed_symbol, begins_fixed}
-use Rattle.text_grammar.proofs.Tellings.{plain_one, plain_passing, plain_both, plain_after, plain_before, plain_mapped, plain_choose, plain_listed, tells_choose, tells_only}
+use Rattle.query_syntax.specs.declared.trees.QueryTree.{QueryTree}
+use Rattle.query_syntax.specs.Grammar.{SpellsQuery}
+use Rattle.query_syntax.proofs.Rules.{begins_query, query_ends, reads_query}
 use Rattle.spec_syntax.specs.Grammar.{SpellsOrdering}
-use Rattle.spec_syntax.proofs.Rules.{plain_ordering, reads_ordering}
+use Rattle.spec_syntax.proofs.Rules.{reads_ordering}
 use Rattle.question_syntax.specs.declared.trees.AskedTree.{AskedTree}
 use Rattle.question_syntax.specs.declared.trees.AskedTree.TheVariants.{Ordering, Table}
 use Rattle.question_syntax.specs.declared.trees.QuestionTree.{QuestionTree}
-use Rattle.question_syntax.specs.declared.trees.QuestionTree.TheVariants.{Consistent, Certain, Same}
-use Rattle.question_syntax.specs.Grammar.{SpellsAsked, SpellsQuestion, certain_line, is_unbuilt_question}
-use Rattle.question_syntax.specs.Reading.{table_at, pairs_at, asked_at, consistent_at, certain_at, same_at, question_at}
+use Rattle.question_syntax.specs.declared.trees.QuestionTree.TheVariants.{Consistent, Certain, Same, Answers}
+use Rattle.question_syntax.specs.Grammar.{SpellsAsked, SpellsQuestion, certain_line}
+use Rattle.question_syntax.specs.Reading.{table_at, pairs_at, asked_at, consistent_at, certain_at, same_at, answers_at, question_at}
 
 -- ---- no name is the word `orders`
 
@@ -154,6 +156,13 @@ reads_same_names = reads_mapped
     (after_word (codes "same") (before_symbol (codes ";") (listed_symbol (codes ",") reads_name) (λ names t e. ap not (apart Symbol (codes ";") Symbol (codes ",") refl t e))))
     Same always (λ names t. refl)
 
+abbrev SpellsAnswers : QueryTree → Language
+SpellsAnswers q = SpellsQuery q ⋅ IsSymbol (codes ";")
+
+reads_answers : IsReader (Image Answers SpellsAnswers) always answers_at
+unfolding answers_at
+reads_answers = reads_mapped (before_symbol (codes ";") reads_query (query_ends (codes ";"))) Answers always (λ q t. refl)
+
 begins_consistent : Begins (is_word (codes "consistent")) true (Image consistent_of SpellsConsistent)
 begins_consistent = begins_image consistent_of SpellsConsistent (is_word (codes "consistent")) true
     (begins_fixed (λ (u : Unit {0}). IsSymbol (codes ";")) Word (codes "consistent") (is_word (codes "consistent")) true (λ t e. e))
@@ -173,76 +182,56 @@ begins_certain test b goes = begins_image certain_of SpellsCertain test b
 begins_same : (test : Lexeme → Bool) (b : Bool) → ((t : Lexeme) → is_word (codes "same") t ≡ true → test t ≡ b) → Begins test b (Image Same SpellsSame)
 begins_same test b goes = begins_image Same SpellsSame test b (begins_fixed SpellsEndedNames Word (codes "same") test b goes)
 
+begins_answers : (test : Lexeme → Bool) (b : Bool) → ((t : Lexeme) → is_word (codes "answers") t ≡ true → test t ≡ b) → Begins test b (Image Answers SpellsAnswers)
+begins_answers test b goes = begins_image Answers SpellsAnswers test b (λ q tokens h. first_then test b (begins_query test b goes q) h)
+
 -- questions from some word on, in the order in which they are tried
+abbrev FromSame : QuestionTree → Language
+FromSame = Either (Image Same SpellsSame) (Image Answers SpellsAnswers)
+
 abbrev FromCertain : QuestionTree → Language
-FromCertain = Either (Image certain_of SpellsCertain) (Image Same SpellsSame)
+FromCertain = Either (Image certain_of SpellsCertain) FromSame
 
 abbrev FromConsistent : QuestionTree → Language
 FromConsistent = Either (Image consistent_of SpellsConsistent) FromCertain
+
+begins_from_same : (test : Lexeme → Bool) (b : Bool) → ((t : Lexeme) → is_word (codes "same") t ≡ true → test t ≡ b)
+    → ((t : Lexeme) → is_word (codes "answers") t ≡ true → test t ≡ b) → Begins test b FromSame
+begins_from_same test b same answers q tokens (inl h) = begins_same test b same q tokens h
+begins_from_same test b same answers q tokens (inr h) = begins_answers test b answers q tokens h
 
 begins_from_certain : Begins (is_word (codes "consistent")) false FromCertain
 begins_from_certain q tokens (inl h) =
     begins_certain (is_word (codes "consistent")) false (apart Word (codes "certain") Word (codes "consistent") refl) q tokens h
 begins_from_certain q tokens (inr h) =
-    begins_same (is_word (codes "consistent")) false (apart Word (codes "same") Word (codes "consistent") refl) q tokens h
+    begins_from_same (is_word (codes "consistent")) false (apart Word (codes "same") Word (codes "consistent") refl)
+    (apart Word (codes "answers") Word (codes "consistent") refl) q tokens h
 
 question_spelled : (q : QuestionTree) (tokens : List Lexeme) → FromConsistent q tokens → SpellsQuestion q tokens
 question_spelled q tokens (inl h) = subst (λ (q : QuestionTree). SpellsQuestion q tokens) h.is h.spelled
 question_spelled q tokens (inr (inl h)) = subst (λ (q : QuestionTree). SpellsQuestion q tokens) h.is h.spelled
-question_spelled q tokens (inr (inr h)) = subst (λ (q : QuestionTree). SpellsQuestion q tokens) h.is h.spelled
+question_spelled q tokens (inr (inr (inl h))) = subst (λ (q : QuestionTree). SpellsQuestion q tokens) h.is h.spelled
+question_spelled q tokens (inr (inr (inr h))) = subst (λ (q : QuestionTree). SpellsQuestion q tokens) h.is h.spelled
 
 spelled_question : (q : QuestionTree) (tokens : List Lexeme) → SpellsQuestion q tokens → FromConsistent q tokens
 spelled_question Consistent tokens h = inl (record { tree = tt; is = refl; spelled = h })
 spelled_question (Certain line asked) tokens h = inr (inl (record { tree = (line, asked); is = refl; spelled = h }))
-spelled_question (Same names) tokens h = inr (inr (record { tree = names; is = refl; spelled = h }))
+spelled_question (Same names) tokens h = inr (inr (inl (record { tree = names; is = refl; spelled = h })))
+spelled_question (Answers query) tokens h = inr (inr (inr (record { tree = query; is = refl; spelled = h })))
 
-reads_from_same : IsReader (Image Same SpellsSame) always (only (is_word (codes "same")) is_unbuilt_question same_at)
-reads_from_same = reads_only reads_same_names (is_word (codes "same")) is_unbuilt_question (begins_same (is_word (codes "same")) true (λ t e. e))
+reads_from_same : IsReader FromSame always (choose (is_word (codes "same")) same_at answers_at)
+reads_from_same = reads_choose reads_same_names reads_answers (is_word (codes "same"))
+    (begins_same (is_word (codes "same")) true (λ t e. e))
+    (begins_answers (is_word (codes "same")) false (apart Word (codes "answers") Word (codes "same") refl))
 
-reads_from_certain : IsReader FromCertain always (choose (is_word (codes "certain")) certain_at (only (is_word (codes "same")) is_unbuilt_question same_at))
+reads_from_certain : IsReader FromCertain always (choose (is_word (codes "certain")) certain_at (choose (is_word (codes "same")) same_at answers_at))
 reads_from_certain = reads_choose reads_certain reads_from_same (is_word (codes "certain"))
     (begins_certain (is_word (codes "certain")) true (λ t e. e))
-    (begins_same (is_word (codes "certain")) false (apart Word (codes "same") Word (codes "certain") refl))
+    (begins_from_same (is_word (codes "certain")) false (apart Word (codes "same") Word (codes "certain") refl)
+    (apart Word (codes "answers") Word (codes "certain") refl))
 
 pub reads_question : IsReader SpellsQuestion always question_at
 unfolding question_at
 reads_question = reads_same
     (reads_choose reads_consistent reads_from_certain (is_word (codes "consistent")) begins_consistent begins_from_certain)
     question_spelled spelled_question
-
--- ---- the word of the question that isn't built
-
-plain_table : IsPlain table_at
-unfolding table_at
-plain_table = plain_mapped table_of (plain_after (is_word (codes "orders")) (plain_both (plain_one named) (plain_after (is_word (codes "from")) (plain_one quoted))))
-
-plain_pairs : IsPlain pairs_at
-unfolding pairs_at
-plain_pairs = plain_mapped Ordering plain_ordering
-
-plain_asked : IsPlain asked_at
-unfolding asked_at
-plain_asked = plain_choose (is_word (codes "orders")) plain_table plain_pairs
-
-plain_consistent : IsPlain consistent_at
-unfolding consistent_at
-plain_consistent = plain_mapped consistent_of (plain_after (is_word (codes "consistent")) (plain_passing (is_symbol (codes ";"))))
-
-plain_certain : IsPlain certain_at
-unfolding certain_at
-plain_certain = plain_mapped certain_of
-    (plain_both (plain_one certain_line) (plain_before (is_symbol (codes ";")) (plain_listed (is_word (codes "and")) plain_asked)))
-
-plain_same : IsPlain same_at
-unfolding same_at
-plain_same = plain_mapped Same
-    (plain_after (is_word (codes "same")) (plain_before (is_symbol (codes ";")) (plain_listed (is_symbol (codes ",")) (plain_one named))))
-
-pub tells_question : Tells (AtFirst is_unbuilt_question) question_at
-unfolding question_at
-tells_question =
-    tells_choose (is_word (codes "consistent")) is_unbuilt_question plain_consistent
-    (tells_choose (is_word (codes "certain")) is_unbuilt_question plain_certain
-    (tells_only (is_word (codes "same")) is_unbuilt_question plain_same (apart Word (codes "answers") Word (codes "same") refl))
-    (apart Word (codes "answers") Word (codes "certain") refl))
-    (apart Word (codes "answers") Word (codes "consistent") refl)

@@ -1,13 +1,14 @@
 -- How the rules of the grammar are read.
 use Rattle.std.specs.Prelude.{codes}
 use Rattle.text_grammar.specs.Words.{is_word, is_symbol, named, quoted}
-use Rattle.text_grammar.specs.Reading.{Parser, one, passing, both, after, before, mapped, choose, only, listed}
+use Rattle.text_grammar.specs.Reading.{Parser, one, passing, both, after, before, mapped, choose, listed}
 use Rattle.spec_syntax.specs.Reading.{ordering_at}
+use Rattle.query_syntax.specs.Reading.{query_at}
 use Rattle.question_syntax.specs.declared.trees.AskedTree.{AskedTree}
 use Rattle.question_syntax.specs.declared.trees.AskedTree.TheVariants.{Ordering, Table}
 use Rattle.question_syntax.specs.declared.trees.QuestionTree.{QuestionTree}
-use Rattle.question_syntax.specs.declared.trees.QuestionTree.TheVariants.{Consistent, Certain, Same}
-use Rattle.question_syntax.specs.Grammar.{certain_line, is_unbuilt_question}
+use Rattle.question_syntax.specs.declared.trees.QuestionTree.TheVariants.{Consistent, Certain, Same, Answers}
+use Rattle.question_syntax.specs.Grammar.{certain_line}
 
 -- the pairs of a document, from the word `orders` on
 unfoldable pub table_at : Parser AskedTree
@@ -31,9 +32,12 @@ certain_at = mapped (λ x. Certain x.0 x.1) (both (one certain_line) (before (li
 unfoldable pub same_at : Parser QuestionTree
 same_at = mapped (λ names. Same names) (after (is_word (codes "same")) (before (listed (is_symbol (codes ",")) (one named)) (is_symbol (codes ";"))))
 
+unfoldable pub answers_at : Parser QuestionTree
+answers_at = mapped (λ q. Answers q) (before query_at (is_symbol (codes ";")))
+
 -- a question, by its word
 unfoldable pub question_at : Parser QuestionTree
 question_at =
     choose (is_word (codes "consistent")) consistent_at
     (choose (is_word (codes "certain")) certain_at
-    (only (is_word (codes "same")) is_unbuilt_question same_at))
+    (choose (is_word (codes "same")) same_at answers_at))

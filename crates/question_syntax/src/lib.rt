@@ -10,6 +10,10 @@ mod tests;
 mod trees;
 
 pub use laws::one_question;
+pub use query_syntax::{
+    AtomTree, DisjunctTree, DisjunctTreeList, PartTree, PartTreeList, PlaceTree, PlaceTreeList,
+    QueryTree, TestTermTree, TestTree,
+};
 pub use read::read_question;
 pub use text_tokens::TextFault;
 pub use trees::{AskedTree, AskedTreeList, QuestionTree};

@@ -2,10 +2,11 @@ ghost use Rattle.std.specs.Prelude.{◌≡◌, map};
 ghost use Rattle.text_tokens.specs.Lexeme.{lexeme_of};
 ghost use Rattle.text_grammar.specs.Reading.{Gives, one};
 ghost use Rattle.question_syntax.specs.Grammar;
-ghost use Rattle.question_syntax.specs.Reading.{certain_at, consistent_at, same_at};
+ghost use Rattle.question_syntax.specs.Reading.{answers_at, certain_at, consistent_at, same_at};
 
 use crate::QuestionTree;
 use crate::asked::AskedRule;
+use query_syntax::QueryRule;
 use std::alloc::Global;
 use text_grammar::{NameRule, Refusal, Rule, is_fixed, listed, symbol, word};
 use text_tokens::{Token, TokenKind};
@@ -26,7 +27,7 @@ impl Rule for QuestionRule {
         tokens: &'a [Token<'a>],
     ) -> Result<(QuestionTree, &'a [Token<'a>]), Refusal<'a>> {
         match tokens {
-            [] => Err(Refusal::Syntax(tokens)),
+            [] => answers(alloc, tokens),
             [first, ..] => {
                 if is_fixed(TokenKind::Word, b"consistent", first) {
                     consistent(tokens)
@@ -34,10 +35,8 @@ impl Rule for QuestionRule {
                     certain(alloc, tokens)
                 } else if is_fixed(TokenKind::Word, b"same", first) {
                     same(alloc, tokens)
-                } else if is_fixed(TokenKind::Word, b"answers", first) {
-                    Err(Refusal::Unbuilt(tokens))
                 } else {
-                    Err(Refusal::Syntax(tokens))
+                    answers(alloc, tokens)
                 }
             }
         }
@@ -96,4 +95,17 @@ fn same<'a>(
     let (names, rest) = listed::<NameRule>(alloc, TokenKind::Symbol, b",", rest)?;
     let rest = symbol(b";", rest)?;
     Ok((QuestionTree::Same(names), rest))
+}
+
+/// Reads the question which tuples are answers of a query in every consistent completion.
+#[tactic(auto, unfolding(crate::specs::Reading::answers_at))]
+fn answers<'a>(
+    alloc: Global,
+    tokens: &'a [Token<'a>],
+) -> Result<(QuestionTree, &'a [Token<'a>]), Refusal<'a>>
+    ensures { Gives (λ x. (x.0, map lexeme_of x.1.now)) result (answers_at (map lexeme_of tokens.now)) }
+{
+    let (query, rest) = QueryRule::read(alloc, tokens)?;
+    let rest = symbol(b";", rest)?;
+    Ok((QuestionTree::Answers(query), rest))
 }

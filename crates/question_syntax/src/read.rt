@@ -10,8 +10,7 @@ use text_grammar::read_text;
 ///
 /// NotUtf8 comes where the text is not UTF-8, at the line of the first wrong byte. Syntax comes at the line
 /// of the first token with which no question goes on, or where the text ends too early at the line of its
-/// end. In its place, Unbuilt comes where the text begins with the word of a question that is not built yet
-/// (`answers`).
+/// end.
 pub fn read_question(alloc: Global, source: &[u8]) -> Result<QuestionTree, TextFault>
     ensures read { IfOk result (λ tree. ReadsQuestion source.now tree) }
     ensures refused { IfErr result (λ e. (e ≡ TextFault.NoMemory) ⊎ RefusesQuestion source.now e) }

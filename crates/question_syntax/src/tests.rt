@@ -1,7 +1,11 @@
-use crate::TextFault::{NotUtf8, Syntax, Unbuilt};
-use crate::{AskedTree, AskedTreeList, QuestionTree, TextFault, read_question};
-use currency_base::{Name, NoMemory};
-use spec_syntax::OrderingTree;
+use crate::TextFault::{NotUtf8, Syntax};
+use crate::{
+    AskedTree, AskedTreeList, AtomTree, DisjunctTree, DisjunctTreeList, PartTree, PartTreeList,
+    PlaceTree, PlaceTreeList, QueryTree, QuestionTree, TestTermTree, TestTree, TextFault,
+    read_question,
+};
+use currency_base::{Cmp, Name, NoMemory, Value};
+use spec_syntax::{Const, OrderingTree};
 use std::alloc::Global;
 use std::test::Fail;
 use text_grammar::{Named, NamedList, NamedPair, NamedPairList};
@@ -126,6 +130,66 @@ fn reads_same(rt: HostRuntime) -> Result<(), Fail> {
     Ok(())
 }
 
+/// An atom of one variable.
+fn atom(alloc: Global, relation: &str, var: &str, line: u32) -> Result<AtomTree, NoMemory> {
+    let mut places = PlaceTreeList::new(alloc);
+    places.push(PlaceTree::Var(named(alloc, var, line)?))?;
+    let relation = named(alloc, relation, line)?;
+    Ok(AtomTree { relation, places })
+}
+
+/// An atom alone.
+fn alone(alloc: Global, relation: &str, var: &str, line: u32) -> Result<DisjunctTree, NoMemory> {
+    let first = atom(alloc, relation, var, line)?;
+    let parts = PartTreeList::new(alloc);
+    Ok(DisjunctTree { first, parts })
+}
+
+#[test]
+fn reads_a_query_of_one_atom(rt: HostRuntime) -> Result<(), Fail> {
+    let alloc = rt.alloc();
+    let found = read_question(alloc, b"answers () where\nanswers(answers);")?;
+    let head = NamedList::new(alloc);
+    let mut disjuncts = DisjunctTreeList::new(alloc);
+    disjuncts.push(alone(alloc, "answers", "answers", 2)?)?;
+    let wanted = QuestionTree::Answers(QueryTree { head, disjuncts });
+    assert_eq!(rt; found, wanted);
+    Ok(())
+}
+
+/// The comparison `x > 3`.
+fn above_three(alloc: Global, line: u32) -> Result<PartTree, NoMemory> {
+    let left = TestTermTree::Var(named(alloc, "x", line)?);
+    let value = Value::Int(3);
+    let right = TestTermTree::Constant(Const { value, line });
+    let cmp = Cmp::Gt;
+    Ok(PartTree::Test(TestTree { left, cmp, right }))
+}
+
+/// The disjunct `R(x) and x > 3`, each part on a line.
+fn atom_and_test(alloc: Global) -> Result<DisjunctTree, NoMemory> {
+    let first = atom(alloc, "R", "x", 2)?;
+    let mut parts = PartTreeList::new(alloc);
+    parts.push(above_three(alloc, 3)?)?;
+    Ok(DisjunctTree { first, parts })
+}
+
+#[test]
+fn reads_a_query_of_two_disjuncts(rt: HostRuntime) -> Result<(), Fail> {
+    let alloc = rt.alloc();
+    let found = read_question(
+        alloc,
+        b"answers (x) where\nR(x)\nand x > 3\nor S(x) # so\n;",
+    )?;
+    let head = names(alloc, &[("x", 1)])?;
+    let mut disjuncts = DisjunctTreeList::new(alloc);
+    disjuncts.push(atom_and_test(alloc)?)?;
+    disjuncts.push(alone(alloc, "S", "x", 4)?)?;
+    let wanted = QuestionTree::Answers(QueryTree { head, disjuncts });
+    assert_eq!(rt; found, wanted);
+    Ok(())
+}
+
 fn refused(alloc: Global, source: &[u8]) -> Option<TextFault> {
     read_question(alloc, source).err()
 }
@@ -141,8 +205,8 @@ fn refuses_other_words(rt: HostRuntime) {
         (b"consistent certain;", Syntax { line: 1 }),
         (b"\"consistent\";", Syntax { line: 1 }),
         (b"order R.a: x < y;", Syntax { line: 1 }),
-        (b"answers () where R(x);", Unbuilt { line: 1 }),
-        (b"# it\nanswers", Unbuilt { line: 2 }),
+        (b"answer () where R(x);", Syntax { line: 1 }),
+        (b"\"answers\" () where R(x);", Syntax { line: 1 }),
         (b"consistent;\nanswers () where R(x);", Syntax { line: 2 }),
         (b"consistent;\n\n\xC0", NotUtf8 { line: 3 }),
     ];
@@ -189,6 +253,30 @@ fn refuses_wrong_names(rt: HostRuntime) {
         (b"same R\nand S;", Syntax { line: 2 }),
         (b"same R, S;\n;", Syntax { line: 2 }),
         (b"same \"\xC0\";", NotUtf8 { line: 1 }),
+    ];
+    for (source, wanted) in rows {
+        assert_eq!(rt; refused(rt.alloc(), source), Some(wanted), "{source:?}");
+    }
+}
+
+#[test]
+fn refuses_wrong_queries(rt: HostRuntime) {
+    let rows: [(&[u8], TextFault); 12] = [
+        (b"# it\nanswers", Syntax { line: 2 }),
+        (b"answers\n", Syntax { line: 2 }),
+        (b"answers\n;", Syntax { line: 2 }),
+        (b"answers ()\n;", Syntax { line: 2 }),
+        (b"answers () where\n;", Syntax { line: 2 }),
+        (b"answers () where R(x)\n", Syntax { line: 2 }),
+        (b"answers (x) where x\n> 3 and R(x);", Syntax { line: 2 }),
+        (b"answers (x) where R(x) or x\n> 3;", Syntax { line: 2 }),
+        (b"answers () where R(x)\n, S(x);", Syntax { line: 2 }),
+        (b"answers () where R(x) or\n;", Syntax { line: 2 }),
+        (
+            b"answers () where R(x);\nanswers () where R(x);",
+            Syntax { line: 2 },
+        ),
+        (b"answers () where R(\"\n\xC0\");", NotUtf8 { line: 2 }),
     ];
     for (source, wanted) in rows {
         assert_eq!(rt; refused(rt.alloc(), source), Some(wanted), "{source:?}");

@@ -1,4 +1,5 @@
 use currency_base::ItemList;
+use query_syntax::QueryTree;
 use spec_syntax::OrderingTree;
 use text_grammar::{Named, NamedList};
 
@@ -11,6 +12,8 @@ pub enum QuestionTree {
     Certain { line: u32, asked: AskedTreeList },
     /// Are the current tuples of these relations the same in every consistent completion?
     Same(NamedList),
+    /// Which tuples are answers of this query in every consistent completion?
+    Answers(QueryTree),
 }
 
 /// Pairs that are asked about.

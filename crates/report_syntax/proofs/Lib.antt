@@ -3,5 +3,4 @@ mod PassedOver
 mod VerdictRules
 mod CompletionRules
 pub mod Rules
-mod Plain
 pub mod Sizes

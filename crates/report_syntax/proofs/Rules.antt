@@ -9,8 +9,7 @@ use Rattle.text_grammar.specs.Reading.{both}
 use Rattle.text_grammar.specs.Laws.{IsReader}
 use Rattle.text_grammar.proofs.Readers.{always, Begins, Ended, FirstIs, Image, begins_image, first_passes, reads_made, reads_mapped, reads_same, reads_then, reads_two}
 use Rattle.text_grammar.proofs.Choices.{Either, reads_choose}
-use Rattle.text_grammar.proofs.FixedTokens.{after_symbol, after_word, apart, begins_fixed, reads_symbol, reads_word}
-use Rattle.text_grammar.proofs.SequenceTellings.{either_apart}
+use Rattle.text_grammar.proofs.FixedTokens.{after_symbol, after_word, apart, begins_fixed, either_apart, reads_symbol, reads_word}
 use Rattle.log_syntax.specs.Grammar.{SpellsLogPart}
 use Rattle.log_syntax.specs.Reading.{log_part_at}
 use Rattle.log_syntax.specs.declared.trees.ReadLog.{ReadLog}

@@ -1,19 +1,14 @@
 -- Which report a text spells, and where a text is refused.
 use Rattle.std.specs.Prelude.{ℕ, List}
-use Rattle.text_tokens.specs.Lexeme.{Lexeme}
 use Rattle.text_tokens.specs.declared.token.TextFault.{TextFault}
 use Rattle.text_grammar.specs.Texts.{ReadsText, RefusesText}
 use Rattle.report_syntax.specs.Spells.{SpellsReport}
 use Rattle.report_syntax.specs.declared.tree.ReportTree.{ReportTree}
 
--- no token is the word of a form that isn't built: every form is
-abbrev pub NeverOpens : List Lexeme → Lexeme → Type 0
-NeverOpens front t = ⊥
-
 -- a text spells a report
 abbrev pub ReadsReportText : List ℕ → ReportTree → Type 0
 ReadsReportText = ReadsText SpellsReport
 
--- a text is refused as a report with this fault, which is never Unbuilt
+-- a text is refused as a report with this fault
 abbrev pub RefusesReportText : List ℕ → TextFault → Type 0
-RefusesReportText = RefusesText SpellsReport NeverOpens
+RefusesReportText = RefusesText SpellsReport

@@ -8,8 +8,7 @@ use std::alloc::Global;
 use text_grammar::read_text;
 use text_tokens::TextFault;
 
-/// The report that a text spells. A text that spells none is refused at the first wrong token. Unbuilt never
-/// comes.
+/// The report that a text spells. A text that spells none is refused at the first wrong token.
 pub fn read_report_tree(alloc: Global, source: &[u8]) -> Result<ReportTree, TextFault>
     ensures read { IfOk result (ReadsReportText source.now) }
     ensures short { IfOk result HasShortLists }

@@ -1,16 +1,18 @@
 -- A verdict that is shown is right.
-use Rattle.std.proofs.Common.{◌≡◌, ◌≢◌, ◌⊎◌, inl, inr, ◌+◌, ◌<◌, ◌≤◌, ℕ, zero, suc, true, List, [], ◌∷◌, ◌++◌, All, Some, None, length, get_or, slice_get, refl, sym, ◌∙◌, subst, arith}
+use Rattle.std.proofs.Common.{◌≡◌, ◌≢◌, ◌⊎◌, inl, inr, ◌+◌, ◌<◌, ◌≤◌, ℕ, zero, suc, true, List, [], ◌∷◌, ◌++◌, All, Option, Some, None, length, get_or, slice_get, refl, sym, ◌∙◌, subst, arith}
 use Rattle.std.proofs.lemmas.Bool.{false≢true}
 use Rattle.std.proofs.lemmas.List.Elements.{All-nil, All-cons, All-head, All-tail, All-contains}
 use Rattle.std.proofs.lemmas.Option.{none-some, same_Some, slice_get_cases}
-use Rattle.checked_logs.specs.Sound.{AcceptedAreTrue, EmptyMeansNone}
+use Rattle.checked_logs.specs.Sound.{EmptyMeansNone}
 use Rattle.currency_base.specs.declared.ids.AttrId.{AttrId}
 use Rattle.currency_base.specs.declared.ids.EntId.{EntId}
 use Rattle.currency_base.specs.declared.ids.RelId.{RelId}
 use Rattle.currency_base.specs.declared.value.Value.{Value}
+use Rattle.log_axioms.specs.Posed.{passing}
 use Rattle.log_axioms.specs.Truth.{ClauseHolds}
 use Rattle.log_checker.specs.Accepted.{IsAccepted}
 use Rattle.log_units.specs.Units.{HasLastUnit}
+use Rattle.query_model.specs.declared.query.Query.{Query}
 use Rattle.refutation_log.specs.Steps.{clauses_of}
 use Rattle.refutation_log.specs.declared.log.Log.{Log}
 use Rattle.report_model.specs.Verdicts.{is_decided, kind_of}
@@ -19,9 +21,10 @@ use Rattle.report_model.specs.declared.verdict.Current.{Current}
 use Rattle.report_model.specs.declared.verdict.Verdict.{Verdict}
 use Rattle.report_model.specs.declared.verdict.Verdict.TheVariants as verdict
 use Rattle.spec_model.specs.Questions.{IsAskedPair, IsQuestionOn}
-use Rattle.report_verify.specs.Asked.{HasValues}
+use Rattle.report_verify.specs.Asked.{HasValues, query_of}
 use Rattle.report_verify.specs.Right.{EachConsistent, IsCurrentIn, IsRight, PairHolds}
 use Rattle.report_verify.specs.Supported.{HasValue, Holds, IsDerived, IsOneOf, IsSupported, Need, item_needs, pair_needs, value_needs}
+use Rattle.report_verify.proofs.AnswerClaims.{AnswerLaws, answers_are, clauses_hold}
 use Rattle.report_verify.proofs.Claims.{empty_there, pair_holds, value_holds}
 use Rattle.spec_model.specs.Completion.{Rankings}
 use Rattle.spec_model.specs.Consistent.{IsConsistent, IsSatisfiable}
@@ -34,7 +37,7 @@ use Rattle.spec_model.specs.declared.question.Question.TheVariants as asked
 
 -- accepted logs are true
 pub record TruthLaws : Type 0 where
-  pub steps : AcceptedAreTrue
+  pub answers : AnswerLaws
   pub none : EmptyMeansNone
 
 -- ---- lists
@@ -58,13 +61,17 @@ attr_of n = record { 0 = n }
 abbrev value_need : ℕ → RelId → ℕ → EntId → Value → Need
 value_need item rel attr ent v = record { part = part.Item item; claim = HasValue rel (attr_of attr) ent v }
 
-module _ (laws : TruthLaws) (s : Spec) (facts : IsSpecification s) (log : Log) (accepted : IsAccepted s log.statements log.steps) where
-  clauses_hold : (c : Rankings) → IsConsistent s c → All (ClauseHolds s.relations c log.statements) (clauses_of log.steps)
-  clauses_hold c consistent = laws.steps s facts c consistent log.statements log.steps accepted
+-- the tests that all tuples pass
+abbrev Any : ℕ → Type 0
+Any = passing (λ place. true)
+
+module _ (laws : TruthLaws) (s : Spec) (facts : IsSpecification s) (log : Log) (query : Option Query) (accepted : IsAccepted s query log) where
+  all_hold : (c : Rankings) → IsConsistent s c → All (ClauseHolds s.relations c Any log.statements) (clauses_of log.steps)
+  all_hold = clauses_hold laws.answers s facts log query accepted
 
   -- ---- pairs
 
-  pairs_hold : (pairs : List Asked) → All (IsAskedPair s.relations) pairs → All (IsDerived s.relations log) (pair_needs pairs)
+  pub pairs_hold : (pairs : List Asked) → All (IsAskedPair s.relations) pairs → All (IsDerived s.relations log) (pair_needs pairs)
       → All (λ p. EachConsistent s (PairHolds p)) pairs
   pairs_hold [] are derived = All-nil (λ p. EachConsistent s (PairHolds p))
   pairs_hold (p ∷ pairs) are derived =
@@ -72,7 +79,7 @@ module _ (laws : TruthLaws) (s : Spec) (facts : IsSpecification s) (log : Log) (
       let here = All-head (IsDerived s.relations log) need (pair_needs pairs) derived in
       let is = All-head (IsAskedPair s.relations) p pairs are in
       All-cons (λ p. EachConsistent s (PairHolds p)) p pairs
-      (λ c consistent. pair_holds s.relations c log p facts.relations consistent.completion (clauses_hold c consistent) is here)
+      (λ c consistent. pair_holds s.relations c Any log p facts.relations consistent.completion (all_hold c consistent) is here)
       (pairs_hold pairs (All-tail (IsAskedPair s.relations) p pairs are) (All-tail (IsDerived s.relations log) need (pair_needs pairs) derived))
 
   -- ---- values
@@ -96,7 +103,7 @@ module _ (laws : TruthLaws) (s : Spec) (facts : IsSpecification s) (log : Log) (
       → (c : Rankings) → IsConsistent s c → current_value c item.rel.0 has.relation.rows attr item.ent.0 ≡ Some v
   value_is item attr v has unit c consistent =
       let same : 0 + attr ≡ attr = omega arith in
-      value_holds s.relations c log item.rel (attr_of attr) item.ent v has.relation has.is_relation (clauses_hold c consistent)
+      value_holds s.relations c Any log item.rel (attr_of attr) item.ent v has.relation has.is_relation (all_hold c consistent)
       (subst (λ n. HasLastUnit s.relations log item.rel (attr_of n) item.ent v) same unit)
 
   item_is : (at : ℕ) (item : Current) → HasValues s.relations item
@@ -117,7 +124,7 @@ module _ (laws : TruthLaws) (s : Spec) (facts : IsSpecification s) (log : Log) (
           one.2 ∙ sym (value_is item attr one.0 has unit c consistent)
       by attr below (inr past) = let h = past.0 in let e = has.per_attr in absurd (omega arith)
 
-  items_are : (at : ℕ) (items : List Current) → All (HasValues s.relations) items → All (IsDerived s.relations log) (item_needs at items)
+  pub items_are : (at : ℕ) (items : List Current) → All (HasValues s.relations) items → All (IsDerived s.relations log) (item_needs at items)
       → All (λ item. EachConsistent s (IsCurrentIn s.relations item)) items
   items_are at [] have derived = All-nil (λ (item : Current). EachConsistent s (IsCurrentIn s.relations item))
   items_are at (item ∷ items) have derived =
@@ -127,16 +134,16 @@ module _ (laws : TruthLaws) (s : Spec) (facts : IsSpecification s) (log : Log) (
       (item_is at item (All-head (HasValues s.relations) item items have) (in_front (IsDerived s.relations log) own rest derived))
       (items_are (at + 1) items (All-tail (HasValues s.relations) item items have) (behind (IsDerived s.relations log) own rest derived))
 
-  -- ---- verdicts
+-- ---- verdicts
 
-  pub right : (q : Question) (v : Verdict) (cs : List Rankings) → IsQuestionOn s.relations q → IsOneOf s q v → All (IsConsistent s) cs
-      → IsSupported s q v cs log → is_decided (kind_of v) ≡ true → IsRight s q v
-  right q verdict.Inconsistent cs on one_of all supported decided = laws.none s facts log.statements log.steps accepted (empty_there log supported)
-  right q (verdict.Undecided counted) cs on one_of all supported decided = absurd (false≢true decided)
-  right q (verdict.Answers tuples) cs on one_of all supported decided = absurd supported
-  right asked.Consistent verdict.Consistent cs on one_of all supported decided = satisfiable s cs supported all
-  right (asked.Certain pairs) verdict.Certain cs on one_of all supported decided = (satisfiable s cs supported.0 all, pairs_hold pairs on supported.1)
-  right (asked.Certain pairs) (verdict.NotCertain p) cs on one_of all supported decided = (
+module _ (laws : TruthLaws) (s : Spec) (facts : IsSpecification s) (log : Log) where
+  pub right : (q : Question) (v : Verdict) (cs : List Rankings) → IsAccepted s (query_of q) log → IsQuestionOn s.relations q → IsOneOf s q v
+      → All (IsConsistent s) cs → IsSupported s q v cs log → is_decided (kind_of v) ≡ true → IsRight s q v
+  right q verdict.Inconsistent cs accepted on one_of all supported decided = laws.none s facts (query_of q) log accepted (empty_there log supported)
+  right q (verdict.Undecided counted) cs accepted on one_of all supported decided = absurd (false≢true decided)
+  right asked.Consistent verdict.Consistent cs accepted on one_of all supported decided = satisfiable s cs supported all
+  right (asked.Certain pairs) verdict.Certain cs accepted on one_of all supported decided = (satisfiable s cs supported.0 all, pairs_hold laws s facts log None accepted pairs on supported.1)
+  right (asked.Certain pairs) (verdict.NotCertain p) cs accepted on one_of all supported decided = (
     one_of,
     record {
       rankings = supported.rankings;
@@ -144,8 +151,8 @@ module _ (laws : TruthLaws) (s : Spec) (facts : IsSpecification s) (log : Log) (
       fails = supported.fails;
     },
   )
-  right (asked.Same rels) (verdict.Same items) cs on one_of all supported decided = (satisfiable s cs supported.0 all, one_of, items_are 0 items one_of.values supported.1)
-  right (asked.Same rels) (verdict.NotSame rel attr ent) cs on one_of all supported decided = (
+  right (asked.Same rels) (verdict.Same items) cs accepted on one_of all supported decided = (satisfiable s cs supported.0 all, one_of, items_are laws s facts log None accepted 0 items one_of.values supported.1)
+  right (asked.Same rels) (verdict.NotSame rel attr ent) cs accepted on one_of all supported decided = (
     one_of,
     record {
       one = supported.one;
@@ -155,13 +162,28 @@ module _ (laws : TruthLaws) (s : Spec) (facts : IsSpecification s) (log : Log) (
       differ = supported.differ;
     },
   )
-  right asked.Consistent verdict.Certain cs on one_of all supported decided = absurd one_of
-  right asked.Consistent (verdict.NotCertain p) cs on one_of all supported decided = absurd one_of
-  right asked.Consistent (verdict.Same items) cs on one_of all supported decided = absurd one_of
-  right asked.Consistent (verdict.NotSame rel attr ent) cs on one_of all supported decided = absurd one_of
-  right (asked.Certain pairs) verdict.Consistent cs on one_of all supported decided = absurd one_of
-  right (asked.Certain pairs) (verdict.Same items) cs on one_of all supported decided = absurd one_of
-  right (asked.Certain pairs) (verdict.NotSame rel attr ent) cs on one_of all supported decided = absurd one_of
-  right (asked.Same rels) verdict.Consistent cs on one_of all supported decided = absurd one_of
-  right (asked.Same rels) verdict.Certain cs on one_of all supported decided = absurd one_of
-  right (asked.Same rels) (verdict.NotCertain p) cs on one_of all supported decided = absurd one_of
+  right (asked.Answers query) (verdict.Answers tuples) cs accepted on one_of all supported decided = (
+    satisfiable s cs supported.0 all,
+    record {
+      each = answers_are laws.answers s facts log query on.is_query accepted 0 tuples supported.1;
+      all = λ tuple every. supported.2.all tuple (λ i d below. every _ (all i d below));
+    },
+  )
+  right asked.Consistent verdict.Certain cs accepted on one_of all supported decided = absurd one_of
+  right asked.Consistent (verdict.NotCertain p) cs accepted on one_of all supported decided = absurd one_of
+  right asked.Consistent (verdict.Same items) cs accepted on one_of all supported decided = absurd one_of
+  right asked.Consistent (verdict.NotSame rel attr ent) cs accepted on one_of all supported decided = absurd one_of
+  right (asked.Certain pairs) verdict.Consistent cs accepted on one_of all supported decided = absurd one_of
+  right (asked.Certain pairs) (verdict.Same items) cs accepted on one_of all supported decided = absurd one_of
+  right (asked.Certain pairs) (verdict.NotSame rel attr ent) cs accepted on one_of all supported decided = absurd one_of
+  right (asked.Same rels) verdict.Consistent cs accepted on one_of all supported decided = absurd one_of
+  right (asked.Same rels) verdict.Certain cs accepted on one_of all supported decided = absurd one_of
+  right (asked.Same rels) (verdict.NotCertain p) cs accepted on one_of all supported decided = absurd one_of
+  right asked.Consistent (verdict.Answers tuples) cs accepted on one_of all supported decided = absurd one_of
+  right (asked.Certain pairs) (verdict.Answers tuples) cs accepted on one_of all supported decided = absurd one_of
+  right (asked.Same rels) (verdict.Answers tuples) cs accepted on one_of all supported decided = absurd one_of
+  right (asked.Answers query) verdict.Consistent cs accepted on one_of all supported decided = absurd one_of
+  right (asked.Answers query) verdict.Certain cs accepted on one_of all supported decided = absurd one_of
+  right (asked.Answers query) (verdict.NotCertain p) cs accepted on one_of all supported decided = absurd one_of
+  right (asked.Answers query) (verdict.Same items) cs accepted on one_of all supported decided = absurd one_of
+  right (asked.Answers query) (verdict.NotSame rel attr ent) cs accepted on one_of all supported decided = absurd one_of

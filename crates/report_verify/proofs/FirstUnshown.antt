@@ -5,14 +5,16 @@ use Rattle.log_checker.specs.declared.fault.LogFault.{LogFault}
 use Rattle.report_model.specs.declared.report.Part.{Part}
 use Rattle.report_model.specs.declared.report.Part.TheVariants as part
 use Rattle.report_model.specs.declared.report.Report.{Report}
+use Rattle.axiom_laws.proofs.Standing.{all_at}
+use Rattle.report_verify.specs.Asked.{query_of}
 use Rattle.report_verify.specs.Shown.{ShowsVerdict, IsSound, IsBadCompletion, IsBadLog, IsFirstUnderived, IsFirstUnshown, step_of_fault}
-use Rattle.report_verify.specs.Supported.{IsOneOf, IsSupported}
+use Rattle.report_verify.specs.Supported.{IsDerived, IsOneOf, IsSupported, needs_of}
 use Rattle.report_verify.specs.declared.fault.Missing.{Missing}
 use Rattle.report_verify.specs.declared.fault.Missing.TheVariants.{Shape, NoEmptyClause, NoCompletion, NoUnit, NotBroken, NotDifferent, NotCommon, WrongCount}
 use Rattle.report_verify.specs.declared.fault.Unshown.{Unshown}
 use Rattle.report_verify.specs.declared.fault.Unshown.TheVariants.{BadCompletion, BadLog, NotShown}
 use Rattle.report_verify.proofs.Firsts.{CheckLaws, none_bad, one_bad, one_underived}
-use Rattle.report_verify.proofs.Lacks.{IsDue, no_empty_clause, no_completion, no_unit, not_broken, not_different, wrong_count}
+use Rattle.report_verify.proofs.Lacks.{IsDue, due, no_empty_clause, no_completion, no_unit, not_broken, not_common, not_different, wrong_count}
 use Rattle.spec_model.specs.Consistent.{IsConsistent}
 use Rattle.spec_model.specs.Spec.{Spec}
 use Rattle.spec_model.specs.declared.flaw.Flaw.{Flaw}
@@ -59,8 +61,19 @@ module _ (s : Spec) (q : Question) (r : Report) where
     first : IsFirstUnderived s q r p place
     is_due : IsDue s q r.log r.verdict r.completions None
 
+  -- that the answers are common
+  record FailsCommon (p : Part) (why : Unshown) : Type 0 where
+    part_is : p ≡ part.Verdict
+    why_is : why ≡ NotShown NotCommon
+    sound : IsSound s q r
+    derived : All (IsDerived s.relations r.log) (needs_of q r.verdict)
+    is_due : IsDue s q r.log r.verdict r.completions None
+
+  abbrev FailsLast : Part → Unshown → Type 0
+  FailsLast p why = FailsUnit p why ⊎ FailsCommon p why
+
   abbrev FailsClaim : Part → Unshown → Type 0
-  FailsClaim p why = FailsPlainly p why ⊎ FailsUnit p why
+  FailsClaim p why = FailsPlainly p why ⊎ FailsLast p why
 
   abbrev FailsLate : Part → Unshown → Type 0
   FailsLate p why = FailsLog p why ⊎ FailsClaim p why
@@ -79,7 +92,7 @@ module _ (s : Spec) (q : Question) (r : Report) where
   by_unit : (p : Part) (place : ℕ) → IsSound s q r → IsFirstUnderived s q r p place
       → IsDue s q r.log r.verdict r.completions None → Fails p (NotShown (NoUnit place))
   by_unit p place sound first is_due =
-      inr (inr (inr (inr record { place = place; why_is = refl; sound = sound; first = first; is_due = is_due })))
+      inr (inr (inr (inr (inl record { place = place; why_is = refl; sound = sound; first = first; is_due = is_due }))))
 
   fails : (p : Part) (why : Unshown) → IsFirstUnshown s q r p why → Fails p why
   fails part.Verdict (NotShown Shape) f = inl record { part_is = refl; why_is = refl; not_one = f }
@@ -90,7 +103,14 @@ module _ (s : Spec) (q : Question) (r : Report) where
       (no_unit s q r.log r.verdict r.completions place f.2.need f.1 f.2.claimed f.2.underived)
   fails part.Verdict (NotShown NotBroken) f = plainly NotBroken f.0 (not_broken s q r.log r.verdict r.completions f.1 f.2)
   fails part.Verdict (NotShown NotDifferent) f = plainly NotDifferent f.0 (not_different s q r.log r.verdict r.completions f.1 f.2)
-  fails part.Verdict (NotShown NotCommon) f = absurd f
+  fails part.Verdict (NotShown NotCommon) f =
+      inr (inr (inr (inr (inr record {
+        part_is = refl;
+        why_is = refl;
+        sound = f.0;
+        derived = f.2;
+        is_due = not_common s q r.log r.verdict r.completions f.1 f.3;
+      }))))
   fails part.Verdict (NotShown WrongCount) f = plainly WrongCount f.0 (wrong_count s q r.log r.verdict r.completions f.1)
   fails part.Verdict (BadCompletion flaw) f = absurd f
   fails part.Verdict (BadLog fault) f = absurd f
@@ -137,20 +157,33 @@ module _ (s : Spec) (q : Question) (r : Report) where
   one_of_later p why (inl f) = f.bad.one_of
   one_of_later p why (inr (inl f)) = f.bad.one_of
   one_of_later p why (inr (inr (inl f))) = f.sound.one_of
-  one_of_later p why (inr (inr (inr f))) = f.sound.one_of
+  one_of_later p why (inr (inr (inr (inl f)))) = f.sound.one_of
+  one_of_later p why (inr (inr (inr (inr f)))) = f.sound.one_of
 
   consistent_of_late : (p : Part) (why : Unshown) → FailsLate p why → All (IsConsistent s) r.completions
   consistent_of_late p why (inl f) = f.bad.consistent
   consistent_of_late p why (inr (inl f)) = f.sound.consistent
-  consistent_of_late p why (inr (inr f)) = f.sound.consistent
+  consistent_of_late p why (inr (inr (inl f))) = f.sound.consistent
+  consistent_of_late p why (inr (inr (inr f))) = f.sound.consistent
 
   sound_of_claim : (p : Part) (why : Unshown) → FailsClaim p why → IsSound s q r
   sound_of_claim p why (inl f) = f.sound
-  sound_of_claim p why (inr f) = f.sound
+  sound_of_claim p why (inr (inl f)) = f.sound
+  sound_of_claim p why (inr (inr f)) = f.sound
 
   unsupported_of : (p : Part) (why : Unshown) → FailsClaim p why → IsSupported s q r.verdict r.completions r.log → ⊥
   unsupported_of p why (inl f) = f.is_due.unsupported
-  unsupported_of p why (inr f) = f.is_due.unsupported
+  unsupported_of p why (inr (inl f)) = f.is_due.unsupported
+  unsupported_of p why (inr (inr f)) = f.is_due.unsupported
+
+  nothing_due : (p : Part) (why : Unshown) → FailsLast p why → due r.verdict r.completions ≡ None
+  nothing_due p why (inl f) = f.is_due.is
+  nothing_due p why (inr f) = f.is_due.is
+
+  -- where each claim is derived, none is the first that is not
+  all_derived : (p p' : Part) (why why' : Unshown) → FailsUnit p why → FailsCommon p' why' → ⊥
+  all_derived p p' why why' f g =
+      f.first.underived (all_at (IsDerived s.relations r.log) (needs_of q r.verdict) f.place f.first.need g.derived f.first.claimed)
 
   -- ---- the laws
 
@@ -158,7 +191,7 @@ module _ (s : Spec) (q : Question) (r : Report) where
     not_shown_by : (p : Part) (why : Unshown) → Fails p why → ShowsVerdict s q r → ⊥
     not_shown_by p why (inl f) shown = f.not_one shown.sound.one_of
     not_shown_by p why (inr (inl f)) shown = none_bad laws s r.completions f.place f.flaw f.bad.first shown.sound.consistent
-    not_shown_by p why (inr (inr (inl f))) shown = laws.no_fault s r.log.statements r.log.steps f.fault shown.sound.accepted f.bad.first
+    not_shown_by p why (inr (inr (inl f))) shown = laws.no_fault s (query_of q) r.log f.fault shown.sound.accepted f.bad.first
     not_shown_by p why (inr (inr (inr f))) shown = unsupported_of p why f shown.supported
 
     pub not_shown : (p : Part) (why : Unshown) → IsFirstUnshown s q r p why → ShowsVerdict s q r → ⊥
@@ -168,25 +201,31 @@ module _ (s : Spec) (q : Question) (r : Report) where
     abbrev Same : Part → Part → Unshown → Unshown → Type 0
     Same p p' why why' = (p ≡ p') × (why ≡ why')
 
+    same_last : (p p' : Part) (why why' : Unshown) → FailsLast p why → FailsLast p' why' → Same p p' why why'
+    same_last p p' why why' (inl f) (inl g) =
+        let one = one_underived s q r p p' f.place g.place f.first g.first in
+        (one.0, f.why_is ∙ ap (λ n. NotShown (NoUnit n)) one.1 ∙ sym g.why_is)
+    same_last p p' why why' (inl f) (inr g) = absurd (all_derived p p' why why' f g)
+    same_last p p' why why' (inr f) (inl g) = absurd (all_derived p' p why' why g f)
+    same_last p p' why why' (inr f) (inr g) = (f.part_is ∙ sym g.part_is, f.why_is ∙ sym g.why_is)
+
     same_claim : (p p' : Part) (why why' : Unshown) → FailsClaim p why → FailsClaim p' why' → Same p p' why why'
     same_claim p p' why why' (inl f) (inl g) =
         let one : f.missing ≡ g.missing = same_Some f.missing g.missing (sym f.is_due.is ∙ g.is_due.is) in
         (f.part_is ∙ sym g.part_is, f.why_is ∙ ap NotShown one ∙ sym g.why_is)
-    same_claim p p' why why' (inl f) (inr g) = absurd (none-some f.missing (sym g.is_due.is ∙ f.is_due.is))
-    same_claim p p' why why' (inr f) (inl g) = absurd (none-some g.missing (sym f.is_due.is ∙ g.is_due.is))
-    same_claim p p' why why' (inr f) (inr g) =
-        let one = one_underived s q r p p' f.place g.place f.first g.first in
-        (one.0, f.why_is ∙ ap (λ n. NotShown (NoUnit n)) one.1 ∙ sym g.why_is)
+    same_claim p p' why why' (inl f) (inr g) = absurd (none-some f.missing (sym (nothing_due p' why' g) ∙ f.is_due.is))
+    same_claim p p' why why' (inr f) (inl g) = absurd (none-some g.missing (sym (nothing_due p why f) ∙ g.is_due.is))
+    same_claim p p' why why' (inr f) (inr g) = same_last p p' why why' f g
 
     same_late : (p p' : Part) (why why' : Unshown) → FailsLate p why → FailsLate p' why' → Same p p' why why'
     same_late p p' why why' (inl f) (inl g) =
-        let one = laws.one_fault s r.log.statements r.log.steps f.fault g.fault f.bad.first g.bad.first in
+        let one = laws.one_fault s (query_of q) r.log f.fault g.fault f.bad.first g.bad.first in
         let step : f.step ≡ g.step = same_Some f.step g.step (sym f.bad.at_step ∙ ap step_of_fault one ∙ g.bad.at_step) in
         (f.part_is ∙ ap part.Step step ∙ sym g.part_is, f.why_is ∙ ap BadLog one ∙ sym g.why_is)
     same_late p p' why why' (inl f) (inr g) =
-        absurd (laws.no_fault s r.log.statements r.log.steps f.fault (sound_of_claim p' why' g).accepted f.bad.first)
+        absurd (laws.no_fault s (query_of q) r.log f.fault (sound_of_claim p' why' g).accepted f.bad.first)
     same_late p p' why why' (inr f) (inl g) =
-        absurd (laws.no_fault s r.log.statements r.log.steps g.fault (sound_of_claim p why f).accepted g.bad.first)
+        absurd (laws.no_fault s (query_of q) r.log g.fault (sound_of_claim p why f).accepted g.bad.first)
     same_late p p' why why' (inr f) (inr g) = same_claim p p' why why' f g
 
     same_later : (p p' : Part) (why why' : Unshown) → FailsLater p why → FailsLater p' why' → Same p p' why why'

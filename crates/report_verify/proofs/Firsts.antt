@@ -1,12 +1,12 @@
 -- The first bad completion, and the first claim without a unit: there is at most one of each.
-use Rattle.std.proofs.Common.{◌≡◌, inl, inr, ◌∙◌, ◌<◌, ℕ, zero, suc, List, [], ◌∷◌, All, Some, slice_get, take, sym, ap, subst, arith}
+use Rattle.std.proofs.Common.{◌≡◌, inl, inr, ◌∙◌, ◌<◌, ℕ, zero, suc, List, [], ◌∷◌, All, Option, Some, slice_get, take, sym, ap, subst, arith}
 use Rattle.std.proofs.lemmas.Bool.{cases_order}
 use Rattle.std.proofs.lemmas.Option.{same_Some, none-some}
 use Rattle.axiom_laws.proofs.Standing.{all_at}
 use Rattle.log_checker.specs.Accepted.{IsAccepted, IsFirstFault}
 use Rattle.log_checker.specs.declared.fault.LogFault.{LogFault}
-use Rattle.refutation_log.specs.declared.statement.Statement.{Statement}
-use Rattle.refutation_log.specs.declared.step.Step.{Step}
+use Rattle.query_model.specs.declared.query.Query.{Query}
+use Rattle.refutation_log.specs.declared.log.Log.{Log}
 use Rattle.report_model.specs.declared.report.Part.{Part}
 use Rattle.report_model.specs.declared.report.Report.{Report}
 use Rattle.report_verify.specs.Shown.{IsFirstBad, IsFirstUnderived}
@@ -22,10 +22,10 @@ use Rattle.spec_model.specs.declared.question.Question.{Question}
 pub record CheckLaws : Type 0 where
   pub rules_out : (s : Spec) (c : Rankings) (flaw : Flaw) → IsFirstFlaw s c flaw → IsConsistent s c → ⊥
   pub one_flaw : (s : Spec) (c : Rankings) (flaw other : Flaw) → IsFirstFlaw s c flaw → IsFirstFlaw s c other → flaw ≡ other
-  pub no_fault : (s : Spec) (statements : List Statement) (steps : List Step) (fault : LogFault)
-      → IsAccepted s statements steps → IsFirstFault s statements steps fault → ⊥
-  pub one_fault : (s : Spec) (statements : List Statement) (steps : List Step) (one other : LogFault)
-      → IsFirstFault s statements steps one → IsFirstFault s statements steps other → one ≡ other
+  pub no_fault : (s : Spec) (query : Option Query) (log : Log) (fault : LogFault) → IsAccepted s query log
+      → IsFirstFault s query log fault → ⊥
+  pub one_fault : (s : Spec) (query : Option Query) (log : Log) (one other : LogFault) → IsFirstFault s query log one
+      → IsFirstFault s query log other → one ≡ other
 
 -- what stands at a place of all stands there in the first ones, if they are more
 within_front : {A : Type 0} (xs : List A) (k i : ℕ) (x : A) → i < k → slice_get xs i ≡ Some x → slice_get (take k xs) i ≡ Some x

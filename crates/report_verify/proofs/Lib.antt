@@ -1,3 +1,4 @@
+mod AnswerClaims
 mod Claimed
 mod Claims
 mod Counting
@@ -9,3 +10,4 @@ mod Lacks
 mod Meeting
 mod Needing
 mod Refusing
+mod Rising

@@ -12,7 +12,7 @@ use Rattle.report_model.specs.declared.report.Part.TheVariants as part
 use Rattle.report_model.specs.declared.verdict.Current.{Current}
 use Rattle.report_verify.proofs.Fronts.{front_more, get_behind, get_front, split_at, take_behind, take_front}
 use Rattle.report_verify.specs.Judged.{IsFirstUnmet, IsUnmetFrom}
-use Rattle.report_verify.specs.Supported.{HasValue, Holds, IsDerived, Need, item_needs, pair_needs, value_needs}
+use Rattle.report_verify.specs.Supported.{HasAnswer, HasValue, Holds, IsDerived, Need, answer_needs, item_needs, pair_needs, value_needs}
 use Rattle.report_verify.specs.declared.fault.Missing.TheVariants.{Shape, NoEmptyClause, NoCompletion, NoUnit, NotBroken, NotDifferent, NotCommon, WrongCount}
 use Rattle.report_verify.specs.declared.fault.Unshown.TheVariants.{BadCompletion, BadLog, NotShown}
 use Rattle.report_verify.specs.declared.fault.VerifyFault.{VerifyFault}
@@ -25,6 +25,9 @@ pair_need p = record { part = part.Verdict; claim = Holds p }
 
 abbrev pub value_need : ℕ → RelId → ℕ → EntId → Value → Need
 value_need item rel attr ent v = record { part = part.Item item; claim = HasValue rel (record { 0 = attr }) ent v }
+
+abbrev pub answer_need : ℕ → List Value → Need
+answer_need item tuple = record { part = part.Item item; claim = HasAnswer tuple }
 
 -- ---- the claim at a place
 
@@ -51,6 +54,26 @@ pub length_values : (item : ℕ) (rel : RelId) (ent : EntId) (from : ℕ) (value
     → length (value_needs item rel ent from values) ≡ length values
 length_values item rel ent from [] = refl
 length_values item rel ent from (x ∷ values) = ap suc (length_values item rel ent (from + 1) values)
+
+answer_from : (from : ℕ) (tuples : List (List Value)) (k : ℕ) (t : List Value) → slice_get tuples k ≡ Some t
+    → slice_get (answer_needs from tuples) k ≡ Some (answer_need (from + k) t)
+answer_from from [] k t at = absurd (none-some t at)
+answer_from from (x ∷ tuples) zero t at =
+    let same : from ≡ from + 0 = omega arith in
+    ap Some (ap₂ (λ n u. answer_need n u) same (same_Some x t at))
+answer_from from (x ∷ tuples) (suc k) t at =
+    let same : from + 1 + k ≡ from + suc k = omega arith in
+    answer_from (from + 1) tuples k t at ∙ ap (λ n. Some (answer_need n t)) same
+
+pub answer_at : (tuples : List (List Value)) (k : ℕ) (t : List Value) → slice_get tuples k ≡ Some t
+    → slice_get (answer_needs 0 tuples) k ≡ Some (answer_need k t)
+answer_at tuples k t at =
+    let same : 0 + k ≡ k = omega arith in
+    answer_from 0 tuples k t at ∙ ap (λ n. Some (answer_need n t)) same
+
+pub length_answers : (from : ℕ) (tuples : List (List Value)) → length (answer_needs from tuples) ≡ length tuples
+length_answers from [] = refl
+length_answers from (x ∷ tuples) = ap suc (length_answers (from + 1) tuples)
 
 -- the claims of items, and those of the items after them
 needs_append : (at : ℕ) (xs ys : List Current) → item_needs at (xs ++ ys) ≡ item_needs at xs ++ item_needs (at + length xs) ys

@@ -1,9 +1,17 @@
--- What is asked about: pairs, and the entities of relations.
-use Rattle.std.specs.Prelude.{◌≡◌, ◌⊎◌, ◌<◌, ℕ, List, length, All, Contains, Some, slice_get}
+-- What is asked about: a query, and the entities of relations.
+use Rattle.std.specs.Prelude.{◌≡◌, ◌⊎◌, ◌<◌, ℕ, List, length, All, Contains, Option, Some, None, slice_get}
 use Rattle.currency_base.specs.declared.ids.EntId.{EntId}
 use Rattle.currency_base.specs.declared.ids.RelId.{RelId}
+use Rattle.query_model.specs.declared.query.Query.{Query}
+use Rattle.spec_model.specs.declared.question.Question.{Question}
+use Rattle.spec_model.specs.declared.question.Question.TheVariants as asked
 use Rattle.spec_model.specs.declared.relation.Relation.{Relation}
 use Rattle.report_model.specs.declared.verdict.Current.{Current}
+
+-- the query of a question, if it asks for answers
+abbrev pub query_of : Question → Option Query
+query_of (asked.Answers query) = Some query
+query_of q = None
 
 -- ---- the entities of asked relations
 

@@ -2,6 +2,8 @@
 use Rattle.std.specs.Prelude.{◌≡◌, ◌≢◌, ◌+◌, ℕ, true, List, [], take, All, Option, Some, None, slice_get}
 use Rattle.log_checker.specs.Accepted.{IsFirstFault}
 use Rattle.log_checker.specs.Shown.{IsShownBy, Shown}
+use Rattle.common_answers.specs.Common.{AreCommon}
+use Rattle.query_model.specs.declared.query.Query.{Query}
 use Rattle.refutation_log.specs.Counted.{counted_steps}
 use Rattle.refutation_log.specs.Steps.{clauses_of}
 use Rattle.refutation_log.specs.declared.log.Log.{Log}
@@ -13,10 +15,12 @@ use Rattle.report_model.specs.declared.report.Part.TheVariants as part
 use Rattle.report_model.specs.declared.report.Report.{Report}
 use Rattle.report_model.specs.declared.verdict.Verdict.{Verdict}
 use Rattle.report_model.specs.declared.verdict.Verdict.TheVariants as verdict
-use Rattle.report_verify.specs.Shown.{IsFirstBad, IsMiscounted, IsUnbroken, IsUndifferent, asks_completion, step_of_fault}
+use Rattle.spec_model.specs.declared.question.Question.{Question}
+use Rattle.spec_model.specs.declared.question.Question.TheVariants as asked
+use Rattle.report_verify.specs.Shown.{IsFirstBad, IsMiscounted, IsUnbroken, IsUncommon, IsUndifferent, asks_completion, step_of_fault}
 use Rattle.report_verify.specs.Supported.{FailsInOne, HasEmpty, IsDerived, Need, TwoDiffer}
 use Rattle.report_verify.specs.declared.fault.Missing.{Missing}
-use Rattle.report_verify.specs.declared.fault.Missing.TheVariants.{NoEmptyClause, NoCompletion, NoUnit, NotBroken, NotDifferent, WrongCount}
+use Rattle.report_verify.specs.declared.fault.Missing.TheVariants.{NoEmptyClause, NoCompletion, NoUnit, NotBroken, NotDifferent, NotCommon, WrongCount}
 use Rattle.report_verify.specs.declared.fault.Unshown.TheVariants.{BadCompletion, BadLog, NotShown}
 use Rattle.report_verify.specs.declared.fault.VerifyFault.{VerifyFault}
 use Rattle.report_verify.specs.declared.fault.VerifyFault.TheVariants.{Refused, NoMemory}
@@ -30,11 +34,11 @@ IsBadAmong s completions NoMemory = Unit {0}
 IsBadAmong s completions other = ⊥
 
 -- a refusal of the log for what it fails first, at the step that this names; of want of memory nothing is said
-abbrev pub IsBadIn : Spec → Log → VerifyFault → Type 0
-IsBadIn s log (Refused (part.Step step) (BadLog fault)) =
-    IsFirstFault s log.statements log.steps fault × (step_of_fault fault ≡ Some step)
-IsBadIn s log NoMemory = Unit {0}
-IsBadIn s log other = ⊥
+abbrev pub IsBadIn : Spec → Option Query → Log → VerifyFault → Type 0
+IsBadIn s query log (Refused (part.Step step) (BadLog fault)) =
+    IsFirstFault s query log fault × (step_of_fault fault ≡ Some step)
+IsBadIn s query log NoMemory = Unit {0}
+IsBadIn s query log other = ⊥
 
 -- what a log that was checked shows; one with no step needs no check
 abbrev pub IsShownOf : Log → Option Shown → Type 0
@@ -59,6 +63,23 @@ IsLacking s report NotBroken = (report.completions ≢ []) × IsUnbroken report.
 IsLacking s report NotDifferent = (report.completions ≢ []) × IsUndifferent s report.verdict report.completions
 IsLacking s report WrongCount = IsMiscounted report.verdict report.log
 IsLacking s report other = ⊥
+
+-- ---- answers
+
+-- the printed answers are those that the completions have in common, where answers are asked for
+abbrev pub AreCommonOf : Spec → Question → Verdict → List Rankings → Type 0
+AreCommonOf s question (verdict.Answers tuples) completions = of question
+  where
+    of : Question → Type 0
+    of (asked.Answers query) = AreCommon s.relations query tuples completions
+    of other = Unit {0}
+AreCommonOf s question v completions = Unit {0}
+
+-- a refusal since they are not; of want of memory nothing is said
+abbrev pub IsUncommonIn : Spec → Question → Verdict → List Rankings → VerifyFault → Type 0
+IsUncommonIn s q v completions (Refused part.Verdict (NotShown NotCommon)) = IsUncommon s q v completions
+IsUncommonIn s q v completions NoMemory = Unit {0}
+IsUncommonIn s q v completions other = ⊥
 
 -- ---- units
 

@@ -1,8 +1,11 @@
 -- When a verdict is right, whatever a report lists for it.
 use Rattle.std.specs.Prelude.{◌≡◌, ◌≢◌, ◌<◌, ℕ, List, length, All, Contains, Some, slice_get}
+use Rattle.answer_laws.specs.Answered.{IsAnswerIn}
 use Rattle.currency_base.specs.declared.ids.AttrId.{AttrId}
 use Rattle.currency_base.specs.declared.ids.EntId.{EntId}
 use Rattle.currency_base.specs.declared.ids.RelId.{RelId}
+use Rattle.currency_base.specs.declared.value.Value.{Value}
+use Rattle.query_model.specs.declared.query.Query.{Query}
 use Rattle.spec_model.specs.Completion.{Rankings, lists_of, Before}
 use Rattle.spec_model.specs.Consistent.{IsConsistent, IsSatisfiable}
 use Rattle.spec_model.specs.Current.{current_value}
@@ -52,6 +55,11 @@ pub record DifferInSome (s : Spec) (rel : RelId) (attr : AttrId) (ent : EntId) :
   pub other_consistent : IsConsistent s other
   pub differ : DifferAt s.relations rel attr ent one other
 
+-- exactly the tuples that are answers over the current instance of every consistent completion
+pub record AreCertainAnswers (s : Spec) (query : Query) (tuples : List (List Value)) : Type 0 where
+  pub each : All (λ tuple. EachConsistent s (IsAnswerIn s.relations query tuple)) tuples
+  pub all : (tuple : List Value) → EachConsistent s (IsAnswerIn s.relations query tuple) → Contains tuples tuple
+
 -- a verdict is right. `inconsistent` is where no consistent completion exists, whatever the question; each other asks
 -- besides that one exists. `undecided` is neither right nor wrong, and has no case here
 abbrev pub IsRight : Spec → Question → Verdict → Type 0
@@ -62,4 +70,5 @@ IsRight s (asked.Certain pairs) (verdict.NotCertain p) = Contains pairs p × Fai
 IsRight s (asked.Same rels) (verdict.Same items) =
     IsSatisfiable s × AreItemsOf s.relations rels items × All (λ item. EachConsistent s (IsCurrentIn s.relations item)) items
 IsRight s (asked.Same rels) (verdict.NotSame rel attr ent) = Contains rels rel × DifferInSome s rel attr ent
+IsRight s (asked.Answers query) (verdict.Answers tuples) = IsSatisfiable s × AreCertainAnswers s query tuples
 IsRight s q v = ⊥

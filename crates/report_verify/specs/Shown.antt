@@ -1,5 +1,6 @@
 -- Reports that show their verdict, and what a report that does not fails first.
 use Rattle.std.specs.Prelude.{◌≡◌, ◌≢◌, ℕ, Bool, true, false, List, [], take, All, Option, Some, None, slice_get}
+use Rattle.common_answers.specs.Common.{AreCommon}
 use Rattle.log_checker.specs.Accepted.{IsAccepted, IsFirstFault}
 use Rattle.log_checker.specs.declared.fault.LogFault.{LogFault}
 use Rattle.log_checker.specs.declared.fault.LogFault.TheVariants as log_fault
@@ -10,15 +11,17 @@ use Rattle.spec_model.specs.Consistent.{IsConsistent}
 use Rattle.spec_model.specs.FirstFlaw.{IsFirstFlaw}
 use Rattle.spec_model.specs.declared.flaw.Flaw.{Flaw}
 use Rattle.spec_model.specs.declared.question.Question.{Question}
+use Rattle.spec_model.specs.declared.question.Question.TheVariants as asked
 use Rattle.spec_model.specs.Spec.{Spec}
 use Rattle.report_model.specs.declared.report.Part.{Part}
 use Rattle.report_model.specs.declared.report.Part.TheVariants as part
 use Rattle.report_model.specs.declared.report.Report.{Report}
 use Rattle.report_model.specs.declared.verdict.Verdict.{Verdict}
 use Rattle.report_model.specs.declared.verdict.Verdict.TheVariants as verdict
+use Rattle.report_verify.specs.Asked.{query_of}
 use Rattle.report_verify.specs.Right.{PairHolds}
 use Rattle.report_verify.specs.Supported.{IsOneOf, IsSupported, Need, needs_of, IsDerived, HasEmpty, TwoDiffer}
-use Rattle.report_verify.specs.declared.fault.Missing.TheVariants.{Shape, NoEmptyClause, NoCompletion, NoUnit, NotBroken, NotDifferent, WrongCount}
+use Rattle.report_verify.specs.declared.fault.Missing.TheVariants.{Shape, NoEmptyClause, NoCompletion, NoUnit, NotBroken, NotDifferent, NotCommon, WrongCount}
 use Rattle.report_verify.specs.declared.fault.Unshown.{Unshown}
 use Rattle.report_verify.specs.declared.fault.Unshown.TheVariants.{BadCompletion, BadLog, NotShown}
 use Rattle.report_verify.specs.declared.fault.VerifyFault.{VerifyFault}
@@ -28,7 +31,7 @@ use Rattle.report_verify.specs.declared.fault.VerifyFault.TheVariants.{Refused, 
 pub record IsSound (s : Spec) (question : Question) (report : Report) : Type 0 where
   pub one_of : IsOneOf s question report.verdict
   pub consistent : All (IsConsistent s) report.completions
-  pub accepted : IsAccepted s report.log.statements report.log.steps
+  pub accepted : IsAccepted s (query_of question) report.log
 
 -- a report that shows its verdict: it is sound, and lists and derives what the verdict asks for
 pub record ShowsVerdict (s : Spec) (question : Question) (report : Report) : Type 0 where
@@ -60,7 +63,7 @@ step_of_fault log_fault.NoMemory = None
 pub record IsBadLog (s : Spec) (question : Question) (report : Report) (step : ℕ) (fault : LogFault) : Type 0 where
   pub one_of : IsOneOf s question report.verdict
   pub consistent : All (IsConsistent s) report.completions
-  pub first : IsFirstFault s report.log.statements report.log.steps fault
+  pub first : IsFirstFault s (query_of question) report.log fault
   pub at_step : step_of_fault fault ≡ Some step
 
 -- a decided verdict other than `inconsistent`, which asks for a completion
@@ -87,6 +90,15 @@ abbrev pub IsUndifferent : Spec → Verdict → List Rankings → Type 0
 IsUndifferent s (verdict.NotSame rel attr ent) completions = TwoDiffer s.relations rel attr ent completions → ⊥
 IsUndifferent s v completions = ⊥
 
+-- the answers that the listed completions have in common are not the printed ones
+abbrev pub IsUncommon : Spec → Question → Verdict → List Rankings → Type 0
+IsUncommon s question (verdict.Answers tuples) completions = of question
+  where
+    of : Question → Type 0
+    of (asked.Answers query) = AreCommon s.relations query tuples completions → ⊥
+    of other = ⊥
+IsUncommon s question v completions = ⊥
+
 -- the log of `undecided` has another number of counted steps
 abbrev pub IsMiscounted : Verdict → Log → Type 0
 IsMiscounted (verdict.Undecided counted) log = counted_steps log.steps ≢ counted
@@ -107,6 +119,10 @@ IsFirstUnshown s question report part.Verdict (NotShown NotBroken) =
     IsSound s question report × (report.completions ≢ []) × IsUnbroken report.verdict report.completions
 IsFirstUnshown s question report part.Verdict (NotShown NotDifferent) =
     IsSound s question report × (report.completions ≢ []) × IsUndifferent s report.verdict report.completions
+IsFirstUnshown s question report part.Verdict (NotShown NotCommon) =
+    IsSound s question report × (report.completions ≢ [])
+    × All (IsDerived s.relations report.log) (needs_of question report.verdict)
+    × IsUncommon s question report.verdict report.completions
 IsFirstUnshown s question report part.Verdict (NotShown WrongCount) =
     IsSound s question report × IsMiscounted report.verdict report.log
 IsFirstUnshown s question report _ _ = ⊥

@@ -5,9 +5,11 @@ use Rattle.currency_base.specs.declared.ids.AttrId.{AttrId}
 use Rattle.currency_base.specs.declared.ids.EntId.{EntId}
 use Rattle.currency_base.specs.declared.ids.RelId.{RelId}
 use Rattle.currency_base.specs.declared.value.Value.{Value}
+use Rattle.common_answers.specs.Common.{AreCommon}
 use Rattle.log_axioms.specs.Axioms.{before}
 use Rattle.log_checker.specs.Shown.{is_empty}
-use Rattle.log_units.specs.Units.{HasLastUnit, HasUnit}
+use Rattle.log_units.specs.Units.{HasAnswerUnit, HasLastUnit, HasUnit}
+use Rattle.query_model.specs.Answers.{AreAscending}
 use Rattle.refutation_log.specs.Counted.{counted_steps}
 use Rattle.refutation_log.specs.Steps.{clauses_of}
 use Rattle.refutation_log.specs.declared.log.Log.{Log}
@@ -28,7 +30,8 @@ use Rattle.report_verify.specs.Right.{PairHolds, DifferAt}
 -- ---- the shape of a verdict
 
 -- a verdict is one of the question's: `inconsistent` and `undecided` are of every question; the pair of `not certain` is
--- asked; the place of `not same` is of an asked relation; the items of `same` are those of the asked relations
+-- asked; the place of `not same` is of an asked relation; the items of `same` are those of the asked relations; the answers
+-- ascend
 abbrev pub IsOneOf : Spec → Question → Verdict → Type 0
 IsOneOf s q verdict.Inconsistent = Unit {0}
 IsOneOf s q (verdict.Undecided counted) = Unit {0}
@@ -37,6 +40,7 @@ IsOneOf s (asked.Certain pairs) verdict.Certain = Unit {0}
 IsOneOf s (asked.Certain pairs) (verdict.NotCertain p) = Contains pairs p
 IsOneOf s (asked.Same rels) (verdict.Same items) = AreItemsOf s.relations rels items
 IsOneOf s (asked.Same rels) (verdict.NotSame rel attr ent) = Contains rels rel
+IsOneOf s (asked.Answers query) (verdict.Answers tuples) = AreAscending tuples
 IsOneOf s q v = ⊥
 
 -- ---- what must hold in every consistent completion
@@ -45,6 +49,7 @@ IsOneOf s q v = ⊥
 pub data Claim : Type 0 where
   Holds : Asked → Claim
   HasValue : RelId → AttrId → EntId → Value → Claim
+  HasAnswer : List Value → Claim
 
 -- a claim, and the part of the report that makes it
 pub record Need : Type 0 where
@@ -66,10 +71,16 @@ abbrev pub item_needs : ℕ → List Current → List Need
 item_needs at [] = []
 item_needs at (item ∷ items) = value_needs at item.rel item.ent 0 item.values ++ item_needs (at + 1) items
 
+-- that each of these tuples is an answer; they are numbered from one on
+abbrev pub answer_needs : ℕ → List (List Value) → List Need
+answer_needs at [] = []
+answer_needs at (tuple ∷ tuples) = record { part = part.Item at; claim = HasAnswer tuple } ∷ answer_needs (at + 1) tuples
+
 -- what a verdict claims of every consistent completion
 abbrev pub needs_of : Question → Verdict → List Need
 needs_of (asked.Certain pairs) verdict.Certain = pair_needs pairs
 needs_of q (verdict.Same items) = item_needs 0 items
+needs_of q (verdict.Answers tuples) = answer_needs 0 tuples
 needs_of q v = []
 
 -- ---- units and the empty clause
@@ -81,6 +92,7 @@ IsDerived relations log need = of need.claim
     of : Claim → Type 0
     of (Holds p) = HasUnit relations log (before p.rel p.pair.attr p.pair.earlier p.pair.later)
     of (HasValue rel attr ent v) = HasLastUnit relations log rel attr ent v
+    of (HasAnswer tuple) = HasAnswerUnit relations log tuple
 
 -- a step of the log is the empty clause
 abbrev pub HasEmpty : Log → Type 0
@@ -103,8 +115,9 @@ pub record TwoDiffer (relations : List Relation) (rel : RelId) (attr : AttrId) (
   pub differ : DifferAt relations rel attr ent one other
 
 -- what a verdict asks of the completions and of the log: `inconsistent` the empty clause; each other decided verdict a
--- completion; `certain` and `same` the unit of each claim; `not certain` a completion in which the pair fails; `not same` two
--- that differ; `undecided` exactly as many counted steps. Answers belong to no question here
+-- completion; `certain`, `same` and answers the unit of each claim; answers besides that they are those that the completions
+-- have in common; `not certain` a completion in which the pair fails; `not same` two that differ; `undecided` exactly as many
+-- counted steps
 abbrev pub IsSupported : Spec → Question → Verdict → List Rankings → Log → Type 0
 IsSupported s q verdict.Inconsistent completions log = HasEmpty log
 IsSupported s q verdict.Consistent completions log = completions ≢ []
@@ -114,5 +127,8 @@ IsSupported s q (verdict.NotCertain p) completions log = FailsInOne p completion
 IsSupported s q (verdict.Same items) completions log =
     (completions ≢ []) × All (IsDerived s.relations log) (needs_of q (verdict.Same items))
 IsSupported s q (verdict.NotSame rel attr ent) completions log = TwoDiffer s.relations rel attr ent completions
+IsSupported s (asked.Answers query) (verdict.Answers tuples) completions log =
+    (completions ≢ []) × All (IsDerived s.relations log) (needs_of (asked.Answers query) (verdict.Answers tuples))
+    × AreCommon s.relations query tuples completions
 IsSupported s q (verdict.Answers tuples) completions log = ⊥
 IsSupported s q (verdict.Undecided counted) completions log = counted_steps log.steps ≡ counted

@@ -12,6 +12,7 @@ ghost use Rattle.spec_model.specs.Completion.{HasShape};
 ghost use Rattle.spec_model.specs.Facts.{IsSpecification};
 
 use crate::claim::lacking;
+use crate::common::check_common;
 use crate::completions::check_completions;
 use crate::laws::{first_unshown_is_not_shown, shown_is_right};
 use crate::log::{check_log, has_empty};
@@ -26,7 +27,8 @@ use std::alloc::Global;
 /// that fails, with the part of the report that it is about: that the verdict is one of the question's, that
 /// each listed completion is consistent, that the log is accepted, and then what the verdict asks for. Takes
 /// time in proportion to the specification for each listed completion, to the log, and to the question and the
-/// verdict, each of whose claims is looked up among the units of the log.
+/// verdict, each of whose claims is looked up among the units of the log; and where answers are asked for, the time that
+/// it takes to find them over the first listed completion, and to look these up over the others.
 pub fn verify(
     alloc: Global,
     spec: &Specification,
@@ -87,14 +89,17 @@ fn judged_checks(
     if let Err(fault) = check_completions(alloc, spec, &report.completions) {
         return Err(fault);
     }
-    let checked = match check_log(alloc, spec, &report.log) {
+    let checked = match check_log(alloc, spec, question, &report.log) {
         Ok(checked) => checked,
         Err(fault) => return Err(fault),
     };
     if let Some(missing) = lacking(spec, question, report, has_empty(&checked)) {
         return Err(not_shown(missing));
     }
-    check_units(alloc, spec, question, report, &checked)
+    if let Err(fault) = check_units(alloc, spec, question, report, &checked) {
+        return Err(fault);
+    }
+    check_common(alloc, spec, question, report)
 }
 
 // A law: what every specification keeps, as its parts say it.

@@ -10,6 +10,7 @@ ghost use Rattle.spec_model.specs.Facts.{IsSpecification};
 ghost use Rattle.spec_model.specs.Spec.{Spec};
 ghost use Rattle.spec_model.specs.declared.question.Question.{Question};
 
+use answer_laws::{answers_in_are_decided, instances_exist};
 use checked_logs::accepted_logs_are_true;
 use completion_check::{first_flaw_is_one, flaw_rules_out};
 use log_checker::one_verdict_on_a_log;
@@ -30,6 +31,8 @@ pub fn shown_is_right()
         → ShowsVerdict s question report → is_decided (kind_of report.verdict) ≡ true → IsRight s question report.verdict }
 {
     accepted_logs_are_true();
+    instances_exist();
+    answers_in_are_decided();
 }
 
 /// A report has one first check that fails.

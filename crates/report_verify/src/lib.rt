@@ -2,6 +2,7 @@
 #![tactic(auto)]
 
 mod claim;
+mod common;
 mod completions;
 mod fault;
 mod items;

@@ -1,9 +1,10 @@
-ghost use Rattle.std.specs.Prelude.{◌≡◌, IfOk, IfErr};
+ghost use Rattle.std.specs.Prelude.{◌≡◌, IfOk, IfErr, option_map};
 ghost use Rattle.std.specs.List.{list_any};
 ghost use Rattle.log_checker.specs.Accepted.{IsAccepted, IsNumbered};
 ghost use Rattle.log_checker.specs.Shown.{is_empty};
 ghost use Rattle.refutation_log.specs.Steps.{clauses_of};
 ghost use Rattle.refutation_log.specs.declared.log.Log.{Log as LogOf};
+ghost use Rattle.report_verify.specs.Asked.{query_of};
 ghost use Rattle.report_verify.specs.Judged.{IsBadIn, IsShownOf};
 ghost use Rattle.report_verify.specs.Shown.{step_of_fault};
 
@@ -11,7 +12,7 @@ use crate::{Unshown, VerifyFault};
 use log_checker::{Checked, LogFault, check};
 use refutation_log::Log;
 use report_model::Part;
-use spec_model::Specification;
+use spec_model::{Query, Question, Specification};
 use std::alloc::Global;
 
 // Is the log accepted, and what does it then show? Otherwise what it fails first. A log with no step needs no
@@ -19,17 +20,18 @@ use std::alloc::Global;
 pub(crate) fn check_log(
     alloc: Global,
     spec: &Specification,
+    question: &Question,
     log: &Log,
 ) -> Result<Option<Checked>, VerifyFault>
     requires { IsNumbered log.now.statements log.now.steps }
-    ensures accepted { IfOk result (λ _. IsAccepted spec.now log.now.statements log.now.steps) }
+    ensures accepted { IfOk result (λ _. IsAccepted spec.now (query_of question.now) log.now) }
     ensures shown { IfOk result (IsShownOf log.now) }
-    ensures bad { IfErr result (IsBadIn spec.now log.now) }
+    ensures bad { IfErr result (IsBadIn spec.now (query_of question.now) log.now) }
 {
     if log.steps.len() == 0 {
         return Ok(None);
     }
-    match check(alloc, spec, log) {
+    match check(alloc, spec, query_of(question), log) {
         Ok(checked) => Ok(Some(checked)),
         Err(fault) => match step_of(fault) {
             Some(step) => Err(VerifyFault::Refused {
@@ -38,6 +40,16 @@ pub(crate) fn check_log(
             }),
             None => Err(VerifyFault::NoMemory),
         },
+    }
+}
+
+// The query of a question, if it asks for answers.
+fn query_of(question: &Question) -> Option<&Query>
+    ensures { option_map (λ q. q.now) result ≡ query_of question.now }
+{
+    match question {
+        Question::Answers(query) => Some(query),
+        _ => None,
     }
 }
 

@@ -2,11 +2,11 @@ ghost use Rattle.std.specs.Prelude.{◌≡◌, ◌+◌, ℕ, List, All, IfOk, If
 ghost use Rattle.refutation_log.specs.declared.log.Log.{Log as LogOf};
 ghost use Rattle.report_model.specs.declared.report.Part.TheVariants as part;
 ghost use Rattle.report_verify.specs.Judged.{IsFirstUnmet, IsShownOf, IsUnmet, IsUnmetFrom};
-ghost use Rattle.report_verify.specs.Supported.{IsDerived, Need, item_needs, needs_of, pair_needs, value_needs};
+ghost use Rattle.report_verify.specs.Supported.{IsDerived, Need, answer_needs, item_needs, needs_of, pair_needs, value_needs};
 ghost use Rattle.spec_model.specs.declared.relation.Relation.{Relation};
 
 use crate::{Missing, Unshown, VerifyFault};
-use currency_base::{AttrId, NoMemory};
+use currency_base::{AttrId, NoMemory, Tuple, TupleList};
 use log_checker::Checked;
 use log_units::Units;
 use refutation_log::Log;
@@ -39,6 +39,13 @@ pub(crate) fn check_units(
             _ => Ok(()),
         },
         Verdict::Same(items) => check_claimed_items(alloc, spec, &report.log, checked, items),
+        Verdict::Answers(tuples) => check_claimed_answers(
+            alloc,
+            spec,
+            &report.log,
+            checked,
+            tuples,
+        ),
         _ => Ok(()),
     }
 }
@@ -75,6 +82,24 @@ fn check_claimed_items(
 {
     match units_of(alloc, spec, log, checked) {
         Ok(units) => check_items(&units, items.as_slice()),
+        Err(_) => Err(VerifyFault::NoMemory),
+    }
+}
+
+// Has a log the unit of each of these answers?
+fn check_claimed_answers<'a>(
+    alloc: Global,
+    spec: &'a Specification,
+    log: &'a Log,
+    checked: &Option<Checked>,
+    tuples: &'a TupleList,
+) -> Result<(), VerifyFault>
+    requires { IsShownOf log.now checked.now }
+    ensures derived { OnOk result (All (IsDerived spec.now.relations log.now) (answer_needs 0 tuples.now)) }
+    ensures unmet { IfErr result (IsUnmet spec.now.relations log.now (answer_needs 0 tuples.now)) }
+{
+    match units_of(alloc, spec, log, checked) {
+        Ok(units) => check_answers(&units, tuples.as_slice()),
         Err(_) => Err(VerifyFault::NoMemory),
     }
 }
@@ -143,15 +168,28 @@ fn check_values(
             return Err(VerifyFault::NoMemory);
         }
         if !units.has_last(item.rel, AttrId(attr as u32), item.ent, value) {
-            return Err(unmet_value(at, place));
+            return Err(unmet_item(at, place));
         }
         place += 1;
     }
     Ok(place)
 }
 
+// Is there the unit of each of these answers?
+fn check_answers<'a>(units: &Units<'a>, tuples: &'a [Tuple]) -> Result<(), VerifyFault>
+    ensures derived { OnOk result (All (IsDerived units.now.relations units.now.log) (answer_needs 0 tuples.now)) }
+    ensures unmet { IfErr result (IsUnmet units.now.relations units.now.log (answer_needs 0 tuples.now)) }
+{
+    for (place, tuple) in tuples.iter().enumerate() {
+        if !units.has_answer(tuple) {
+            return Err(unmet_item(place, place));
+        }
+    }
+    Ok(())
+}
+
 // A refusal for the claim of an item at a place. An item past the numbers of 32 bits counts as want of memory.
-fn unmet_value(item: usize, place: usize) -> VerifyFault
+fn unmet_item(item: usize, place: usize) -> VerifyFault
     ensures { (from at : ℕ) (relations : List Relation) (log : LogOf) (needs : List Need) → place ≡ from + at
         → IsFirstUnmet relations log needs (part.Item item) at → IsUnmetFrom from relations log needs result }
 {

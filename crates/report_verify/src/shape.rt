@@ -1,4 +1,5 @@
 ghost use Rattle.std.specs.Prelude.{◌≡◌, true, false, Contains, IfOk};
+ghost use Rattle.query_model.specs.Answers.{AreAscending, IsBelow};
 ghost use Rattle.report_model.specs.declared.verdict.Verdict.TheVariants as verdict;
 ghost use Rattle.report_verify.specs.Supported.{IsOneOf};
 ghost use Rattle.currency_base.specs.declared.ids.AttrId.{AttrId};
@@ -7,10 +8,11 @@ ghost use Rattle.spec_model.specs.Questions.{IsQuestionOn};
 ghost use Rattle.spec_model.specs.Spec.{Spec};
 
 use crate::items::are_items_of;
-use currency_base::{NoMemory, RelId};
+use currency_base::{NoMemory, RelId, Tuple, TupleList, laws_of_tuple_order};
 use report_model::{CurrentList, Verdict};
 use spec_model::{Asked, Question, Specification};
 use std::alloc::Global;
+use std::cmp::Ordering;
 
 // Is the verdict one of the question's?
 pub(crate) fn is_one_of(
@@ -31,7 +33,7 @@ pub(crate) fn is_one_of(
         Verdict::NotCertain(pair) => Ok(asks_pair(question, *pair)),
         Verdict::Same(items) => asks_items(alloc, spec, question, items),
         Verdict::NotSame { rel, .. } => Ok(asks_relation(question, *rel)),
-        Verdict::Answers(_) => Ok(false),
+        Verdict::Answers(tuples) => Ok(asks_answers(question, tuples)),
     }
 }
 
@@ -77,4 +79,38 @@ fn asks_items(
         ),
         _ => Ok(false),
     }
+}
+
+// Are answers asked for, and do the tuples ascend?
+fn asks_answers(question: &Question, tuples: &TupleList) -> bool
+    ensures is { result ≡ true → (s : Spec) → IsOneOf s question.now (verdict.Answers tuples.now) }
+    ensures other { result ≡ false → (s : Spec) → IsOneOf s question.now (verdict.Answers tuples.now) → ⊥ }
+{
+    match question {
+        Question::Answers(_) => are_ascending(tuples.as_slice()),
+        _ => false,
+    }
+}
+
+// Is each tuple below the next, and so below all that are after it?
+fn are_ascending(tuples: &[Tuple]) -> bool
+    ensures are { result ≡ true → AreAscending tuples.now }
+    ensures other { result ≡ false → AreAscending tuples.now → ⊥ }
+{
+    laws_of_tuple_order();
+    for place in 1..tuples.len() {
+        let before = place - 1;
+        if !is_below(&tuples[before], &tuples[place]) {
+            return false;
+        }
+    }
+    true
+}
+
+// Is a tuple below another?
+fn is_below(tuple: &Tuple, other: &Tuple) -> bool
+    ensures is { result ≡ true → IsBelow tuple.now other.now }
+    ensures apart { result ≡ false → IsBelow tuple.now other.now → ⊥ }
+{
+    tuple.order(other) == Ordering::Less
 }

@@ -2,10 +2,10 @@
 use Rattle.std.proofs.Common.{◌≡◌, Bool, true, false, not, cond, List, [], ◌∷◌, inl, inr, refl, ap, subst, Option, Some, None, codes}
 use Rattle.text_tokens.specs.Lexeme.{Lexeme}
 use Rattle.text_tokens.specs.declared.token.TokenKind.TheVariants.{Word, Symbol}
-use Rattle.text_grammar.specs.Words.{is_word, is_symbol, is_variable_token, named, variable, constant}
+use Rattle.text_grammar.specs.Words.{is_word, is_symbol, is_variable_token, variable}
 use Rattle.text_grammar.specs.Grammar.{Language, ◌⋅◌, Says, IsWord, IsSymbol, SpellsName, Maybe, Listed}
 use Rattle.text_grammar.specs.Reading.{one, both, after, before, listed}
-use Rattle.text_grammar.specs.Laws.{IsReader, IsPlain}
+use Rattle.text_grammar.specs.Laws.{IsReader}
 use Rattle.text_grammar.specs.declared.named.Const.{Const}
 use Rattle.text_grammar.specs.declared.named.Named.{Named}
 use Rattle.text_grammar.proofs.Readers.{always, Begins, Continues, Ended, Image, begins_continues, begins_image, first_passes, first_says, first_then, first_two, last_two, reads_continued, reads_made, reads_mapped, reads_one, reads_same, reads_then, reads_two}
@@ -13,7 +13,6 @@ use Rattle.text_grammar.proofs.Choices.{Either, maybe_ends, reads_choose, reads_
 use Rattle.text_grammar.proofs.ListReaders.{reads_until}
 use Rattle.text_grammar.proofs.FixedTokens.{a_fixed, a_fixed_is, apart, reads_constant, reads_name, reads_variable, reads_word, after_word, after_symbol, before_word, listed_symbol, listed_word, begins_fixed}
 use Rattle.text_grammar.proofs.VariableTokens.{constant_is_no_variable, variable_is, variable_not_false, variable_not_if}
-use Rattle.text_grammar.proofs.Tellings.{plain_one, plain_passing, plain_both, plain_continued, plain_after, plain_before, plain_mapped, plain_maybe, plain_choose, plain_listed}
 use Rattle.currency_base.specs.declared.value.Cmp.{Cmp}
 use Rattle.currency_base.specs.declared.value.Cmp.TheVariants.{Eq}
 use Rattle.rule_syntax.specs.declared.trees.ConclusionTree.{ConclusionTree}
@@ -349,60 +348,3 @@ pub begins_rule : (test : Lexeme → Bool) (b : Bool) → ((t : Lexeme) → is_w
 begins_rule test b goes = begins_fixed
     (λ (r : RuleTree). SpellsName r.name ⋅ IsWord (codes "on") ⋅ SpellsName r.relation ⋅ IsSymbol (codes "(") ⋅ Vars (r.vars, (r.predicates, r.conclusion)))
     Word (codes "rule") test b goes
-
--- ---- no word of a rule is one of a form that isn't built
-
-plain_atom_after : (v : Named) → IsPlain (atom_after v)
-unfolding atom_after
-plain_atom_after v = plain_mapped (λ (x : Named × Named). record { earlier = v; later = x.0; attr = x.1 })
-    (plain_after (is_word (codes "before")) (plain_both (plain_one variable) (plain_after (is_word (codes "in")) (plain_one named))))
-
-plain_atom : IsPlain atom_at
-unfolding atom_at
-plain_atom = plain_continued (plain_one variable) plain_atom_after
-
-plain_field_after : (v : Named) → IsPlain (field_after v)
-unfolding field_after
-plain_field_after v = plain_mapped (λ (attr : Named). Field v attr) (plain_after (is_symbol (codes ".")) (plain_one named))
-
-plain_field : IsPlain field_at
-unfolding field_at
-plain_field = plain_continued (plain_one variable) plain_field_after
-
-plain_constant : IsPlain constant_at
-unfolding constant_at
-plain_constant = plain_mapped (λ (c : Const). Constant c) (plain_one constant)
-
-plain_term : IsPlain term_at
-unfolding term_at
-plain_term = plain_choose is_variable_token plain_field plain_constant
-
-plain_comparison_after : (left : TermTree) → IsPlain (comparison_after left)
-unfolding comparison_after
-plain_comparison_after left = plain_mapped (λ (x : Cmp × TermTree). predicate.Compare left x.0 x.1) (plain_both (plain_one cmp_named) plain_term)
-
-plain_predicate_after : (v : Named) → IsPlain (predicate_after v)
-unfolding predicate_after
-plain_predicate_after v = plain_choose (is_word (codes "before")) (plain_mapped (λ (a : OrderAtomTree). predicate.Order a) (plain_atom_after v))
-    (plain_continued (plain_field_after v) plain_comparison_after)
-
-plain_predicate : IsPlain predicate_at
-unfolding predicate_at
-plain_predicate = plain_choose is_variable_token (plain_continued (plain_one variable) plain_predicate_after) (plain_continued plain_constant plain_comparison_after)
-
-plain_conditions : IsPlain conditions_at
-unfolding conditions_at
-plain_conditions = plain_mapped all_of (plain_maybe (is_word (codes "if")) (plain_after (is_word (codes "if"))
-    (plain_before (is_word (codes "then")) (plain_listed (is_word (codes "and")) plain_predicate))))
-
-plain_conclusion : IsPlain conclusion_at
-unfolding conclusion_at
-plain_conclusion = plain_choose (is_word (codes "false")) (plain_mapped (λ (u : Unit {0}). conclusion.Never) (plain_passing (is_word (codes "false"))))
-    (plain_mapped (λ (a : OrderAtomTree). conclusion.Order a) plain_atom)
-
-pub plain_rule : IsPlain rule_at
-unfolding rule_at
-plain_rule = plain_mapped rule_of
-    (plain_after (is_word (codes "rule")) (plain_both (plain_one named) (plain_after (is_word (codes "on")) (plain_both (plain_one named)
-    (plain_after (is_symbol (codes "(")) (plain_both (plain_listed (is_symbol (codes ",")) (plain_one variable))
-    (plain_after (is_symbol (codes ")")) (plain_after (is_symbol (codes ":")) (plain_both plain_conditions plain_conclusion)))))))))

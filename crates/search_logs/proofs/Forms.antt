@@ -1,10 +1,11 @@
 -- A log whose statements ascend and are on what is there is well formed, where the literals of its steps are of its statements.
-use Rattle.std.proofs.Common.{◌≡◌, ◌∙◌, ◌<◌, ◌+◌, ℕ, Bool, true, not, List, [], ◌∷◌, All, Option, Some, None, if◌then◌else◌, length, slice_get, refl, ap, inl, inr}
+use Rattle.std.proofs.Common.{◌≡◌, ◌∙◌, ◌<◌, ◌+◌, ℕ, Bool, true, not, List, [], ◌∷◌, All, Option, Some, None, if◌then◌else◌, length, slice_get, slice_index_or, refl, ap, inl, inr, arith}
 use Rattle.std.specs.Prelude.{nat_lt}
 use Rattle.std.specs.Ordering.{is_lt}
 use Rattle.std.specs.List.{list_all}
 use Rattle.std.proofs.lemmas.Bool.{and_from, lt-ltb, eq-eqb}
 use Rattle.std.proofs.lemmas.List.Elements.{All-head, All-tail}
+use Rattle.std.proofs.lemmas.Option.{slice_get-get_or}
 use Rattle.currency_base.specs.Literals.{var_of}
 use Rattle.currency_base.specs.declared.error_code.ErrorCode.{ErrorCode}
 use Rattle.currency_base.specs.declared.error_code.ErrorCode.TheVariants.{UnknownName, DuplicateName, Mismatch, UnknownRow, NotOneEntity}
@@ -13,7 +14,9 @@ use Rattle.currency_base.specs.declared.ids.RelId.{RelId}
 use Rattle.currency_base.specs.declared.ids.RowId.{RowId}
 use Rattle.currency_base.specs.declared.lit.Lit.{Lit}
 use Rattle.currency_base.specs.declared.row.Row.{Row}
+use Rattle.currency_base.specs.declared.value.Value.{Value}
 use Rattle.partial_orders.specs.Pairs.{entity_of}
+use Rattle.query_model.specs.Answers.{AreAscending}
 use Rattle.spec_model.specs.Facts.{AreRelations}
 use Rattle.spec_model.specs.declared.relation.Relation.{Relation}
 use Rattle.refutation_log.specs.Counted.{AreWithin}
@@ -24,35 +27,67 @@ use Rattle.refutation_log.specs.declared.statement.Statement.TheVariants.{Before
 use Rattle.refutation_log.specs.declared.step.Step.{Step}
 use Rattle.log_form.specs.Form.{is_below, rows_of, has_attr, is_known, is_above, is_first_alike, is_canonical, is_row, has_rows, is_one, is_pair, statement_fault, statements_fault, steps_fault, or_else, first_fault}
 use Rattle.log_form.specs.declared.form.FormFault.{FormFault}
-use Rattle.literal_laws.proofs.Ascents.{Ascends, precedes_less}
+use Rattle.literal_laws.proofs.Ascents.{Ascends, Precedes, precedes_less}
 use Rattle.literal_laws.proofs.Items.{IsIn}
 use Rattle.literal_laws.proofs.Order.{IsBelow}
 use Rattle.order_literals.specs.Statements.{key_of, statement_cmp}
 use Rattle.order_clauses.proofs.Members.{row_within}
+use Rattle.search_logs.proofs.Answered.{answer_less}
 use Rattle.search_logs.proofs.Bounds.{facts_of}
 use Rattle.search_logs.proofs.Canonical as canonical
 use Rattle.search_logs.proofs.Numbered.{IsOnRows}
 
 -- ---- the order of statements
 
--- of statements that are not both on answers, one is below another by their numbers
-below_is : (relations : List Relation) (s t : Statement) → IsOnRows relations s → is_below [] s t ≡ is_lt (statement_cmp s t)
-below_is relations (Before rel attr a b) (Before rel' attr' a' b') on = refl
-below_is relations (Before rel attr a b) (Top rel' attr' row') on = refl
-below_is relations (Before rel attr a b) (Last rel' attr' row') on = refl
-below_is relations (Before rel attr a b) (Answer tuple') on = refl
-below_is relations (Top rel attr row) (Before rel' attr' a' b') on = refl
-below_is relations (Top rel attr row) (Top rel' attr' row') on = refl
-below_is relations (Top rel attr row) (Last rel' attr' row') on = refl
-below_is relations (Top rel attr row) (Answer tuple') on = refl
-below_is relations (Last rel attr row) (Before rel' attr' a' b') on = refl
-below_is relations (Last rel attr row) (Top rel' attr' row') on = refl
-below_is relations (Last rel attr row) (Last rel' attr' row') on = refl
-below_is relations (Last rel attr row) (Answer tuple') on = refl
-below_is relations (Answer tuple) t on = absurd on
+-- a statement that is not on an answer
+abbrev IsOfRows : Statement → Type 0
+IsOfRows (Answer tuple) = ⊥
+IsOfRows other = Unit {0}
 
-below_passes : (relations : List Relation) (s t : Statement) → IsOnRows relations s → IsBelow s t → is_below [] s t ≡ true
-below_passes relations s t on below = below_is relations s t on ∙ ap is_lt (precedes_less (key_of s) (key_of t) below)
+-- of statements that are not both on answers, one is below another by their numbers
+below_is : (answers : List (List Value)) (s t : Statement) → IsOfRows s → is_below answers s t ≡ is_lt (statement_cmp s t)
+below_is answers (Before rel attr a b) (Before rel' attr' a' b') on = refl
+below_is answers (Before rel attr a b) (Top rel' attr' row') on = refl
+below_is answers (Before rel attr a b) (Last rel' attr' row') on = refl
+below_is answers (Before rel attr a b) (Answer tuple') on = refl
+below_is answers (Top rel attr row) (Before rel' attr' a' b') on = refl
+below_is answers (Top rel attr row) (Top rel' attr' row') on = refl
+below_is answers (Top rel attr row) (Last rel' attr' row') on = refl
+below_is answers (Top rel attr row) (Answer tuple') on = refl
+below_is answers (Last rel attr row) (Before rel' attr' a' b') on = refl
+below_is answers (Last rel attr row) (Top rel' attr' row') on = refl
+below_is answers (Last rel attr row) (Last rel' attr' row') on = refl
+below_is answers (Last rel attr row) (Answer tuple') on = refl
+below_is answers (Answer tuple) t on = absurd on
+
+rows_below : (answers : List (List Value)) (s t : Statement) → IsOfRows s → IsBelow s t → is_below answers s t ≡ true
+rows_below answers s t on below = below_is answers s t on ∙ ap is_lt (precedes_less (key_of s) (key_of t) below)
+
+-- of two answers that are there
+answers_below : (answers : List (List Value)) → AreAscending answers → (a b : ℕ) → a < b → b < length answers
+    → is_below answers (Answer a) (Answer b) ≡ true
+answers_below answers up a b below within =
+    ap is_lt
+    (up a b (slice_index_or answers a []) (slice_index_or answers b []) below (slice_get-get_or answers a [] (omega (arith, below, within)))
+    (slice_get-get_or answers b [] within))
+
+-- a greater number does not come first
+not_first : (x y : ℕ) (xs ys : List ℕ) → y < x → Precedes (x ∷ xs) (y ∷ ys) → ⊥
+not_first x y xs ys less (inl low) = absurd (omega (arith, less, low))
+not_first x y xs ys less (inr more) = let e = more.0 in absurd (omega (arith, less, e))
+
+below_passes : (relations : List Relation) (answers : List (List Value)) → AreAscending answers → (s t : Statement)
+    → IsOnRows relations (length answers) t → IsBelow s t → is_below answers s t ≡ true
+below_passes relations answers up (Before rel attr a b) t on below = rows_below answers (Before rel attr a b) t tt below
+below_passes relations answers up (Top rel attr row) t on below = rows_below answers (Top rel attr row) t tt below
+below_passes relations answers up (Last rel attr row) t on below = rows_below answers (Last rel attr row) t tt below
+below_passes relations answers up (Answer tuple) (Before rel attr a b) on below =
+    absurd (not_first 3 0 (tuple ∷ []) (rel.0 ∷ attr.0 ∷ a.0 ∷ b.0 ∷ []) (omega arith) below)
+below_passes relations answers up (Answer tuple) (Top rel attr row) on below =
+    absurd (not_first 3 1 (tuple ∷ []) (rel.0 ∷ attr.0 ∷ row.0 ∷ []) (omega arith) below)
+below_passes relations answers up (Answer tuple) (Last rel attr row) on below =
+    absurd (not_first 3 2 (tuple ∷ []) (rel.0 ∷ attr.0 ∷ row.0 ∷ []) (omega arith) below)
+below_passes relations answers up (Answer tuple) (Answer other) on below = answers_below answers up tuple other (answer_less tuple other below) on
 
 -- ---- one statement
 
@@ -78,8 +113,8 @@ record Passes (relations : List Relation) (st : Statement) : Type 0 where
   rows : has_rows relations st ≡ true
   pair : is_pair relations st ≡ true
 
-passes : (relations : List Relation) → AreRelations relations → (st : Statement) → IsOnRows relations st → Passes relations st
-passes relations are (Before rel attr a b) on =
+passes : (relations : List Relation) → AreRelations relations → (answers : ℕ) (st : Statement) → IsOnRows relations answers st → Passes relations st
+passes relations are answers (Before rel attr a b) on =
     let r = on.relation in
     let at = on.is_relation in
     record {
@@ -93,14 +128,14 @@ passes relations are (Before rel attr a b) on =
           (ap (λ (rows : List Row). entity_of rows b.0) (rows_are relations rel r at) ∙ on.later_of))
           (lt-ltb a.0 b.0 on.below);
     }
-passes relations are (Top rel attr row) on =
+passes relations are answers (Top rel attr row) on =
     record {
       known = attr_passes relations rel attr on.relation on.is_relation on.attr_in;
       canonical = refl;
       rows = row_passes relations rel row on.relation on.ent on.is_relation on.row_of;
       pair = refl;
     }
-passes relations are (Last rel attr row) on =
+passes relations are answers (Last rel attr row) on =
     let its = on.on in
     let r = its.relation in
     record {
@@ -110,7 +145,7 @@ passes relations are (Last rel attr row) on =
       rows = row_passes relations rel row r its.ent its.is_relation its.row_of;
       pair = refl;
     }
-passes relations are (Answer tuple) on = absurd on
+passes relations are answers (Answer tuple) on = record { known = refl; canonical = refl; rows = refl; pair = refl }
 
 -- five checks, one after another
 abbrev checked : Bool → Bool → Bool → Bool → Bool → Option ErrorCode
@@ -125,24 +160,25 @@ checked a b c d e =
 all_checked : (a b c d e : Bool) → a ≡ true → b ≡ true → c ≡ true → d ≡ true → e ≡ true → checked a b c d e ≡ None
 all_checked a b c d e p q r s t = rw (p, q, r, s, t) refl
 
-no_fault : (relations : List Relation) → AreRelations relations → (before : Option Statement) (st : Statement) → is_above [] before st ≡ true
-    → IsOnRows relations st → statement_fault relations [] before st ≡ None
-no_fault relations are before st above on =
-    let its = passes relations are st on in
-    all_checked (is_known relations st) (is_above [] before st) (is_canonical relations st) (has_rows relations st) (is_pair relations st)
+no_fault : (relations : List Relation) → AreRelations relations → (answers : List (List Value)) (before : Option Statement) (st : Statement)
+    → is_above answers before st ≡ true → IsOnRows relations (length answers) st → statement_fault relations answers before st ≡ None
+no_fault relations are answers before st above on =
+    let its = passes relations are (length answers) st on in
+    all_checked (is_known relations st) (is_above answers before st) (is_canonical relations st) (has_rows relations st) (is_pair relations st)
     its.known above its.canonical its.rows its.pair
 
 -- ---- all statements
 
-pub no_statement_fault : (relations : List Relation) → AreRelations relations → (at : ℕ) (before : Option Statement) (statements : List Statement)
-    → ((st : Statement) → IsIn statements st → is_above [] before st ≡ true) → Ascends IsBelow statements
-    → ((st : Statement) → IsIn statements st → IsOnRows relations st) → statements_fault relations [] at before statements ≡ None
-no_statement_fault relations are at before [] above up on = refl
-no_statement_fault relations are at before (st ∷ statements) above up on =
-    let here = no_fault relations are before st (above st (inl refl)) (on st (inl refl)) in
+pub no_statement_fault : (relations : List Relation) → AreRelations relations → (answers : List (List Value)) → AreAscending answers → (at : ℕ)
+    (before : Option Statement) (statements : List Statement) → ((st : Statement) → IsIn statements st → is_above answers before st ≡ true)
+    → Ascends IsBelow statements → ((st : Statement) → IsIn statements st → IsOnRows relations (length answers) st)
+    → statements_fault relations answers at before statements ≡ None
+no_statement_fault relations are answers tuples at before [] above up on = refl
+no_statement_fault relations are answers tuples at before (st ∷ statements) above up on =
+    let here = no_fault relations are answers before st (above st (inl refl)) (on st (inl refl)) in
     let rest =
-    no_statement_fault relations are (at + 1) (Some st) statements
-    (λ later there. below_passes relations st later (on st (inl refl)) (up.0 later there)) up.1 (λ later there. on later (inr there)) in
+    no_statement_fault relations are answers tuples (at + 1) (Some st) statements
+    (λ later there. below_passes relations answers tuples st later (on later (inr there)) (up.0 later there)) up.1 (λ later there. on later (inr there)) in
     rw (here, rest) refl
 
 -- ---- steps
@@ -162,11 +198,10 @@ no_step_fault n at (step ∷ steps) within =
 
 -- ---- a log
 
-pub well_formed : (relations : List Relation) → AreRelations relations → (log : Log) → log.answers ≡ [] → Ascends IsBelow log.statements
-    → ((st : Statement) → IsIn log.statements st → IsOnRows relations st) → AreWithin (length log.statements) log.steps
+pub well_formed : (relations : List Relation) → AreRelations relations → (log : Log) → AreAscending log.answers → Ascends IsBelow log.statements
+    → ((st : Statement) → IsIn log.statements st → IsOnRows relations (length log.answers) st) → AreWithin (length log.statements) log.steps
     → first_fault relations log ≡ None
-well_formed relations are log none up on within =
-    let statements = no_statement_fault relations are 0 None log.statements (λ st there. refl) up on in
+well_formed relations are log tuples up on within =
+    let statements = no_statement_fault relations are log.answers tuples 0 None log.statements (λ st there. refl) up on in
     let steps = no_step_fault (length log.statements) 0 log.steps within in
-    ap (λ answers. or_else (statements_fault relations answers 0 None log.statements) (steps_fault (length log.statements) 0 log.steps)) none
-    ∙ ap (λ (o : Option FormFault). or_else o (steps_fault (length log.statements) 0 log.steps)) statements ∙ steps
+    ap (λ (o : Option FormFault). or_else o (steps_fault (length log.statements) 0 log.steps)) statements ∙ steps

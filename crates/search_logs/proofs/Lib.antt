@@ -2,6 +2,7 @@ mod OnceLists
 mod Bounds
 mod Numbered
 mod Canonical
+mod Answered
 mod Forms
 mod Instances
 mod Labels

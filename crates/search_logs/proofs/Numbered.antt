@@ -47,12 +47,12 @@ pub record IsOnName (relations : List Relation) (rel : RelId) (attr : AttrId) (r
   pub on : IsOnRow relations rel attr row
   pub itself : name_of on.relation.rows attr.0 row ≡ row
 
--- a statement on what is there, and not on an answer
-abbrev pub IsOnRows : List Relation → Statement → Type 0
-IsOnRows relations (Before rel attr earlier later) = IsOnPair relations rel attr earlier later
-IsOnRows relations (Top rel attr row) = IsOnRow relations rel attr row
-IsOnRows relations (Last rel attr row) = IsOnName relations rel attr row
-IsOnRows relations (Answer tuple) = ⊥
+-- a statement on what is there, where there are so many answers
+abbrev pub IsOnRows : List Relation → ℕ → Statement → Type 0
+IsOnRows relations answers (Before rel attr earlier later) = IsOnPair relations rel attr earlier later
+IsOnRows relations answers (Top rel attr row) = IsOnRow relations rel attr row
+IsOnRows relations answers (Last rel attr row) = IsOnName relations rel attr row
+IsOnRows relations answers (Answer tuple) = tuple < answers
 
 -- ---- tables are of relations
 
@@ -152,13 +152,11 @@ module _ (relations : List Relation) (wanted : Wanted) where
         itself = same_Some (name_of r.rows attr.0 row) row (sym (name_at r.rows attr.0 row row_in) ∙ named);
       }
 
-  -- each statement that is numbered is on what is there, where no answers are numbered
-  pub numbered_on : wanted.answers ≡ 0 → (st : Statement) → IsIn (statements_of (numbers_of relations wanted)) st → IsOnRows relations st
-  numbered_on none (Before rel attr t u) at =
+  -- each statement that is numbered is on what is there
+  pub numbered_on : (st : Statement) → IsIn (statements_of (numbers_of relations wanted)) st → IsOnRows relations wanted.answers st
+  numbered_on (Before rel attr t u) at =
       let is = before_in (numbers_of relations wanted) rel attr t u at in
       on_pair rel attr t u is.0 is.1
-  numbered_on none (Top rel attr row) at = on_row rel attr row (top_in (numbers_of relations wanted) rel attr row at)
-  numbered_on none (Last rel attr row) at = on_name rel attr row (last_in (numbers_of relations wanted) rel attr row at)
-  numbered_on none (Answer tuple) at =
-      let below : tuple < wanted.answers = answer_in (numbers_of relations wanted) tuple at in
-      absurd (omega (arith, below, none))
+  numbered_on (Top rel attr row) at = on_row rel attr row (top_in (numbers_of relations wanted) rel attr row at)
+  numbered_on (Last rel attr row) at = on_name rel attr row (last_in (numbers_of relations wanted) rel attr row at)
+  numbered_on (Answer tuple) at = answer_in (numbers_of relations wanted) tuple at

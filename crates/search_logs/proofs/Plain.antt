@@ -1,11 +1,10 @@
 -- Logs that can be written and are well formed: those of a search, and what these are trimmed to.
-use Rattle.std.proofs.Common.{◌≡◌, ◌<◌, ◌≤◌, ◌^◌, ℕ, List, [], ◌∷◌, All, Some, None, length, slice_get, refl, sym, subst, inl, inr, arith}
-use Rattle.std.proofs.lemmas.List.Elements.{All-nil}
+use Rattle.std.proofs.Common.{◌≡◌, ◌<◌, ◌≤◌, ◌^◌, ℕ, List, All, Some, None, length, slice_get, subst, arith}
 use Rattle.std.proofs.lemmas.Option.{slice_get_within}
 use Rattle.currency_base.specs.Lists.{OnlyOnce}
 use Rattle.currency_base.specs.Literals.{var_of}
 use Rattle.currency_base.specs.declared.lit.Lit.{Lit}
-use Rattle.currency_base.specs.declared.value.Value.{Value}
+use Rattle.query_model.specs.Answers.{AreAscending}
 use Rattle.spec_model.specs.Facts.{AreRelations}
 use Rattle.spec_model.specs.declared.relation.Relation.{Relation}
 use Rattle.refutation_log.specs.Counted.{AreWithin}
@@ -33,26 +32,20 @@ IsPlainStep (Axiom l lits) = IsWritableLabel l × OnlyOnce lits
 IsPlainStep (OnDemand l lits) = IsWritableLabel l × OnlyOnce lits
 IsPlainStep (Learn lits hints counted) = OnlyOnce lits × OnlyOnce hints
 
--- a log of such steps, whose statements ascend and are on what is there
+-- a log of such steps, whose answers and statements ascend and are on what is there
 pub record IsPlain (relations : List Relation) (log : Log) : Type 0 where
-  pub answers : log.answers ≡ []
+  pub ascending : AreAscending log.answers
+  pub values : All (AreFew IsValue) log.answers
+  pub answered : AreAnswered 0 log.statements log.answers
   pub few_steps : length log.steps ≤ 4294967294
   pub ascend : Ascends IsBelow log.statements
-  pub statements : (st : Statement) → IsIn log.statements st → IsOnRows relations st
+  pub statements : (st : Statement) → IsIn log.statements st → IsOnRows relations (length log.answers) st
   pub steps : (place : ℕ) (step : Step) → slice_get log.steps place ≡ Some step → IsPlainStep step
 
 -- ---- statements
 
-no_answers : (relations : List Relation) (n : ℕ) (statements : List Statement) → ((st : Statement) → IsIn statements st → IsOnRows relations st)
-    → AreAnswered n statements []
-no_answers relations n [] on = refl
-no_answers relations n (Before rel attr a b ∷ statements) on = no_answers relations n statements (λ st at. on st (inr at))
-no_answers relations n (Top rel attr row ∷ statements) on = no_answers relations n statements (λ st at. on st (inr at))
-no_answers relations n (Last rel attr row ∷ statements) on = no_answers relations n statements (λ st at. on st (inr at))
-no_answers relations n (Answer tuple ∷ statements) on = absurd (on (Answer tuple) (inl refl))
-
-writable_statement : (relations : List Relation) → AreRelations relations → (st : Statement) → IsOnRows relations st → IsWritableStatement st
-writable_statement relations are (Before rel attr a b) on =
+writable_statement : (relations : List Relation) → AreRelations relations → (answers : ℕ) (st : Statement) → IsOnRows relations answers st → IsWritableStatement st
+writable_statement relations are answers (Before rel attr a b) on =
     let r = on.relation in
     let at = on.is_relation in (
       rel_place relations are rel r at,
@@ -60,16 +53,16 @@ writable_statement relations are (Before rel attr a b) on =
       row_place relations are rel r a on.ent at on.earlier_of,
       row_place relations are rel r b on.ent at on.later_of,
     )
-writable_statement relations are (Top rel attr row) on =
+writable_statement relations are answers (Top rel attr row) on =
     let r = on.relation in
     let at = on.is_relation in
     (rel_place relations are rel r at, attr_place relations are rel r attr at on.attr_in, row_place relations are rel r row on.ent at on.row_of)
-writable_statement relations are (Last rel attr row) on =
+writable_statement relations are answers (Last rel attr row) on =
     let its = on.on in
     let r = its.relation in
     let at = its.is_relation in
     (rel_place relations are rel r at, attr_place relations are rel r attr at its.attr_in, row_place relations are rel r row its.ent at its.row_of)
-writable_statement relations are (Answer tuple) on = absurd on
+writable_statement relations are answers (Answer tuple) on = tt
 
 -- ---- steps
 
@@ -114,13 +107,12 @@ module _ (relations : List Relation) (are : AreRelations relations) (log : Log) 
   written =
       let few = inside.few_statements in
       record {
-        answered = subst (λ (answers : List (List Value)). AreAnswered 0 log.statements answers) (sym plain.answers)
-            (no_answers relations 0 log.statements plain.statements);
-        answers = subst (λ (answers : List (List Value)). All (AreFew IsValue) answers) (sym plain.answers) (All-nil (AreFew IsValue));
+        answered = plain.answered;
+        answers = plain.values;
         statements = record {
           few = omega (arith, few);
           each = all_placed IsWritableStatement log.statements
-              (λ k st at. writable_statement relations are st (plain.statements st (in_at log.statements k st at)));
+              (λ k st at. writable_statement relations are (length log.answers) st (plain.statements st (in_at log.statements k st at)));
         };
         steps = record { few = plain.few_steps; each = all_placed IsWritableStep log.steps step_written };
       }
@@ -129,4 +121,4 @@ module _ (relations : List Relation) (are : AreRelations relations) (log : Log) 
   formed =
       let within : AreWithin (length log.statements) log.steps =
       all_placed (λ step. All (λ lit. var_of lit < length log.statements) (clause_of step)) log.steps lits_in in
-      well_formed relations are log plain.answers plain.ascend plain.statements within
+      well_formed relations are log plain.ascending plain.ascend plain.statements within

@@ -1,8 +1,14 @@
 -- The log of a search over the statements of a specification.
-use Rattle.std.specs.Prelude.{◌≡◌, ◌<◌, ◌≤◌, ℕ, List, [], length, take, All, None, Some, slice_get}
+use Rattle.std.specs.Prelude.{◌≡◌, ◌⊎◌, ◌<◌, ◌≤◌, ℕ, true, List, length, take, All, None, Some, slice_get}
 use Rattle.currency_base.specs.Lists.{OnlyOnce}
 use Rattle.currency_base.specs.Literals.{var_of}
+use Rattle.currency_base.specs.declared.ids.EntId.{EntId}
 use Rattle.currency_base.specs.declared.lit.Lit.{Lit}
+use Rattle.currency_base.specs.declared.value.Value.{Value}
+use Rattle.log_axioms.specs.Axioms.{is_axiom}
+use Rattle.log_axioms.specs.Posed.{Posed}
+use Rattle.log_write.specs.Writable.{AreFew, IsWritableLabel}
+use Rattle.query_model.specs.Answers.{AreAscending}
 use Rattle.spec_limits.specs.Instances.{too_many_instances}
 use Rattle.spec_limits.specs.Limits.{exceeded, too_many_variables}
 use Rattle.spec_model.specs.Facts.{IsSpecification}
@@ -11,8 +17,11 @@ use Rattle.refutation_log.specs.Follows.{FollowsFrom}
 use Rattle.refutation_log.specs.Steps.{clauses_of}
 use Rattle.refutation_log.specs.declared.log.Log.{Log}
 use Rattle.refutation_log.specs.declared.statement.Statement.{Statement}
+use Rattle.refutation_log.specs.declared.step.Label.{Label}
+use Rattle.refutation_log.specs.declared.step.Label.TheVariants as label
 use Rattle.refutation_log.specs.declared.step.Step.{Step}
 use Rattle.refutation_log.specs.declared.step.Step.TheVariants as step
+use Rattle.text_write.specs.Written.{IsValue}
 use Rattle.order_literals.specs.Numbers.{numbers_of}
 use Rattle.order_literals.specs.Statements.{statements_of}
 use Rattle.order_literals.specs.declared.wanted.Wanted.{Wanted}
@@ -30,23 +39,45 @@ pub record IsDerivedStep (statements : List Statement) (earlier : List (List Lit
   pub lits_once : OnlyOnce lits
   pub hints_once : OnlyOnce hints
 
+-- what is posed of a search: tuples that ascend, at most a million, of values such as documents have
+pub record IsPosed (posed : Posed) : Type 0 where
+  pub ascending : AreAscending posed.answers
+  pub few : length posed.answers ≤ 1000000
+  pub values : All (AreFew IsValue) posed.answers
+
+-- literals that are the axiom of a match, whose label can be written: of the statements, and none twice
+pub record IsMatchStep (s : Spec) (posed : Posed) (statements : List Statement) (l : Label) (lits : List Lit) : Type 0 where
+  pub disjunct : ℕ
+  pub entities : List EntId
+  pub values : List Value
+  pub is_match : l ≡ label.Match disjunct entities values
+  pub judged : is_axiom s posed statements l lits ≡ true
+  pub within : All (λ lit. var_of lit < length statements) lits
+  pub once : OnlyOnce lits
+  pub writable : IsWritableLabel l
+
+-- literals that are the axiom of a label: of the specification, or of a match
+abbrev pub IsAxiomTaken : Spec → Posed → List Statement → Label → List Lit → Type 0
+IsAxiomTaken s posed statements l lits = IsAxiomStep s statements l lits (step.Axiom l lits) ⊎ IsMatchStep s posed statements l lits
+
 -- a step that a search adds after these clauses: the axiom of a label, or a clause that is derived
-abbrev pub IsSearchStep : Spec → List Statement → List (List Lit) → Step → Type 0
-IsSearchStep s statements earlier (step.Axiom l lits) = IsAxiomStep s statements l lits (step.Axiom l lits)
-IsSearchStep s statements earlier (step.OnDemand l lits) = IsAxiomStep s statements l lits (step.Axiom l lits)
-IsSearchStep s statements earlier (step.Learn lits hints counted) = IsDerivedStep statements earlier lits hints
+abbrev pub IsSearchStep : Spec → Posed → List Statement → List (List Lit) → Step → Type 0
+IsSearchStep s posed statements earlier (step.Axiom l lits) = IsAxiomTaken s posed statements l lits
+IsSearchStep s posed statements earlier (step.OnDemand l lits) = IsAxiomTaken s posed statements l lits
+IsSearchStep s posed statements earlier (step.Learn lits hints counted) = IsDerivedStep statements earlier lits hints
 
 -- each step is one that a search adds after the steps before it
-abbrev pub AreSearchSteps : Spec → List Statement → List Step → Type 0
-AreSearchSteps s statements steps =
-    (place : ℕ) (taken : Step) → slice_get steps place ≡ Some taken → IsSearchStep s statements (clauses_of (take place steps)) taken
+abbrev pub AreSearchSteps : Spec → Posed → List Statement → List Step → Type 0
+AreSearchSteps s posed statements steps =
+    (place : ℕ) (taken : Step) → slice_get steps place ≡ Some taken → IsSearchStep s posed statements (clauses_of (take place steps)) taken
 
--- the log of a search in which no answers are numbered
-pub record IsSearchLog (s : Spec) (wanted : Wanted) (log : Log) : Type 0 where
-  pub none_wanted : wanted.answers ≡ 0
-  pub answers : log.answers ≡ []
+-- the log of a search in which these answers are posed
+pub record IsSearchLog (s : Spec) (posed : Posed) (wanted : Wanted) (log : Log) : Type 0 where
+  pub is_posed : IsPosed posed
+  pub as_many : wanted.answers ≡ length posed.answers
+  pub answers : log.answers ≡ posed.answers
   pub statements : log.statements ≡ variables s wanted
-  pub steps : AreSearchSteps s (variables s wanted) log.steps
+  pub steps : AreSearchSteps s posed (variables s wanted) log.steps
 
 -- a specification within its limits
 pub record IsWithin (s : Spec) : Type 0 where

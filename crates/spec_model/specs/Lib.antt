@@ -6,8 +6,10 @@ pub mod Satisfies
 pub mod Compatible
 pub mod Consistent
 pub mod FirstFlaw
+pub mod Queries
 pub mod Questions
 pub mod Current
 pub use Rattle.partial_orders.specs.Pairs
 pub use Rattle.currency_base.specs.Lists
 pub use Rattle.copy_functions.specs.Copies
+pub use Rattle.query_model.specs.Fitting

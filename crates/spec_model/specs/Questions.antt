@@ -3,9 +3,10 @@ use Rattle.std.specs.Prelude.{◌≡◌, ◌<◌, List, length, All, Some, slice
 use Rattle.currency_base.specs.Lists.{OnlyOnce}
 use Rattle.currency_base.specs.declared.ids.RelId.{RelId}
 use Rattle.spec_model.specs.Facts.{IsGivenPair}
+use Rattle.spec_model.specs.Queries.{IsQueryOn}
 use Rattle.spec_model.specs.declared.question.Asked.{Asked}
 use Rattle.spec_model.specs.declared.question.Question.{Question}
-use Rattle.spec_model.specs.declared.question.Question.TheVariants.{Consistent, Certain, Same}
+use Rattle.spec_model.specs.declared.question.Question.TheVariants.{Consistent, Certain, Same, Answers}
 use Rattle.spec_model.specs.declared.relation.Relation.{Relation}
 
 -- a pair that can be asked about: of two different rows of one entity, in an attribute of their relation
@@ -24,3 +25,4 @@ abbrev pub IsQuestionOn : List Relation → Question → Type 0
 IsQuestionOn relations Consistent = Unit {0}
 IsQuestionOn relations (Certain pairs) = All (IsAskedPair relations) pairs
 IsQuestionOn relations (Same rels) = AreAskedRelations relations rels
+IsQuestionOn relations (Answers query) = IsQueryOn relations query

@@ -17,6 +17,7 @@ pub use denial_rules::{Binding, Rule, RuleList};
 pub use flaw::Flaw;
 pub use instance::{Instance, TupleTable};
 pub use partial_orders::Pairs;
+pub use query_model::Query;
 pub use question::{Asked, AskedList, Question, RelList};
 pub use relation::{Attr, AttrList, Relation, RelationList};
 pub use specification::Specification;

@@ -1,4 +1,5 @@
 use currency_base::{ItemList, Pair, RelId};
+use query_model::Query;
 
 /// A pair of rows that is asked about: is the value of the earlier row the older one, in the pair's
 /// attribute of this relation?
@@ -23,4 +24,6 @@ pub enum Question {
     Certain(AskedList),
     /// Are the current tuples of these relations the same in every consistent completion?
     Same(RelList),
+    /// Which tuples are answers of this query over the current instance of every consistent completion?
+    Answers(Query),
 }

@@ -5,25 +5,22 @@ use Rattle.text_tokens.specs.declared.token.TokenKind.TheVariants.{Word, Symbol}
 use Rattle.text_grammar.specs.Words.{is_word, is_symbol, named, quoted}
 use Rattle.text_grammar.specs.Grammar.{Language, ◌⋅◌, Says, IsWord, IsSymbol, SpellsName, SpellsString, Maybe, Listed}
 use Rattle.text_grammar.specs.Reading.{one, both, after, choose}
-use Rattle.text_grammar.specs.Laws.{IsReader, IsPlain, Tells}
+use Rattle.text_grammar.specs.Laws.{IsReader}
 use Rattle.text_grammar.specs.declared.named.Named.{Named}
 use Rattle.text_grammar.proofs.Readers.{always, Begins, Ended, FirstIs, Image, begins_image, first_then, reads_one, reads_two, reads_then, reads_made, reads_mapped, reads_same}
 use Rattle.text_grammar.proofs.Choices.{Either, maybe_ends, reads_maybe, reads_choose}
 use Rattle.text_grammar.proofs.ListReaders.{unless, reads_many_plain}
 use Rattle.text_grammar.proofs.FixedTokens.{a_fixed, a_fixed_is, apart, reads_name, reads_string, after_word, after_symbol, before_symbol, listed_symbol, begins_fixed}
-use Rattle.text_grammar.proofs.Tellings.{plain_one, plain_both, plain_after, plain_before, plain_mapped, plain_maybe, plain_choose, plain_many, plain_listed}
-use Rattle.text_grammar.proofs.TextLaws.{tells_never}
 use Rattle.rule_syntax.specs.Grammar.{SpellsRule}
-use Rattle.rule_syntax.proofs.Rules.{begins_rule, plain_rule, reads_rule}
+use Rattle.rule_syntax.proofs.Rules.{begins_rule, reads_rule}
 use Rattle.copy_syntax.specs.Grammar.{SpellsCopy}
-use Rattle.copy_syntax.proofs.Copies.{begins_copy, copy_ends, ends_copy, plain_copy, reads_copy}
+use Rattle.copy_syntax.proofs.Copies.{begins_copy, copy_ends, ends_copy, reads_copy}
 use Rattle.currency_base.specs.declared.value.Kind.TheVariants.{Text, Int}
 use Rattle.spec_syntax.specs.declared.trees.AttrTree.{AttrTree}
 use Rattle.spec_syntax.specs.declared.trees.OrderingTree.{OrderingTree}
 use Rattle.spec_syntax.specs.declared.trees.StatementTree.{StatementTree}
 use Rattle.spec_syntax.specs.declared.trees.StatementTree.TheVariants.{Relation, Order, Orders, Rule, Copy}
 use Rattle.spec_syntax.specs.Grammar
-use Rattle.spec_syntax.specs.Texts.{NeverOpens}
 use Rattle.spec_syntax.specs.Reading.{attr_at, pair_at, ordering_at, ended_ordering_at, row_at, attrs_at, relation_at, order_at, orders_at, constraint_at, copying_at, statement_at, ended_statement_at, spec_at}
 
 -- ---- attributes
@@ -263,73 +260,3 @@ unfolding spec_at
 reads_spec =
     reads_made (reads_many_plain reads_ended_statement (λ t. true) begins_ended_statement) (λ s. record { statements = s }) (unless (λ t. true))
     (λ a t. refl) (λ x tokens h. h) (λ spec tokens h. record { tree = spec.statements; is = refl; spelled = h })
-
--- ---- words of forms that aren't built
-
-plain_attr : IsPlain attr_at
-unfolding attr_at
-plain_attr = plain_mapped (λ x. record { name = x.0; kind = x.1 }) (plain_both (plain_one named) (plain_after (is_symbol (codes ":")) (plain_one Grammar.kind_named)))
-
-plain_pair : IsPlain pair_at
-unfolding pair_at
-plain_pair = plain_mapped (λ x. record { first = x.0; second = x.1 }) (plain_both (plain_one named) (plain_after (is_symbol (codes "<")) (plain_one named)))
-
-pub plain_ordering : IsPlain ordering_at
-unfolding ordering_at
-plain_ordering = plain_mapped (λ x. record { relation = x.0; attr = x.1.0; pairs = x.1.1 })
-    (plain_both (plain_one named) (plain_after (is_symbol (codes ".")) (plain_both (plain_one named) (plain_after (is_symbol (codes ":")) (plain_listed (is_symbol (codes ",")) plain_pair)))))
-
-plain_row : IsPlain row_at
-unfolding row_at
-plain_row = plain_maybe (is_word (codes "row")) (plain_after (is_word (codes "row")) (plain_one named))
-
-plain_attrs : IsPlain attrs_at
-unfolding attrs_at
-plain_attrs = plain_after (is_symbol (codes "(")) (plain_before (is_symbol (codes ")")) (plain_listed (is_symbol (codes ",")) plain_attr))
-
-plain_relation : IsPlain relation_at
-unfolding relation_at
-plain_relation = plain_mapped relation_of
-    (plain_after (is_word (codes "relation")) (plain_both (plain_one named) (plain_after (is_word (codes "from")) (plain_both (plain_one quoted)
-    (plain_both plain_row (plain_after (is_word (codes "entity")) (plain_both (plain_one named) plain_attrs)))))))
-
-plain_order : IsPlain order_at
-unfolding order_at
-plain_order = plain_mapped Order (plain_after (is_word (codes "order")) plain_ordering)
-
-plain_orders : IsPlain orders_at
-unfolding orders_at
-plain_orders = plain_mapped orders_of (plain_after (is_word (codes "orders")) (plain_both (plain_one named) (plain_after (is_word (codes "from")) (plain_one quoted))))
-
-plain_constraint : IsPlain constraint_at
-unfolding constraint_at
-plain_constraint = plain_mapped Rule plain_rule
-
-plain_copying : IsPlain copying_at
-unfolding copying_at
-plain_copying = plain_mapped Copy plain_copy
-
-plain_statement : IsPlain statement_at
-unfolding statement_at
-plain_statement = plain_choose (is_word (codes "relation")) plain_relation
-    (plain_choose (is_word (codes "order")) plain_order
-    (plain_choose (is_word (codes "orders")) plain_orders
-    (plain_choose (is_word (codes "rule")) plain_constraint plain_copying)))
-
-plain_ended_statement : IsPlain ended_statement_at
-unfolding ended_statement_at
-plain_ended_statement = plain_before (is_symbol (codes ";")) plain_statement
-
-plain_spec : IsPlain spec_at
-unfolding spec_at
-plain_spec = plain_mapped (λ s. record { statements = s }) (plain_many (λ t. true) plain_ended_statement)
-
-pub tells_spec : Tells NeverOpens spec_at
-tells_spec = tells_never plain_spec
-
-plain_ended_ordering : IsPlain ended_ordering_at
-unfolding ended_ordering_at
-plain_ended_ordering = plain_before (is_symbol (codes ";")) plain_ordering
-
-pub tells_ordering : Tells NeverOpens ended_ordering_at
-tells_ordering = tells_never plain_ended_ordering

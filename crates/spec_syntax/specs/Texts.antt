@@ -1,6 +1,5 @@
 -- What texts are read as, and where they are refused.
 use Rattle.std.specs.Prelude.{ℕ, List}
-use Rattle.text_tokens.specs.Lexeme.{Lexeme}
 use Rattle.text_tokens.specs.declared.token.TextFault.{TextFault}
 use Rattle.text_grammar.specs.Texts.{ReadsText, RefusesText}
 use Rattle.spec_syntax.specs.declared.trees.OrderingTree.{OrderingTree}
@@ -15,14 +14,10 @@ ReadsSpec source tree = ReadsText SpellsSpec source tree
 abbrev pub ReadsOrdering : List ℕ → OrderingTree → Type 0
 ReadsOrdering source tree = ReadsText SpellsEndedOrdering source tree
 
--- no token is the word of a form that isn't built: every form is
-abbrev pub NeverOpens : List Lexeme → Lexeme → Type 0
-NeverOpens front t = ⊥
-
--- a text is refused as a specification with this fault, which is never Unbuilt
+-- a text is refused as a specification with this fault
 abbrev pub RefusesSpec : List ℕ → TextFault → Type 0
-RefusesSpec source e = RefusesText SpellsSpec NeverOpens source e
+RefusesSpec source e = RefusesText SpellsSpec source e
 
--- a text is refused as an ordering with this fault, which is never Unbuilt
+-- a text is refused as an ordering with this fault
 abbrev pub RefusesOrdering : List ℕ → TextFault → Type 0
-RefusesOrdering source e = RefusesText SpellsEndedOrdering NeverOpens source e
+RefusesOrdering source e = RefusesText SpellsEndedOrdering source e

@@ -11,7 +11,7 @@ use text_grammar::read_text;
 ///
 /// NotUtf8 comes where the text is not UTF-8, at the line of the first wrong byte. Syntax comes at the line
 /// of the first token with which no specification goes on, or where the text ends too early at the line of
-/// its end. Unbuilt never comes.
+/// its end.
 pub fn read_spec(alloc: Global, source: &[u8]) -> Result<SpecTree, TextFault>
     ensures read { IfOk result (λ tree. ReadsSpec source.now tree) }
     ensures refused { IfErr result (λ e. (e ≡ TextFault.NoMemory) ⊎ RefusesSpec source.now e) }

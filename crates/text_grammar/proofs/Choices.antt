@@ -1,11 +1,11 @@
 -- Readers that choose by the first token keep their laws.
 use Rattle.std.proofs.Common.{◌≡◌, Bool, true, false, not, cond, List, [], ◌∷◌, ◌++◌, ◌⊎◌, inl, inr, refl, sym, ap, subst, ◌∙◌, Option, Some, None, Ok, Err}
 use Rattle.text_tokens.specs.Lexeme.{Lexeme}
-use Rattle.text_grammar.specs.Grammar.{CanGoOn, Maybe}
-use Rattle.text_grammar.specs.Reading.{Stop, Outcome, Parser, refuse, maybe, choose, only, changed}
+use Rattle.text_grammar.specs.Grammar.{Maybe}
+use Rattle.text_grammar.specs.Reading.{Stop, Outcome, Parser, maybe, choose, changed}
 use Rattle.text_grammar.specs.Laws.{Stopped, Reads, HaltsAt, IsReader}
 use Rattle.text_grammar.proofs.Outcomes
-use Rattle.text_grammar.proofs.Readers.{FirstIs, Begins, halts_first_token, refused_is}
+use Rattle.text_grammar.proofs.Readers.{FirstIs, Begins}
 
 -- ---- the first token
 
@@ -102,40 +102,6 @@ reads_choose {A} {P} {Q} {stop} {p} {q} r w test begins begins' = record {
                 let passes : test k.token ≡ true = k.answers in cc)
           ];
         }
-
--- ---- a reader behind a test
-
-pub reads_only : {A : Type 0} {P : A → List Lexeme → Type 0} {stop : A → Lexeme → Bool} {p : Parser A}
-    → IsReader P stop p → (test unbuilt : Lexeme → Bool) → Begins test true P → IsReader P stop (only test unbuilt p)
-reads_only {A} {P} {stop} {p} r test unbuilt begins = record { some = r.some; sound = sound; complete = complete; refused = refused }
-  where
-    sound : (tokens : List Lexeme) (tree : A) (rest : List Lexeme) → only test unbuilt p tokens ≡ Ok (tree, rest) → Reads P stop tokens tree rest
-    sound [] tree rest e = absurd (cc)
-    sound (t ∷ ts) tree rest e = elim (chosen (test t) (p (t ∷ ts)) (Err (record { left = t ∷ ts; unbuilt = unbuilt t })) (Ok (tree, rest)) e) [
-      | inl h ↦ r.sound (t ∷ ts) tree rest h.1
-      | inr h ↦ absurd (let k : ◌≡◌ {A = Outcome A} (Err (record { left = t ∷ ts; unbuilt = unbuilt t })) (Ok (tree, rest)) = h.1 in cc)
-    ]
-
-    complete : (tree : A) (front rest : List Lexeme) → P tree front → Stopped (stop tree) rest → only test unbuilt p (front ++ rest) ≡ Ok (tree, rest)
-    complete tree front rest h k =
-        let f : FirstIs test true front = begins tree front h in
-        let same : only test unbuilt p (front ++ rest) ≡ p (front ++ rest) =
-        subst (λ (l : List Lexeme). only test unbuilt p (l ++ rest) ≡ p (l ++ rest)) (sym f.is)
-        (ap (λ (b : Bool). cond b (p (f.token ∷ (f.rest ++ rest))) (Err (record { left = f.token ∷ (f.rest ++ rest); unbuilt = unbuilt f.token }))) f.answers) in
-        same ∙ r.complete tree front rest h k
-
-    at_first : (t : Lexeme) (ts : List Lexeme) → test t ≡ false → (u : Lexeme) (rest : List Lexeme) → t ∷ ts ≡ u ∷ rest → CanGoOn P (u ∷ []) → ⊥
-    at_first t ts c u rest f g =
-        let k : FirstIs test true ((u ∷ []) ++ g.more) = begins g.tree ((u ∷ []) ++ g.more) g.spelled in
-        let same : (u ∷ []) ++ g.more ≡ k.token ∷ k.rest = k.is in
-        let passes : test k.token ≡ true = k.answers in cc
-
-    refused : (tokens : List Lexeme) (s : Stop) → only test unbuilt p tokens ≡ Err s → HaltsAt P tokens s.left
-    refused [] s e = halts_first_token P [] s.left (refused_is s (refuse []) e) r.some (λ u rest f g. absurd (cc))
-    refused (t ∷ ts) s e = elim (chosen (test t) (p (t ∷ ts)) (Err (record { left = t ∷ ts; unbuilt = unbuilt t })) (Err s) e) [
-      | inl c ↦ r.refused (t ∷ ts) s c.1
-      | inr c ↦ halts_first_token P (t ∷ ts) s.left (refused_is s (record { left = t ∷ ts; unbuilt = unbuilt t }) c.1) r.some (at_first t ts c.0)
-    ]
 
 -- ---- once or not at all
 

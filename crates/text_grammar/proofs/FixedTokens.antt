@@ -1,5 +1,5 @@
 -- Fixed words and symbols, names, strings, variables and constants.
-use Rattle.std.proofs.Common.{◌≡◌, ℕ, zero, suc, arith, Bool, true, false, ◌&&◌, cond, List, [], ◌∷◌, refl, ap, ◌∙◌, Option, Some, None, option_map}
+use Rattle.std.proofs.Common.{◌≡◌, ℕ, zero, suc, arith, Bool, true, false, ◌&&◌, ◌||◌, cond, List, [], ◌∷◌, refl, ap, ◌∙◌, Option, Some, None, option_map}
 use Rattle.std.specs.Str.{IsAscii, bytes_eq, is_utf8}
 use Rattle.std.proofs.lemmas.Str.{IsUtf8-from_ascii, IsUtf8-nil, is_utf8-from_IsUtf8}
 use Rattle.std.proofs.lemmas.Slice.Eq.{bytes_eq-Decides}
@@ -59,6 +59,11 @@ pub apart : (kind : TokenKind) (text : List ℕ) (kind' : TokenKind) (text' : Li
 apart kind text kind' text' e t h =
     let f : FixedIs kind text t = fixed_is kind text t h in
     ap (λ (k : TokenKind). same_kind k kind' && bytes_eq t.text text') f.kind_is ∙ ap (λ (x : List ℕ). same_kind kind kind' && bytes_eq x text') f.text_is ∙ e
+
+-- where each of two tests rules a third out, so does the test that passes where one of them does
+pub either_apart : (a b d : Bool) → (a ≡ true → d ≡ false) → (b ≡ true → d ≡ false) → a || b ≡ true → d ≡ false
+either_apart true b d f g e = f refl
+either_apart false b d f g e = g e
 
 -- ---- their readers
 

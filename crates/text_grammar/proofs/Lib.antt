@@ -4,9 +4,7 @@ pub mod Readers
 pub mod Choices
 pub mod ListReaders
 pub mod Whole
-pub mod Tellings
 pub mod Loops
 pub mod TextLaws
-pub mod SequenceTellings
 pub mod FixedTokens
 pub mod VariableTokens

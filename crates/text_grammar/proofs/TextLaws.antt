@@ -1,16 +1,14 @@
 -- What a text is read as, by the laws of its reader.
-use Rattle.std.proofs.Common.{◌≡◌, ℕ, Bool, true, false, List, [], ◌∷◌, ◌++◌, ◌⊎◌, inl, inr, refl, sym, ap, subst, ◌∙◌, append_assoc, Result, Ok, Err, IfOk, IfErr}
+use Rattle.std.proofs.Common.{◌≡◌, ℕ, Bool, List, [], ◌∷◌, ◌++◌, ◌⊎◌, inl, inr, sym, ap, subst, ◌∙◌, append_assoc, Result, Ok, Err, IfOk, IfErr}
 use Rattle.text_tokens.specs.Lexeme.{Lexeme}
 use Rattle.text_tokens.specs.declared.token.TextFault.{TextFault}
-use Rattle.text_tokens.specs.declared.token.TextFault.TheVariants.{NotUtf8, Syntax, Unbuilt, NoMemory}
+use Rattle.text_tokens.specs.declared.token.TextFault.TheVariants.{NotUtf8, Syntax, NoMemory}
 use Rattle.text_grammar.specs.Grammar.{CanGoOn, RefusedAt}
-use Rattle.text_grammar.specs.Reading.{Stop, Parser, whole, refuse_unbuilt}
-use Rattle.text_grammar.specs.Laws.{IsReader, IsPlain, IsWhole, Opened, Tells}
+use Rattle.text_grammar.specs.Reading.{Stop, Parser, whole, refuse}
+use Rattle.text_grammar.specs.Laws.{IsReader, IsWhole}
 use Rattle.text_grammar.specs.Texts.{line_at, ReadsText, RefusedOn, RefusesText, WholeRead, WholeStops, WholeRefused}
 use Rattle.text_grammar.proofs.Lists.{overlaps, one_more}
-use Rattle.text_grammar.proofs.Outcomes
 use Rattle.text_grammar.proofs.Whole.{reads_whole}
-use Rattle.text_grammar.proofs.Tellings.{tells_whole}
 use Rattle.text_tokens.proofs.Unique.{one_list}
 
 -- ---- from a reader to its grammar
@@ -22,41 +20,23 @@ reads_text {P = P} {p = p} r source tree h =
     record { utf8 = h.utf8; lexemes = h.lexemes; tokens = h.tokens; spelled = w.right h.lexemes tree h.read }
 
 abbrev refused_on : {A : Type 0} {P : A → List Lexeme → Type 0} {stop : A → Lexeme → Bool} {p : Parser A}
-    → IsReader P stop p → (source : List ℕ) (unbuilt : Bool) (line : ℕ) → WholeStops p source unbuilt line → RefusedOn P source line
-refused_on {P = P} {p = p} r source unbuilt line h =
+    → IsReader P stop p → (source : List ℕ) (line : ℕ) → WholeStops p source line → RefusedOn P source line
+refused_on {P = P} {p = p} r source line h =
     let w : IsWhole P (whole p) = reads_whole r in
     record {
       utf8 = h.utf8;
       lexemes = h.lexemes;
       tokens = h.tokens;
       left = h.left;
-      place = w.refused h.lexemes (record { left = h.left; unbuilt = unbuilt }) h.read;
+      place = w.refused h.lexemes (refuse h.left) h.read;
       on_line = h.on_line;
     }
 
 pub refuses_text : {A : Type 0} {P : A → List Lexeme → Type 0} {stop : A → Lexeme → Bool} {p : Parser A}
-    → IsReader P stop p → (Opens : List Lexeme → Lexeme → Type 0) → Tells Opens p
-    → (source : List ℕ) (e : TextFault) → WholeRefused p source e → RefusesText P Opens source e
-refuses_text r Opens t source (NotUtf8 line) h = h
-refuses_text {A} {p = p} r Opens t source (Syntax line) h = (refused_on r source false line h, not_opened)
-  where
-    not_opened : Opened Opens h.lexemes h.left → ⊥
-    not_opened o =
-        let told : whole p (o.front ++ o.token ∷ o.rest) ≡ Err (refuse_unbuilt (o.token ∷ o.rest)) = (tells_whole Opens t).1 o.front o.token o.rest o.opens in
-        let same : h.lexemes ≡ o.front ++ o.token ∷ o.rest = o.split ∙ ap (λ (l : List Lexeme). o.front ++ l) o.begins in
-        let stops : ◌≡◌ {A = Result A Stop} (Err (record { left = h.left; unbuilt = false })) (Err (refuse_unbuilt (o.token ∷ o.rest))) = sym h.read ∙ ap (whole p) same ∙ told in
-        let flags : false ≡ true = ap (λ (s : Stop). s.unbuilt) (Outcomes.same_stop {A = A} (record { left = h.left; unbuilt = false }) (refuse_unbuilt (o.token ∷ o.rest)) stops) in
-        cc
-refuses_text r Opens t source (Unbuilt line) h =
-    (refused_on r source true line h, (tells_whole Opens t).0 h.lexemes (record { left = h.left; unbuilt = true }) h.read refl)
-refuses_text r Opens t source NoMemory h = h
-
--- no form of the language is unbuilt
-pub tells_never : {A : Type 0} {p : Parser A} → IsPlain p → Tells (λ front t. ⊥) p
-tells_never h = record {
-  told = λ tokens s e u. absurd (let k : s.unbuilt ≡ false = h tokens s e in cc);
-  tells = λ front t rest o. absurd o;
-}
+    → IsReader P stop p → (source : List ℕ) (e : TextFault) → WholeRefused p source e → RefusesText P source e
+refuses_text r source (NotUtf8 line) h = h
+refuses_text r source (Syntax line) h = refused_on r source line h
+refuses_text r source NoMemory h = h
 
 -- ---- the clauses of a call that reads a text
 
@@ -66,11 +46,11 @@ read_by r source (Ok tree) h = reads_text r source tree h
 read_by r source (Err e) h = h
 
 pub refused_by : {A : Type 0} {P : A → List Lexeme → Type 0} {stop : A → Lexeme → Bool} {p : Parser A}
-    → IsReader P stop p → (Opens : List Lexeme → Lexeme → Type 0) → Tells Opens p → (source : List ℕ) (result : Result A TextFault)
-    → IfErr result (λ e. (e ≡ NoMemory) ⊎ WholeRefused p source e) → IfErr result (λ e. (e ≡ NoMemory) ⊎ RefusesText P Opens source e)
-refused_by r Opens t source (Ok tree) h = h
-refused_by r Opens t source (Err e) (inl h) = inl h
-refused_by r Opens t source (Err e) (inr h) = inr (refuses_text r Opens t source e h)
+    → IsReader P stop p → (source : List ℕ) (result : Result A TextFault)
+    → IfErr result (λ e. (e ≡ NoMemory) ⊎ WholeRefused p source e) → IfErr result (λ e. (e ≡ NoMemory) ⊎ RefusesText P source e)
+refused_by r source (Ok tree) h = h
+refused_by r source (Err e) (inl h) = inl h
+refused_by r source (Err e) (inr h) = inr (refuses_text r source e h)
 
 -- ---- one tree, or a refusal
 
@@ -97,16 +77,13 @@ one_tree {P = P} r source a b h k =
     one_tree_of_tokens r k.lexemes a b (subst (P a) same h.spelled) k.spelled
 
 -- a text that is refused is read as none
-pub none_refused : {A : Type 0} (P : A → List Lexeme → Type 0) (Opens : List Lexeme → Lexeme → Type 0)
-    → (source : List ℕ) (tree : A) (e : TextFault) → ReadsText P source tree → RefusesText P Opens source e → ⊥
-none_refused P Opens source tree (NotUtf8 line) h k = k.0 h.utf8
-none_refused P Opens source tree (Syntax line) h k =
-    let same : h.lexemes ≡ k.0.lexemes = one_list source h.lexemes k.0.lexemes h.tokens k.0.tokens in
-    k.0.place.none tree (subst (P tree) same h.spelled)
-none_refused P Opens source tree (Unbuilt line) h k =
-    let same : h.lexemes ≡ k.0.lexemes = one_list source h.lexemes k.0.lexemes h.tokens k.0.tokens in
-    k.0.place.none tree (subst (P tree) same h.spelled)
-none_refused P Opens source tree NoMemory h k = k
+pub none_refused : {A : Type 0} (P : A → List Lexeme → Type 0)
+    → (source : List ℕ) (tree : A) (e : TextFault) → ReadsText P source tree → RefusesText P source e → ⊥
+none_refused P source tree (NotUtf8 line) h k = k.0 h.utf8
+none_refused P source tree (Syntax line) h k =
+    let same : h.lexemes ≡ k.lexemes = one_list source h.lexemes k.lexemes h.tokens k.tokens in
+    k.place.none tree (subst (P tree) same h.spelled)
+none_refused P source tree NoMemory h k = k
 
 -- ---- one refusal
 
@@ -129,38 +106,19 @@ one_place P tokens left left' h k = elim (overlaps h.front left k.front left' (s
   | inr o ↦ not_later P tokens left left' h k o.mid o.longer o.shorter
 ]
 
--- two refusals of a text have one list of tokens, one place and one line
-record SameRefusal {A : Type 0} (P : A → List Lexeme → Type 0) (source : List ℕ) (line line' : ℕ) (h : RefusedOn P source line) (k : RefusedOn P source line') : Type 0 where
-  pub lexemes : h.lexemes ≡ k.lexemes
-  pub left : h.left ≡ k.left
-  pub on_line : line ≡ line'
-
-same_refusal : {A : Type 0} (P : A → List Lexeme → Type 0) (source : List ℕ) (line line' : ℕ) (h : RefusedOn P source line) (k : RefusedOn P source line') → SameRefusal P source line line' h k
-same_refusal P source line line' h k =
+-- two refusals of a text are on one line
+same_line : {A : Type 0} (P : A → List Lexeme → Type 0) (source : List ℕ) (line line' : ℕ) → RefusedOn P source line → RefusedOn P source line' → line ≡ line'
+same_line P source line line' h k =
     let lexemes : h.lexemes ≡ k.lexemes = one_list source h.lexemes k.lexemes h.tokens k.tokens in
     let left : h.left ≡ k.left = one_place P k.lexemes h.left k.left (subst (λ (l : List Lexeme). RefusedAt P l h.left) lexemes h.place) k.place in
-    record { lexemes = lexemes; left = left; on_line = h.on_line ∙ ap (line_at source) left ∙ sym k.on_line }
-
-same_opened : (Opens : List Lexeme → Lexeme → Type 0) (tokens tokens' left left' : List Lexeme) → tokens ≡ tokens' → left ≡ left' → Opened Opens tokens left → Opened Opens tokens' left'
-same_opened Opens tokens tokens' left left' e f o = subst (λ (l : List Lexeme). Opened Opens l left') e (subst (Opened Opens tokens) f o)
+    h.on_line ∙ ap (line_at source) left ∙ sym k.on_line
 
 -- a text is refused with one fault
-pub one_refusal : {A : Type 0} (P : A → List Lexeme → Type 0) (Opens : List Lexeme → Lexeme → Type 0)
-    → (source : List ℕ) (e f : TextFault) → RefusesText P Opens source e → RefusesText P Opens source f → e ≡ f
-one_refusal P Opens source (NotUtf8 line) (NotUtf8 line') h k = ap (λ (n : ℕ). NotUtf8 n) (h.1 ∙ sym k.1)
-one_refusal P Opens source (NotUtf8 line) (Syntax line') h k = absurd (h.0 k.0.utf8)
-one_refusal P Opens source (NotUtf8 line) (Unbuilt line') h k = absurd (h.0 k.0.utf8)
-one_refusal P Opens source (NotUtf8 line) NoMemory h k = absurd k
-one_refusal P Opens source (Syntax line) (NotUtf8 line') h k = absurd (k.0 h.0.utf8)
-one_refusal P Opens source (Syntax line) (Syntax line') h k = ap (λ (n : ℕ). Syntax n) (same_refusal P source line line' h.0 k.0).on_line
-one_refusal P Opens source (Syntax line) (Unbuilt line') h k =
-    let s = same_refusal P source line line' h.0 k.0 in
-    absurd (h.1 (same_opened Opens k.0.lexemes h.0.lexemes k.0.left h.0.left (sym s.lexemes) (sym s.left) k.1))
-one_refusal P Opens source (Syntax line) NoMemory h k = absurd k
-one_refusal P Opens source (Unbuilt line) (NotUtf8 line') h k = absurd (k.0 h.0.utf8)
-one_refusal P Opens source (Unbuilt line) (Syntax line') h k =
-    let s = same_refusal P source line line' h.0 k.0 in
-    absurd (k.1 (same_opened Opens h.0.lexemes k.0.lexemes h.0.left k.0.left s.lexemes s.left h.1))
-one_refusal P Opens source (Unbuilt line) (Unbuilt line') h k = ap (λ (n : ℕ). Unbuilt n) (same_refusal P source line line' h.0 k.0).on_line
-one_refusal P Opens source (Unbuilt line) NoMemory h k = absurd k
-one_refusal P Opens source NoMemory f h k = absurd h
+pub one_refusal : {A : Type 0} (P : A → List Lexeme → Type 0) (source : List ℕ) (e f : TextFault) → RefusesText P source e → RefusesText P source f → e ≡ f
+one_refusal P source (NotUtf8 line) (NotUtf8 line') h k = ap (λ (n : ℕ). NotUtf8 n) (h.1 ∙ sym k.1)
+one_refusal P source (NotUtf8 line) (Syntax line') h k = absurd (h.0 k.utf8)
+one_refusal P source (NotUtf8 line) NoMemory h k = absurd k
+one_refusal P source (Syntax line) (NotUtf8 line') h k = absurd (k.0 h.utf8)
+one_refusal P source (Syntax line) (Syntax line') h k = ap (λ (n : ℕ). Syntax n) (same_line P source line line' h k)
+one_refusal P source (Syntax line) NoMemory h k = absurd k
+one_refusal P source NoMemory f h k = absurd h

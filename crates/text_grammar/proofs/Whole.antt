@@ -1,5 +1,5 @@
 -- Reading a whole text.
-use Rattle.std.proofs.Common.{◌≡◌, Bool, true, false, List, [], ◌∷◌, ◌++◌, ◌⊎◌, inl, inr, refl, sym, ap, subst, ◌∙◌, Result, Ok, Err}
+use Rattle.std.proofs.Common.{◌≡◌, Bool, true, List, [], ◌∷◌, ◌++◌, ◌⊎◌, inl, inr, refl, sym, ap, subst, ◌∙◌, Result, Ok, Err}
 use Rattle.text_tokens.specs.Lexeme.{Lexeme}
 use Rattle.text_grammar.specs.Grammar.{CanGoOn, RefusedAt}
 use Rattle.text_grammar.specs.Reading.{Stop, Outcome, Parser, refuse, at_end, ended, whole}
@@ -31,13 +31,12 @@ pub record Left {A : Type 0} (o : Outcome A) (s : Stop) : Type 0 where
   pub rest : List Lexeme
   pub was : o ≡ Ok (tree, token ∷ rest)
   pub left : token ∷ rest ≡ s.left
-  pub plain : s.unbuilt ≡ false
 
 at_end_err : {A : Type 0} (a : A) (rest : List Lexeme) (s : Stop) → at_end a rest ≡ Err s → Left {A = A} (Ok (a, rest)) s
 at_end_err a [] s e = absurd (cc)
 at_end_err {A} a (t ∷ ts) s e =
     let same : refuse (t ∷ ts) ≡ s = Outcomes.same_stop {A = A} (refuse (t ∷ ts)) s e in
-    record { tree = a; token = t; rest = ts; was = refl; left = ap (λ (q : Stop). q.left) same; plain = sym (ap (λ (q : Stop). q.unbuilt) same) }
+    record { tree = a; token = t; rest = ts; was = refl; left = ap (λ (q : Stop). q.left) same }
 
 pub ended_err : {A : Type 0} (o : Outcome A) (s : Stop) → ended o ≡ Err s → (o ≡ Err s) ⊎ Left o s
 ended_err (Ok x) s e = inr (at_end_err x.0 x.1 s e)

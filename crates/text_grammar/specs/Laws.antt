@@ -1,8 +1,8 @@
 -- What a reader of a grammar keeps.
-use Rattle.std.specs.Prelude.{◌≡◌, Bool, true, false, List, [], ◌∷◌, ◌++◌, Result, Ok, Err}
+use Rattle.std.specs.Prelude.{◌≡◌, Bool, true, List, [], ◌∷◌, ◌++◌, Result, Ok, Err}
 use Rattle.text_tokens.specs.Lexeme.{Lexeme}
-use Rattle.text_grammar.specs.Grammar.{CanGoOn, Many, RefusedAt}
-use Rattle.text_grammar.specs.Reading.{Parser, Stop, refuse_unbuilt}
+use Rattle.text_grammar.specs.Grammar.{CanGoOn, RefusedAt}
+use Rattle.text_grammar.specs.Reading.{Parser, Stop}
 
 -- reading ends before these tokens: there are none, or the first one passes the test
 abbrev pub Stopped : (Lexeme → Bool) → List Lexeme → Type 0
@@ -36,32 +36,3 @@ pub record IsWhole {A : Type 0} (P : A → List Lexeme → Type 0) (read : List 
   pub right : (tokens : List Lexeme) (tree : A) → read tokens ≡ Ok tree → P tree tokens
   pub all : (tokens : List Lexeme) (tree : A) → P tree tokens → read tokens ≡ Ok tree
   pub refused : (tokens : List Lexeme) (s : Stop) → read tokens ≡ Err s → RefusedAt P tokens s.left
-
--- a reader with no form that isn't built
-abbrev pub IsPlain : {A : Type 0} → Parser A → Type 0
-IsPlain p = (tokens : List Lexeme) (s : Stop) → p tokens ≡ Err s → s.unbuilt ≡ false
-
--- a token is refused as unbuilt: where it stands and which one it is
-pub record Opened (Opens : List Lexeme → Lexeme → Type 0) (tokens left : List Lexeme) : Type 0 where
-  pub front : List Lexeme
-  pub token : Lexeme
-  pub rest : List Lexeme
-  pub split : tokens ≡ front ++ left
-  pub begins : left ≡ token ∷ rest
-  pub opens : Opens front token
-
--- a reader tells the words of unbuilt forms, each at the places where such a form may begin
-pub record Tells {A : Type 0} (Opens : List Lexeme → Lexeme → Type 0) (p : Parser A) : Type 0 where
-  pub told : (tokens : List Lexeme) (s : Stop) → p tokens ≡ Err s → s.unbuilt ≡ true → Opened Opens tokens s.left
-  pub tells : (front : List Lexeme) (t : Lexeme) (rest : List Lexeme) → Opens front t → p (front ++ t ∷ rest) ≡ Err (refuse_unbuilt (t ∷ rest))
-
--- at the first token, one of these words
-pub record AtFirst (words : Lexeme → Bool) (front : List Lexeme) (t : Lexeme) : Type 0 where
-  pub first : front ≡ []
-  pub among : words t ≡ true
-
--- after any number of items, one of these words
-pub record AfterItems {A : Type 0} (P : A → List Lexeme → Type 0) (words : Lexeme → Bool) (front : List Lexeme) (t : Lexeme) : Type 0 where
-  pub items : List A
-  pub spelled : Many P items front
-  pub among : words t ≡ true

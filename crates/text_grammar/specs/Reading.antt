@@ -1,13 +1,12 @@
 -- Reading tokens from the left, with one token of sight.
-use Rattle.std.specs.Prelude.{◌≡◌, ℕ, zero, suc, Bool, true, false, if◌then◌else◌, List, [], ◌∷◌, ◌++◌, length, map, Option, Some, None, Result, Ok, Err}
+use Rattle.std.specs.Prelude.{◌≡◌, ℕ, zero, suc, Bool, false, if◌then◌else◌, List, [], ◌∷◌, ◌++◌, length, map, Option, Some, None, Result, Ok, Err}
 use Rattle.text_tokens.specs.Lexeme.{Lexeme, lexeme_of}
 use Rattle.text_grammar.specs.declared.refusal.Refusal.{Refusal}
-use Rattle.text_grammar.specs.declared.refusal.Refusal.TheVariants.{Syntax, Unbuilt, NoMemory}
+use Rattle.text_grammar.specs.declared.refusal.Refusal.TheVariants.{Syntax, NoMemory}
 
--- where reading stops: the tokens left, from the refused one on, and whether that one is the word of a form that isn't built
+-- where reading stops: the tokens left, from the refused one on
 pub record Stop : Type 0 where
   pub left : List Lexeme
-  pub unbuilt : Bool
 
 -- what was read and the tokens after it, or where reading stopped
 abbrev pub Outcome : Type 0 → Type 0
@@ -19,18 +18,13 @@ Parser A = List Lexeme → Outcome A
 
 -- the first token is refused
 abbrev pub refuse : List Lexeme → Stop
-refuse tokens = record { left = tokens; unbuilt = false }
-
--- the first token is refused, which is the word of a form that isn't built
-abbrev pub refuse_unbuilt : List Lexeme → Stop
-refuse_unbuilt tokens = record { left = tokens; unbuilt = true }
+refuse tokens = record { left = tokens }
 
 -- what a function of the code answered is what the reader gives; of want of memory nothing is said
 abbrev pub Gives : {T A : Type 0} → (T → A × List Lexeme) → Result T Refusal → Outcome A → Type 0
 Gives view (Ok x) given = given ≡ Ok (view x)
 Gives view (Err NoMemory) given = Unit {0}
 Gives view (Err (Syntax left)) given = given ≡ Err (refuse (map lexeme_of left.now))
-Gives view (Err (Unbuilt left)) given = given ≡ Err (refuse_unbuilt (map lexeme_of left.now))
 
 -- the first token passes the test
 abbrev pub starts : (Lexeme → Bool) → List Lexeme → Bool
@@ -99,11 +93,6 @@ abbrev pub choose : {A : Type 0} → (Lexeme → Bool) → Parser A → Parser A
 choose test p q [] = q []
 choose test p q (t ∷ ts) = if test t then p (t ∷ ts) else q (t ∷ ts)
 
--- a reader where the first token passes the test; another token is refused, as unbuilt where it is the word of such a form
-abbrev pub only : {A : Type 0} → (Lexeme → Bool) → (Lexeme → Bool) → Parser A → Parser A
-only test unbuilt p [] = Err (refuse [])
-only test unbuilt p (t ∷ ts) = if test t then p (t ∷ ts) else Err (record { left = t ∷ ts; unbuilt = unbuilt t })
-
 -- more of a list
 abbrev pub prepend : {A : Type 0} → List A → Outcome (List A) → Outcome (List A)
 prepend xs outcome = changed (λ ys. xs ++ ys) outcome
@@ -142,4 +131,3 @@ abbrev pub GivesWhole : {A : Type 0} → Result A Refusal → Result A Stop → 
 GivesWhole (Ok a) given = given ≡ Ok a
 GivesWhole (Err NoMemory) given = Unit {0}
 GivesWhole (Err (Syntax left)) given = given ≡ Err (refuse (map lexeme_of left.now))
-GivesWhole (Err (Unbuilt left)) given = given ≡ Err (refuse_unbuilt (map lexeme_of left.now))

@@ -1,12 +1,11 @@
 -- Reading a whole text, and where it is refused.
-use Rattle.std.specs.Prelude.{◌≡◌, ℕ, Bool, true, false, List, [], ◌∷◌, IsUtf8, Ok, Err}
+use Rattle.std.specs.Prelude.{◌≡◌, ℕ, List, [], ◌∷◌, IsUtf8, Ok, Err}
 use Rattle.text_tokens.specs.Lexeme.{Lexeme}
 use Rattle.text_tokens.specs.Tokens.{TokensOf, first_wrong_line, line_after}
 use Rattle.text_tokens.specs.declared.token.TextFault.{TextFault}
-use Rattle.text_tokens.specs.declared.token.TextFault.TheVariants.{NotUtf8, Syntax, Unbuilt, NoMemory}
+use Rattle.text_tokens.specs.declared.token.TextFault.TheVariants.{NotUtf8, Syntax, NoMemory}
 use Rattle.text_grammar.specs.Grammar.{RefusedAt}
-use Rattle.text_grammar.specs.Reading.{Parser, whole}
-use Rattle.text_grammar.specs.Laws.{Opened}
+use Rattle.text_grammar.specs.Reading.{Parser, refuse, whole}
 
 -- a text is read as a tree: it is UTF-8, and the tree is spelled by its tokens
 pub record ReadsText {A : Type 0} (P : A → List Lexeme → Type 0) (source : List ℕ) (tree : A) : Type 0 where
@@ -29,12 +28,11 @@ pub record RefusedOn {A : Type 0} (P : A → List Lexeme → Type 0) (source : L
   pub place : RefusedAt P lexemes left
   pub on_line : line ≡ line_at source left
 
--- a text is refused with a fault. `Opens` says after which tokens a token is the word of a form that isn't built
-abbrev pub RefusesText : {A : Type 0} → (A → List Lexeme → Type 0) → (List Lexeme → Lexeme → Type 0) → List ℕ → TextFault → Type 0
-RefusesText P Opens source (NotUtf8 line) = (IsUtf8 source → ⊥) × (line ≡ first_wrong_line source)
-RefusesText P Opens source (Syntax line) = (r : RefusedOn P source line) × (Opened Opens r.lexemes r.left → ⊥)
-RefusesText P Opens source (Unbuilt line) = (r : RefusedOn P source line) × Opened Opens r.lexemes r.left
-RefusesText P Opens source NoMemory = ⊥
+-- a text is refused with a fault
+abbrev pub RefusesText : {A : Type 0} → (A → List Lexeme → Type 0) → List ℕ → TextFault → Type 0
+RefusesText P source (NotUtf8 line) = (IsUtf8 source → ⊥) × (line ≡ first_wrong_line source)
+RefusesText P source (Syntax line) = RefusedOn P source line
+RefusesText P source NoMemory = ⊥
 
 -- ---- the same by a reader
 
@@ -45,18 +43,17 @@ pub record WholeRead {A : Type 0} (p : Parser A) (source : List ℕ) (tree : A) 
   pub tokens : TokensOf source lexemes
   pub read : whole p lexemes ≡ Ok tree
 
--- a reader stops on this line, where the word of a form that isn't built stands or not
-pub record WholeStops {A : Type 0} (p : Parser A) (source : List ℕ) (unbuilt : Bool) (line : ℕ) : Type 0 where
+-- a reader stops on this line
+pub record WholeStops {A : Type 0} (p : Parser A) (source : List ℕ) (line : ℕ) : Type 0 where
   pub utf8 : IsUtf8 source
   pub lexemes : List Lexeme
   pub tokens : TokensOf source lexemes
   pub left : List Lexeme
-  pub read : whole p lexemes ≡ Err (record { left = left; unbuilt = unbuilt })
+  pub read : whole p lexemes ≡ Err (refuse left)
   pub on_line : line ≡ line_at source left
 
 -- a reader refuses the text with a fault
 abbrev pub WholeRefused : {A : Type 0} → Parser A → List ℕ → TextFault → Type 0
 WholeRefused p source (NotUtf8 line) = (IsUtf8 source → ⊥) × (line ≡ first_wrong_line source)
-WholeRefused p source (Syntax line) = WholeStops p source false line
-WholeRefused p source (Unbuilt line) = WholeStops p source true line
+WholeRefused p source (Syntax line) = WholeStops p source line
 WholeRefused p source NoMemory = ⊥

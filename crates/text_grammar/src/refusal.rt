@@ -7,8 +7,6 @@ use text_tokens::Token;
 pub enum Refusal<'a> {
     /// No text of the grammar goes on with that token.
     Syntax(&'a [Token<'a>]),
-    /// That token is the word of a form that is not built yet.
-    Unbuilt(&'a [Token<'a>]),
     /// Want of memory.
     NoMemory,
 }

@@ -11,9 +11,9 @@ use text_tokens::{TextFault, Token, tokens};
 
 /// Reads a whole text by a rule.
 ///
-/// NotUtf8 comes where the text is not UTF-8, at the line of the first wrong byte. Syntax and Unbuilt come
-/// where the rule refuses a token, at its line, or at the line where the text ends; Syntax also where a token
-/// is left after what the rule spells.
+/// NotUtf8 comes where the text is not UTF-8, at the line of the first wrong byte. Syntax comes where the
+/// rule refuses a token, at its line, or at the line where the text ends; and where a token is left after
+/// what the rule spells.
 pub fn read_text<R: Rule>(alloc: Global, source: &[u8]) -> Result<R::Tree, TextFault>
     ensures read { IfOk result (λ tree. WholeRead R.reader source.now tree) }
     ensures refused { IfErr result (λ e. (e ≡ TextFault.NoMemory) ⊎ WholeRefused R.reader source.now e) }
@@ -25,9 +25,6 @@ pub fn read_text<R: Rule>(alloc: Global, source: &[u8]) -> Result<R::Tree, TextF
     match read_all::<R>(alloc, found.as_slice()) {
         Ok(tree) => Ok(tree),
         Err(Refusal::Syntax(left)) => Err(TextFault::Syntax {
-            line: line_at(source, left),
-        }),
-        Err(Refusal::Unbuilt(left)) => Err(TextFault::Unbuilt {
             line: line_at(source, left),
         }),
         Err(Refusal::NoMemory) => Err(TextFault::NoMemory),

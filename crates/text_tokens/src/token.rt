@@ -35,8 +35,6 @@ pub enum TextFault {
     NotUtf8 { line: u32 },
     /// The line is that of the first token at which no text of the grammar can go on.
     Syntax { line: u32 },
-    /// The line is that of a word that begins a form which is not built yet.
-    Unbuilt { line: u32 },
     /// Want of memory.
     NoMemory,
 }

@@ -122,7 +122,6 @@ fn refusals_are_told(rt: HostRuntime) -> Result<(), Fail> {
         expect(&rt, first(), words, 2, refused)?;
     }
     for (question, refusal) in [
-        ("answers (x) where R(e, x);\n", "error E16 q 1\n"),
         ("certain;\n", "error E02 q 1\n"),
         ("certain R.a;\n", "error E02 q 1\n"),
         ("certain R.b: r1 < r2;\n", "error E03 q 1\n"),

@@ -1,4 +1,4 @@
-use crate::cases::{BACK, CIRCLE, Case, FREE, HISTORY, TRIANGLE};
+use crate::cases::{BACK, CIRCLE, Case, FREE, HISTORY, LAST, STAFF, TRIANGLE};
 use std::process::Abort;
 use std::test::Fail;
 use worked_documents::{Documents, asked};
@@ -61,7 +61,7 @@ const TWO: Case<'static> = Case {
     verdict: "consistent",
 };
 
-const DUE: [Due<'static>; 12] = [
+const DUE: [Due<'static>; 24] = [
     Due {
         case: NO_ROW,
         question: "same R;\n",
@@ -153,6 +153,104 @@ ranking R.a of x: r2 < r1;
 ranking R.b of x: r1 < r2;
 completion;
 ranking R.a of x: r1 < r2;
+",
+    },
+    // What a query has over the first completion, and not over a later one, is no answer.
+    Due {
+        case: NO_ROW,
+        question: "answers () where R(_, _);\n",
+        text: "verdict answers;\ncompletion;\n",
+    },
+    Due {
+        case: TWO_ENTITIES,
+        question: "answers (v, e) where R(e, v) or R(\"x\", v) and R(e, _);\n",
+        text: "verdict answers;
+answer (1, \"x\");
+answer (1, \"y\");
+answer (2, \"y\");
+completion;
+ranking R.a of x: r1;
+ranking R.a of y: r2;
+",
+    },
+    Due {
+        case: EQUAL,
+        question: "answers (v) where R(_, v);\n",
+        text: "verdict answers;\nanswer (1);\ncompletion;\nranking R.a of x: r2 < r1;\n",
+    },
+    Due {
+        case: CIRCLE,
+        question: "answers (x) where R(e, x);\n",
+        text: "verdict inconsistent;\n",
+    },
+    Due {
+        case: ONE_PAIR,
+        question: "answers (x) where R(e, x) and x = 1;\n",
+        text: "verdict answers;\ncompletion;\nranking R.a of x: r3 < r1 < r2;\n",
+    },
+    Due {
+        case: LAST,
+        question: "answers (x) where R(e, x) and x >= 2;\n",
+        text: "verdict answers;\nanswer (3);\ncompletion;\nranking R.a of x: r2 < r1 < r3;\n",
+    },
+    Due {
+        case: FREE,
+        question: "answers () where R(e, x) and x >= 1;\n",
+        text: "verdict answers;\nanswer ();\ncompletion;\nranking R.a of x: r3 < r2 < r1;\n",
+    },
+    Due {
+        case: FREE,
+        question: "answers (x) where R(e, x);\n",
+        text: "verdict answers;
+completion;
+ranking R.a of x: r3 < r2 < r1;
+completion;
+ranking R.a of x: r2 < r1 < r3;
+",
+    },
+    Due {
+        case: TWO,
+        question: "answers (v, w) where R(_, v, _) and R(_, _, w);\n",
+        text: "verdict answers;
+completion;
+ranking R.a of x: r2 < r1;
+ranking R.b of x: r1 < r2;
+completion;
+ranking R.a of x: r1 < r2;
+",
+    },
+    Due {
+        case: TWO,
+        question: "answers (w) where R(_, 1, w) or R(_, 2, w);\n",
+        text: "verdict answers;
+answer (2);
+completion;
+ranking R.a of x: r2 < r1;
+ranking R.b of x: r1 < r2;
+",
+    },
+    Due {
+        case: BACK,
+        question: "answers (x, y) where S(_, x) and T(_, y);\n",
+        text: "verdict answers;
+answer (2, 2);
+completion;
+ranking S.a of y: s1 < s2;
+ranking T.b of x: t1 < t2;
+",
+    },
+    Due {
+        case: STAFF,
+        question: "answers (d, x, y) where Dept(d, x, _) and Emp(e, _, x, y, _);\n",
+        text: "verdict answers;
+answer (\"rd\", \"Dupont\", 80);
+completion;
+ranking Emp.status of mary: s1 < s3 < s2;
+ranking Emp.last of mary: s1 < s3 < s2;
+ranking Emp.salary of mary: s2 < s1 < s3;
+ranking Emp.address of mary: s2 < s1 < s3;
+ranking Dept.mgr of rd: d1 < d2;
+ranking Dept.budget of rd: d2 < d1;
 ",
     },
 ];

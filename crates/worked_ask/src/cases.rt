@@ -29,6 +29,15 @@ pub const FREE: Case<'static> = Case {
     verdict: "consistent",
 };
 
+/// Three rows of which the last is known.
+pub const LAST: Case<'static> = Case {
+    spec: "relation R from \"r.csv\" row id entity eid (a: int);
+order R.a: r1 < r3, r2 < r3;
+",
+    tables: &[],
+    verdict: "consistent",
+};
+
 /// A circle of known orders.
 pub const CIRCLE: Case<'static> = Case {
     spec: "relation R from \"r.csv\" row id entity eid (a: int);

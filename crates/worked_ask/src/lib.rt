@@ -18,4 +18,8 @@ mod large;
 #[cfg(test)]
 mod outside;
 #[cfg(test)]
+mod queries;
+#[cfg(test)]
 mod questions;
+#[cfg(test)]
+mod trials;

@@ -7,11 +7,11 @@ const ASK: [&str; 4] = ["currency", "ask", "s", "q"];
 
 /// A specification, a question, the kind of its verdict and the verdict.
 #[derive(Clone, Copy)]
-struct Question<'a> {
-    case: Case<'a>,
-    question: &'a str,
-    kind: &'a str,
-    verdict: &'a str,
+pub struct Question<'a> {
+    pub case: Case<'a>,
+    pub question: &'a str,
+    pub kind: &'a str,
+    pub verdict: &'a str,
 }
 
 const CERTAIN: [Question<'static>; 10] = [
@@ -128,8 +128,8 @@ const SAME: [Question<'static>; 8] = [
     },
 ];
 
-// The report of `ask` has this verdict, and `verify` accepts it.
-fn expect_shown(rt: &(impl Abort + AllocGlobal), row: Question<'_>) -> Result<(), Fail> {
+/// The report of `ask` has this verdict, and `verify` accepts it.
+pub fn expect_shown(rt: &(impl Abort + AllocGlobal), row: Question<'_>) -> Result<(), Fail> {
     let documents = Documents {
         q: row.question.as_bytes(),
         ..row.case.documents(b"")

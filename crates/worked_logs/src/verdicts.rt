@@ -66,7 +66,7 @@ pub fn checked(alloc: Global, spec: &Specification, text: &str) -> Result<Checke
     if !is_numbered(&log) {
         return Err(Trouble::Unnumbered);
     }
-    match check(alloc, spec, &log) {
+    match check(alloc, spec, None, &log) {
         Ok(checked) => Ok(checked),
         Err(fault) => Err(Trouble::Refused(fault)),
     }

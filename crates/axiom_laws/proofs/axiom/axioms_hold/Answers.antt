@@ -1,5 +1,6 @@
+use Rattle.log_axioms.specs.Posed.{passing}
 use Rattle.axiom_laws.proofs.Sound.{axiom_true}
 use Rattle.axiom_laws.proofs.axiom.axioms_hold.Goals as goal
 
 pub returns : goal.returns
-returns c = axiom_true
+returns c answers = axiom_true (passing answers)

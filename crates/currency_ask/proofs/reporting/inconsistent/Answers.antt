@@ -20,7 +20,7 @@ trim-requires c =
     }
 
 pub returns : goal.returns
-returns c = λ q budget wants.
+returns c = λ q budget for_it.
     let laws : EmptyLaws = record {
       accepted = c.search_logs_are_accepted.ensures.accepted;
       in_place = c.search_logs_are_accepted.ensures.in_place;
@@ -36,4 +36,4 @@ returns c = λ q budget wants.
       few = c.requires.few;
       empty = c.requires.empty;
     } in
-    empty_reported laws c.args.search c.into_log-log.result c.args.place c.in-Ok.trimmed q budget c.new.result wants has c.in-Ok.ensures c.new.ensures
+    empty_reported laws c.args.search c.into_log-log.result c.args.place c.in-Ok.trimmed q budget c.new.result for_it has c.in-Ok.ensures c.new.ensures

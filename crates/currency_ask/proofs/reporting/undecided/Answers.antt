@@ -2,7 +2,7 @@ use Rattle.currency_ask.proofs.FoundSpent.{SpentLaws, spent_reported}
 use Rattle.currency_ask.proofs.reporting.undecided.Goals as goal
 
 pub returns : goal.returns
-returns c = λ q wants.
+returns c = λ q for_it.
     let laws : SpentLaws = record {
       accepted = c.search_logs_are_accepted.ensures.accepted;
       in_place = c.search_logs_are_accepted.ensures.in_place;
@@ -10,5 +10,5 @@ returns c = λ q wants.
       whole = c.axioms_agree.ensures.whole;
       few_counted = c.counted_steps_are_few.ensures;
     } in
-    spent_reported laws c.args.search q c.args.budget c.into_log.result c.new.result c.ranges.budget.fits wants c.is_search.ensures c.requires.few c.requires.spent
+    spent_reported laws c.args.search q c.args.budget c.into_log.result c.new.result c.ranges.budget.fits for_it c.is_search.ensures c.requires.few c.requires.spent
     c.into_log.ensures c.new.ensures

@@ -13,9 +13,11 @@ returns c = one_due record {
     binding = c.one_outcome.ensures;
     question_binding = c.one_bound_question.ensures;
   };
-  report_tree = c.one_report.ensures.one_tree;
-  report_refusal = c.one_report.ensures.one_refusal;
-  report_not_both = c.one_report.ensures.not_both;
+  reports = record {
+    report_tree = c.one_report.ensures.one_tree;
+    report_refusal = c.one_report.ensures.one_refusal;
+    report_not_both = c.one_report.ensures.not_both;
+  };
   unshown = c.first_unshown_is_one.ensures;
   not_shown = c.first_unshown_is_not_shown.ensures;
 }

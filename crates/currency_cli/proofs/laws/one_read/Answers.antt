@@ -1,4 +1,4 @@
-use Rattle.currency_cli.proofs.OneDue.{spec_read_one, question_read_one}
+use Rattle.currency_cli.proofs.OneDue.{spec_read_one, question_read_one, report_read_one}
 use Rattle.currency_cli.proofs.laws.one_read.Goals as goal
 
 pub returns-clause-specs : goal.returns-clause-specs
@@ -23,4 +23,11 @@ returns-clause-questions c = question_read_one record {
   question_not_both = c.one_question.ensures.not_both;
   binding = c.one_outcome.ensures;
   question_binding = c.one_bound_question.ensures;
+}
+
+pub returns-clause-reports : goal.returns-clause-reports
+returns-clause-reports c = report_read_one record {
+  report_tree = c.one_report.ensures.one_tree;
+  report_refusal = c.one_report.ensures.one_refusal;
+  report_not_both = c.one_report.ensures.not_both;
 }

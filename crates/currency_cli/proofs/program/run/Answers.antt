@@ -1,10 +1,10 @@
 use Rattle.std.proofs.Common.{map, ap, Ok, Err}
 use Rattle.std.specs.String.{string_bytes}
 use Rattle.currency_cli.proofs.program.run.Goals as goal
-use Rattle.currency_cli.proofs.JobsDone.{is_done, is_undecided, prefix_written, refusal_not_zero, refusal_not_three, refusal_not_eight}
+use Rattle.currency_cli.proofs.JobsDone.{done_reads, sink_failed, is_done, is_undecided, prefix_written, refusal_not_zero, refusal_not_three, refusal_not_eight}
 use Rattle.currency_cli.proofs.Exact.{comes_to, comes_to_its_own}
 use Rattle.currency_cli.proofs.Refusals.{refused, words_refused, are_words, done_not_two, names_unread}
-use Rattle.currency_cli.proofs.Replies.{answered}
+use Rattle.currency_cli.proofs.Replies.{answered, verified, listed}
 
 -- ---- the job was done
 
@@ -63,6 +63,26 @@ returns-in-Err-clause-answered g c =
     answered c.one_read.ensures.specs c.one_read.ensures.questions (g.S.Shelf.texts c.args.shelf.now) _ (map (λ w. string_bytes w) c.args.words.now)
     (Err c.in-Err.trouble) _ _ _ _ _ _ c.refuse.result c.in-Err.ensures.due c.in-Err.ensures.read_fault c.refuse.ensures
 
+pub returns-in-Ok-clause-verified : goal.returns-in-Ok-clause-verified
+returns-in-Ok-clause-verified g c =
+    verified c.one_read.ensures.specs c.one_read.ensures.questions c.one_read.ensures.reports (g.S.Shelf.texts c.args.shelf.now) _ (map (λ w. string_bytes w) c.args.words.now)
+    (Ok c.in-Ok.done) _ _ _ _ _ _ c.hand_out.result c.in-Ok.ensures.due c.in-Ok.ensures.read_fault c.hand_out.ensures
+
+pub returns-in-Err-clause-verified : goal.returns-in-Err-clause-verified
+returns-in-Err-clause-verified g c =
+    verified c.one_read.ensures.specs c.one_read.ensures.questions c.one_read.ensures.reports (g.S.Shelf.texts c.args.shelf.now) _ (map (λ w. string_bytes w) c.args.words.now)
+    (Err c.in-Err.trouble) _ _ _ _ _ _ c.refuse.result c.in-Err.ensures.due c.in-Err.ensures.read_fault c.refuse.ensures
+
+pub returns-in-Ok-clause-listed : goal.returns-in-Ok-clause-listed
+returns-in-Ok-clause-listed g c =
+    listed c.one_read.ensures.specs (g.S.Shelf.texts c.args.shelf.now) _ (map (λ w. string_bytes w) c.args.words.now)
+    (Ok c.in-Ok.done) _ _ _ _ _ _ c.hand_out.result c.in-Ok.ensures.due c.in-Ok.ensures.read_fault c.hand_out.ensures
+
+pub returns-in-Err-clause-listed : goal.returns-in-Err-clause-listed
+returns-in-Err-clause-listed g c =
+    listed c.one_read.ensures.specs (g.S.Shelf.texts c.args.shelf.now) _ (map (λ w. string_bytes w) c.args.words.now)
+    (Err c.in-Err.trouble) _ _ _ _ _ _ c.refuse.result c.in-Err.ensures.due c.in-Err.ensures.read_fault c.refuse.ensures
+
 -- ---- refusals
 
 pub returns-in-Ok-clause-refused : goal.returns-in-Ok-clause-refused
@@ -94,3 +114,14 @@ pub returns-in-Err-clause-read_fault_text : goal.returns-in-Err-clause-read_faul
 returns-in-Err-clause-read_fault_text g c seven =
     names_unread (g.S.Shelf.texts c.args.shelf.now) _ (map (λ w. string_bytes w) c.args.words.now) c.in-Err.trouble _ _ _ _ c.refuse.result
     c.in-Err.ensures.unread c.refuse.ensures seven
+
+-- ---- faults of the outside
+
+pub returns-in-Ok-clause-read_fault : goal.returns-in-Ok-clause-read_fault
+returns-in-Ok-clause-read_fault g c seven = absurd (done_reads _ _ _ _ c.in-Ok.done c.hand_out.result c.hand_out.ensures seven)
+
+pub returns-in-Ok-clause-read_fault_text : goal.returns-in-Ok-clause-read_fault_text
+returns-in-Ok-clause-read_fault_text g c seven = absurd (done_reads _ _ _ _ c.in-Ok.done c.hand_out.result c.hand_out.ensures seven)
+
+pub returns-in-Ok-clause-write_fault : goal.returns-in-Ok-clause-write_fault
+returns-in-Ok-clause-write_fault g c eight = sink_failed _ _ _ _ c.in-Ok.done c.hand_out.result c.hand_out.ensures eight

@@ -1,5 +1,5 @@
 use Rattle.std.proofs.Common.{arith, ap, length}
-use Rattle.currency_cli.specs.Due.{IsSpecSaid, text_bound}
+use Rattle.currency_cli.specs.Stages.{IsSpecSaid, text_bound}
 use Rattle.currency_cli.proofs.WholeTexts.{of_document}
 use Rattle.currency_cli.proofs.stages.read_specification.Goals as goal
 

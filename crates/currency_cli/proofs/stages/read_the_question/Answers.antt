@@ -1,5 +1,5 @@
 use Rattle.std.proofs.Common.{arith, ap, length}
-use Rattle.currency_cli.specs.Due.{IsQuestionSaid, text_bound}
+use Rattle.currency_cli.specs.Stages.{IsQuestionSaid, text_bound}
 use Rattle.currency_cli.proofs.WholeTexts.{of_document}
 use Rattle.currency_cli.proofs.stages.read_the_question.Goals as goal
 

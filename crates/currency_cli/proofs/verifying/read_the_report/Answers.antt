@@ -1,4 +1,4 @@
-use Rattle.currency_cli.specs.Due.{IsReportSaid}
+use Rattle.currency_cli.specs.Stages.{IsReportSaid}
 use Rattle.currency_cli.proofs.WholeTexts.{of_whole_document}
 use Rattle.currency_cli.proofs.verifying.read_the_report.Goals as goal
 

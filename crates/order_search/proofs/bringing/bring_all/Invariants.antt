@@ -6,7 +6,7 @@ use Rattle.order_search.proofs.bringing.bring_all.Given as goal
 abbrev pub invariant-loop-place : goal.invariant-loop-place
 invariant-loop-place g l = record {
   held : IsHeld l.subject l.progress.solver l.progress.brought.items;
-  added : HasAdded l.initial.progress.solver.steps l.progress.solver.steps;
+  added : HasAdded l.initial.progress.solver l.progress.solver;
   units : counted_steps l.progress.solver.steps ≡ counted_steps l.initial.progress.solver.steps;
   so_far : AreBroughtIn l.subject l.cycles l.place l.initial.progress.solver.steps l.initial.progress.brought.items l.progress.solver.steps l.progress.brought.items;
 }

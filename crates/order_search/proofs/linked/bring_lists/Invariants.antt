@@ -6,6 +6,6 @@ use Rattle.order_search.proofs.linked.bring_lists.Given as goal
 abbrev pub invariant-loop-place : goal.invariant-loop-place
 invariant-loop-place g l = record {
   held : IsHeld l.subject l.progress.solver l.progress.brought.items;
-  added : HasAdded l.initial.progress.solver.steps l.progress.solver.steps;
+  added : HasAdded l.initial.progress.solver l.progress.solver;
   units : counted_steps l.progress.solver.steps ≡ counted_steps l.initial.progress.solver.steps;
 }

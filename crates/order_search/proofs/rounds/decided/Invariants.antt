@@ -6,7 +6,7 @@ use Rattle.order_search.proofs.rounds.decided.Given as goal
 abbrev pub invariant-loop-outcome : goal.invariant-loop-outcome
 invariant-loop-outcome g l = record {
   held : IsHeld l.subject l.progress.solver l.progress.brought.items;
-  added : HasAdded l.fn.progress.solver.steps l.progress.solver.steps;
+  added : HasAdded l.fn.progress.solver l.progress.solver;
   units : counted_steps l.progress.solver.steps + l.budget ≡ counted_steps l.fn.progress.solver.steps + l.fn.budget;
 }
 

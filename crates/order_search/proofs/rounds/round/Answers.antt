@@ -1,6 +1,6 @@
 use Rattle.std.proofs.Common.{length}
 use Rattle.order_search.proofs.Growing.{held_grown}
-use Rattle.order_search.proofs.Models.{model_true, open_log}
+use Rattle.order_search.proofs.Models.{counter_of, model_true, open_log}
 use Rattle.order_search.proofs.rounds.round.Goals as goal
 
 pub completed-requires-clause-held : goal.completed-requires-clause-held
@@ -13,6 +13,13 @@ completed-requires-clause-holds g c =
     let solver = c.decide-found.new.self in
     model_true (length solver.frame.statements) solver.steps c.args.goal c.in-Ok-Model.truths c.is_solver.ensures.fit
     (rw c.in-Ok-Model.field-0-is at c.in-Ok-Model.ensures.found)
+
+pub returns-in-Ok-Some-clause-some : goal.returns-in-Ok-Some-clause-some
+returns-in-Ok-Some-clause-some g c =
+    let solver = c.decide-found.new.self in
+    counter_of c.args.subject.now (length solver.frame.statements) solver c.completed.new.progress.solver c.args.goal c.in-Ok-Model.truths
+    c.in-Ok-Some.completion (rw c.in-Ok-Model.field-0-is at c.in-Ok-Model.ensures.found) (rw c.in-Ok-Some.field-0-is at c.in-Ok-Some.ensures.kept)
+    (rw c.in-Ok-Some.field-0-is at c.in-Ok-Some.ensures.some)
 
 pub returns-in-Ok-Proved-clause-held : goal.returns-in-Ok-Proved-clause-held
 returns-in-Ok-Proved-clause-held g c =

@@ -1,11 +1,9 @@
-use Rattle.text_grammar.specs.Laws.{AtFirst}
 use Rattle.text_grammar.proofs.TextLaws.{read_by, refused_by}
-use Rattle.question_syntax.specs.Grammar.{is_unbuilt_question}
-use Rattle.question_syntax.proofs.Rules.{reads_question, tells_question}
+use Rattle.question_syntax.proofs.Rules.{reads_question}
 use Rattle.question_syntax.proofs.read.read_question.Goals as goal
 
 pub returns-clause-read : goal.returns-clause-read
 returns-clause-read c = read_by reads_question c.args.source.now c.read_text.result c.read_text.ensures.read
 
 pub returns-clause-refused : goal.returns-clause-refused
-returns-clause-refused c = refused_by reads_question (AtFirst is_unbuilt_question) tells_question c.args.source.now c.read_text.result c.read_text.ensures.refused
+returns-clause-refused c = refused_by reads_question c.args.source.now c.read_text.result c.read_text.ensures.refused

@@ -1,6 +1,4 @@
-use Rattle.text_grammar.proofs.TextLaws.{read_by, refused_by, tells_never}
-use Rattle.report_syntax.specs.Reads.{NeverOpens}
-use Rattle.report_syntax.proofs.Plain.{plain_report}
+use Rattle.text_grammar.proofs.TextLaws.{read_by, refused_by}
 use Rattle.report_syntax.proofs.Rules.{reads_report}
 use Rattle.report_syntax.proofs.Sizes.{read_short}
 use Rattle.report_syntax.proofs.read.read_report_tree.Goals as goal
@@ -14,4 +12,4 @@ returns-clause-short c =
 
 pub returns-clause-refused : goal.returns-clause-refused
 returns-clause-refused c =
-    refused_by reads_report NeverOpens (tells_never plain_report) c.args.source.now c.read_text.result c.read_text.ensures.refused
+    refused_by reads_report c.args.source.now c.read_text.result c.read_text.ensures.refused

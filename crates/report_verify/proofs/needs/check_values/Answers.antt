@@ -12,7 +12,7 @@ returns-then-not-has_last-clause-unmet c =
     let here : slice_get item.values c.loop-attr.attr ≡ Some c.value-item.result =
     rw (← c.as_slice-value-items.ensures)
     (slice_get_read c.as_slice-value-items.result.now (length c.as_slice-value-items.result.now) c.loop-attr.attr c.value-item.result refl c.loop-attr-test.true c.value-item.is) in
-    c.unmet_value.ensures c.args.from c.loop-attr.attr c.args.units.now.relations c.args.units.now.log needs c.loop-attr.invariant.count
+    c.unmet_item.ensures c.args.from c.loop-attr.attr c.args.units.now.relations c.args.units.now.log needs c.loop-attr.invariant.count
     (first_unmet c.args.units.now.relations c.args.units.now.log needs c.loop-attr.attr
     (value_need c.args.at item.rel c.loop-attr.attr item.ent c.value-item.result)
     (value_at c.args.at item.rel item.ent item.values c.loop-attr.attr c.value-item.result here)

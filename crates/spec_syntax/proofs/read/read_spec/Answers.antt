@@ -1,10 +1,9 @@
 use Rattle.text_grammar.proofs.TextLaws.{read_by, refused_by}
-use Rattle.spec_syntax.specs.Texts.{NeverOpens}
-use Rattle.spec_syntax.proofs.Rules.{reads_spec, tells_spec}
+use Rattle.spec_syntax.proofs.Rules.{reads_spec}
 use Rattle.spec_syntax.proofs.read.read_spec.Goals as goal
 
 pub returns-clause-read : goal.returns-clause-read
 returns-clause-read c = read_by reads_spec c.args.source.now c.read_text.result c.read_text.ensures.read
 
 pub returns-clause-refused : goal.returns-clause-refused
-returns-clause-refused c = refused_by reads_spec NeverOpens tells_spec c.args.source.now c.read_text.result c.read_text.ensures.refused
+returns-clause-refused c = refused_by reads_spec c.args.source.now c.read_text.result c.read_text.ensures.refused

@@ -5,4 +5,4 @@ use Rattle.log_axioms.proofs.axioms.Axioms.members.Goals as goal
 pub returns : goal.returns
 returns c r at =
     indexed_at c.self.inside.spec.now.relations c.self.inside.index c.args.rel.0 c.get.result.now r c.self.invariant c.get.ensures
-    (ap (λ s. slice_get s.relations c.args.rel.0) c.self.view_is ∙ at)
+    (ap (λ b. slice_get b.spec.relations c.args.rel.0) c.self.view_is ∙ at)

@@ -1,9 +1,9 @@
 use Rattle.std.proofs.Common.{subst}
-use Rattle.order_clauses.specs.Subject.{Subject}
 use Rattle.order_literals.specs.Numbers.{Numbers}
 use Rattle.order_literals.specs.Said.{Says, before}
 use Rattle.order_literals.specs.Statements.{statements_of}
 use Rattle.order_search.specs.Kept.{vars_of}
+use Rattle.order_search.specs.Searches.{Subject}
 use Rattle.order_search.proofs.subject.Subject.before.Goals as goal
 
 pub returns : goal.returns

@@ -1,9 +1,8 @@
 use Rattle.std.proofs.Common.{◌≡◌, Some, slice_get, subst, sym}
-use Rattle.order_clauses.specs.Subject.{Subject}
 use Rattle.order_literals.specs.Said.{Says, last}
 use Rattle.value_names.specs.Names.{name_of}
 use Rattle.order_search.specs.Kept.{vars_of}
-use Rattle.order_search.specs.Searches.{IsWantedRow}
+use Rattle.order_search.specs.Searches.{IsWantedRow, Subject}
 use Rattle.order_search.proofs.Rows.{WantedFacts, wanted_there, named_as}
 use Rattle.order_search.proofs.subject.Subject.current.Goals as goal
 

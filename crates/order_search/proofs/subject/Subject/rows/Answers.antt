@@ -1,7 +1,7 @@
 use Rattle.std.proofs.Common.{subst, sym}
-use Rattle.order_clauses.specs.Subject.{Subject}
 use Rattle.order_links.specs.Lists.{IsListOf}
 use Rattle.order_search.specs.Kept.{AreRowsOf}
+use Rattle.order_search.specs.Searches.{Subject}
 use Rattle.order_search.proofs.Rows.{list_ent, list_rel, list_rows}
 use Rattle.order_search.proofs.subject.Subject.rows.Goals as goal
 

@@ -1,0 +1,4 @@
+mod Fronts
+mod Going
+mod Matching
+mod Wanting

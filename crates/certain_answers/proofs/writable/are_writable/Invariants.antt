@@ -1,0 +1,7 @@
+use Rattle.std.proofs.Common.{All, take}
+use Rattle.log_write.specs.Writable.{AreFew}
+use Rattle.text_write.specs.Written.{IsValue}
+use Rattle.certain_answers.proofs.writable.are_writable.Given as goal
+
+abbrev pub invariant-loop-place : goal.invariant-loop-place
+invariant-loop-place l = All (AreFew IsValue) (take l.place l.tuples)

@@ -1,0 +1,124 @@
+-- What is decided of candidates for certain answers, and what comes of it.
+use Rattle.std.specs.Prelude.{◌≡◌, ◌⊎◌, ℕ, true, List, [], ◌∷◌, Some, length, map, slice_get}
+use Rattle.std.specs.List.{flat_map}
+use Rattle.currency_base.specs.declared.ids.RelId.{RelId}
+use Rattle.currency_base.specs.declared.lit.Lit.{Lit}
+use Rattle.currency_base.specs.declared.value.Value.{Value}
+use Rattle.query_model.specs.Answers.{IsMatch}
+use Rattle.query_model.specs.declared.query.Atom.{Atom}
+use Rattle.query_model.specs.declared.query.Disjunct.{Disjunct}
+use Rattle.query_model.specs.declared.query.Match.{Match}
+use Rattle.query_model.specs.declared.query.Query.{Query}
+use Rattle.spec_model.specs.Completion.{IsCompletion, Rankings}
+use Rattle.spec_model.specs.Consistent.{IsConsistent}
+use Rattle.spec_model.specs.Spec.{Spec}
+use Rattle.spec_model.specs.declared.relation.Relation.{Relation}
+use Rattle.answer_laws.specs.Answered.{IsAnswerIn}
+use Rattle.answer_candidates.specs.Candidates.{Standing}
+use Rattle.refutation_log.specs.Counted.{IsOpenLog}
+use Rattle.refutation_log.specs.Steps.{clauses_of}
+use Rattle.match_clauses.specs.Clauses.{SaysAnswer}
+use Rattle.match_clauses.specs.Matched.{IsMatchIn, IsOfWanted}
+use Rattle.order_search.specs.Searches.{Search}
+use Rattle.order_search.specs.declared.outcome.Outcome.{Outcome}
+use Rattle.order_search.specs.declared.outcome.Outcome.TheVariants.{Model, Proved, Empty, Spent}
+use Rattle.ucq_answers.specs.Planned.{IndexedQuery}
+use Rattle.certain_answers.specs.declared.settling.Settled.{Settled}
+use Rattle.certain_answers.specs.declared.settling.Settled.TheVariants as settled
+use Rattle.certain_answers.specs.declared.settling.Step.{Step}
+use Rattle.certain_answers.specs.declared.settling.Step.TheVariants as step
+
+-- the relations of a disjunct's atoms
+abbrev pub relations_in : Disjunct → List RelId
+relations_in d = map (λ (a : Atom). a.relation) d.atoms
+
+-- the relations of a query's atoms
+abbrev pub relations_of : Query → List RelId
+relations_of query = flat_map relations_in query.disjuncts
+
+-- a search over a specification in which a query is posed, and the current values of its atoms' relations are wanted
+pub record IsSearchFor (s : Spec) (query : Query) (search : Search) : Type 0 where
+  pub spec : search.spec ≡ s
+  pub query_is : search.posed.query ≡ Some query
+  pub currents : search.wanted.currents ≡ relations_of query
+
+-- ---- one candidate
+
+-- the tuple at a place of the posed answers is no answer over a consistent completion
+pub record IsRefuted (search : Search) (place : ℕ) (c : Rankings) : Type 0 where
+  pub consistent : IsConsistent search.spec c
+  pub fails : (query : Query) (tuple : List Value) → search.posed.query ≡ Some query → slice_get search.posed.answers place ≡ Some tuple
+      → IsAnswerIn search.spec.relations query tuple c → ⊥
+
+-- a step of the log is the unit of a literal that says that it is an answer
+pub record IsProved (search : Search) (place step : ℕ) : Type 0 where
+  pub lit : Lit
+  pub says : SaysAnswer search.log.statements place lit
+  pub is_unit : slice_get (clauses_of search.log.steps) step ≡ Some (lit ∷ [])
+
+-- what deciding a candidate tells, with so many units left: a consistent completion over which it is no answer; the step that is its
+-- unit; the step that is the empty clause; or that no unit is left, and the log is open
+abbrev pub TellsAnswer : Search → ℕ → ℕ → Outcome → Type 0
+TellsAnswer search place left (Model truths c) = IsRefuted search place c
+TellsAnswer search place left (Proved step) = IsProved search place step
+TellsAnswer search place left (Empty step) = slice_get (clauses_of search.log.steps) step ≡ Some []
+TellsAnswer search place left Spent = (left ≡ 0) × IsOpenLog search.log.steps
+
+-- a match of the posed query over a completion, which makes the tuple at a place of the posed answers one
+pub record IsMatchAt (search : Search) (c : Rankings) (m : Match) (answer : ℕ) : Type 0 where
+  pub query : Query
+  pub is_query : search.posed.query ≡ Some query
+  pub tuple : List Value
+  pub is_tuple : slice_get search.posed.answers answer ≡ Some tuple
+  pub completion : IsCompletion search.spec.relations c
+  pub is_match : IsMatchIn search.spec.relations c query tuple m
+  pub of_wanted : IsOfWanted search.wanted.currents query m
+
+-- ---- all candidates
+
+-- the search came to an end: a step is the empty clause, or no unit is left, and the log is open
+abbrev pub IsEnd : Search → ℕ → Outcome → Type 0
+IsEnd search left (Model truths c) = ⊥
+IsEnd search left (Proved step) = ⊥
+IsEnd search left (Empty step) = slice_get (clauses_of search.log.steps) step ≡ Some []
+IsEnd search left Spent = (left ≡ 0) × IsOpenLog search.log.steps
+
+-- a candidate is gone, or the step is its unit
+abbrev pub IsSettled : Search → Standing → ℕ → ℕ → Type 0
+IsSettled search standing place step = (slice_get standing.gone place ≡ Some true) ⊎ IsProved search place step
+
+-- so many first candidates are settled, each by the step at its place
+pub record AreSettled (search : Search) (standing : Standing) (count : ℕ) (steps : List ℕ) : Type 0 where
+  pub as_many : length steps ≡ count
+  pub each : (place step : ℕ) → slice_get steps place ≡ Some step → IsSettled search standing place step
+
+-- what deciding all candidates came to, with so many units left
+abbrev pub TellsSettled : Search → Standing → ℕ → Settled → Type 0
+TellsSettled search standing left (settled.All steps) = AreSettled search standing (length standing.tuples) steps
+TellsSettled search standing left (settled.Ended outcome) = IsEnd search left outcome
+
+-- what is gone stays gone
+abbrev pub StaysGone : Standing → Standing → Type 0
+StaysGone old new = (place : ℕ) → slice_get old.gone place ≡ Some true → slice_get new.gone place ≡ Some true
+
+-- what deciding the candidate at a place came to, with so many units left
+abbrev pub TellsStep : Search → Standing → ℕ → ℕ → Step → Type 0
+TellsStep search standing place left (step.Taken unit) = IsSettled search standing place unit
+TellsStep search standing place left (step.Ended outcome) = IsEnd search left outcome
+
+-- ---- matches
+
+-- one match of each tuple over the current instance of a completion
+pub record AreMatches (relations : List Relation) (query : Query) (c : Rankings) (tuples : List (List Value)) (matches : List Match) : Type 0 where
+  pub as_many : length matches ≡ length tuples
+  pub each : (place : ℕ) (tuple : List Value) (m : Match) → slice_get tuples place ≡ Some tuple → slice_get matches place ≡ Some m
+      → IsMatchIn relations c query tuple m
+
+-- a match of the tuple at a place over an instance that is indexed
+abbrev pub IsMatchOver : IndexedQuery → List (List Value) → ℕ → Match → Type 0
+IsMatchOver indexed tuples place m = (tuple : List Value) → slice_get tuples place ≡ Some tuple → IsMatch indexed.query indexed.instance tuple m
+
+-- one of each of so many first tuples
+pub record AreMatchesOver (indexed : IndexedQuery) (tuples : List (List Value)) (count : ℕ) (matches : List Match) : Type 0 where
+  pub as_many : length matches ≡ count
+  pub each : (place : ℕ) (m : Match) → slice_get matches place ≡ Some m → IsMatchOver indexed tuples place m

@@ -1,0 +1,153 @@
+ghost use Rattle.std.specs.Prelude.{◌≡◌, ◌+◌, ◌<◌, ◌≤◌, ℕ, List, IfOk, OnOk, Some, true, length, slice_get};
+ghost use Rattle.answer_laws.specs.Answered.{IsAnswerIn};
+ghost use Rattle.currency_base.specs.declared.value.Value.{Value};
+ghost use Rattle.answer_candidates.specs.Candidates.{AreCandidates};
+ghost use Rattle.order_search.specs.Searches.{HasGone};
+ghost use Rattle.query_model.specs.Fitting.{IsQuery};
+ghost use Rattle.refutation_log.specs.Counted.{counted_steps};
+ghost use Rattle.spec_model.specs.Consistent.{IsConsistent};
+ghost use Rattle.certain_answers.specs.Deciding.{IsSearchFor, StaysGone, TellsSettled, TellsStep};
+
+use crate::deciding::decide_answer;
+use answer_candidates::Candidates;
+use currency_base::NoMemory;
+use current_tuples::current;
+use order_search::{Outcome, Search};
+use query_model::Query;
+use refutation_log::HintList;
+use solver_guides::Guides;
+use spec_model::{Completion, Specification};
+use std::alloc::Global;
+use ucq_answers::IndexedInstance;
+use watch_solver::Budget;
+
+/// What deciding candidates came to.
+#[derive(Debug, Drop)]
+pub enum Settled {
+    /// One step for each candidate: its unit, unless the candidate is gone.
+    All(HintList),
+    /// The search came to an end.
+    Ended(Outcome),
+}
+
+/// Decides each candidate that is an answer over all listed completions. A completion that refutes one is looked at for all.
+pub fn decide_left(
+    alloc: Global,
+    spec: &Specification,
+    query: &Query,
+    candidates: &mut Candidates,
+    search: &mut Search<'_>,
+    units: &mut Budget,
+    guides: &mut Guides,
+) -> Result<Settled, NoMemory>
+    requires query { IsQuery query.now }
+    requires search { IsSearchFor spec.now query.now search.old }
+    requires answers { search.old.posed.answers ≡ candidates.old.tuples }
+    requires candidates { AreCandidates spec.now query.now candidates.old }
+    requires few { length candidates.old.tuples ≤ 1000000 }
+    ensures gone { HasGone search.old search.new }
+    ensures tuples { candidates.new.tuples ≡ candidates.old.tuples }
+    ensures candidates { IfOk result (λ _. AreCandidates spec.now query.now candidates.new) }
+    ensures units { counted_steps search.new.log.steps + units.new ≡ counted_steps search.old.log.steps + units.old }
+    ensures told { IfOk result (TellsSettled search.new candidates.new units.new) }
+{
+    let mut steps = HintList::new(alloc);
+    for place in 0..candidates.tuples().len() {
+        match step_for(alloc, spec, query, candidates, place, search, units, guides) {
+            Ok(Step::Taken(step)) => match steps.push(step) {
+                Ok(()) => {}
+                Err(error) => return Err(error),
+            },
+            Ok(Step::Ended(outcome)) => return Ok(Settled::Ended(outcome)),
+            Err(error) => return Err(error),
+        }
+    }
+    Ok(Settled::All(steps))
+}
+
+// What deciding a candidate came to.
+#[derive(Drop)]
+pub(crate) enum Step {
+    // its unit; any step, where the candidate is gone
+    Taken(u32),
+    // the search came to an end
+    Ended(Outcome),
+}
+
+// Decides the candidate at a place, unless it is gone.
+fn step_for(
+    alloc: Global,
+    spec: &Specification,
+    query: &Query,
+    candidates: &mut Candidates,
+    place: usize,
+    search: &mut Search<'_>,
+    units: &mut Budget,
+    guides: &mut Guides,
+) -> Result<Step, NoMemory>
+    requires query { IsQuery query.now }
+    requires search { IsSearchFor spec.now query.now search.old }
+    requires answers { search.old.posed.answers ≡ candidates.old.tuples }
+    requires candidates { AreCandidates spec.now query.now candidates.old }
+    requires place { place < length candidates.old.tuples }
+    requires few { length candidates.old.tuples ≤ 1000000 }
+    ensures gone { HasGone search.old search.new }
+    ensures tuples { candidates.new.tuples ≡ candidates.old.tuples }
+    ensures candidates { IfOk result (λ _. AreCandidates spec.now query.now candidates.new) }
+    ensures stays { IfOk result (λ _. StaysGone candidates.old candidates.new) }
+    ensures units { counted_steps search.new.log.steps + units.new ≡ counted_steps search.old.log.steps + units.old }
+    ensures told { IfOk result (TellsStep search.new candidates.new place units.new) }
+{
+    if candidates.is_gone(place) {
+        return Ok(Step::Taken(0));
+    }
+    match decide_answer(
+        alloc,
+        spec,
+        query,
+        candidates,
+        search,
+        place as u32,
+        units,
+        guides,
+    ) {
+        Ok(Outcome::Proved(step)) => Ok(Step::Taken(step)),
+        Ok(Outcome::Model { completion, .. }) => match note(
+            alloc, spec, query, candidates, completion,
+        ) {
+            Ok(()) => Ok(Step::Taken(0)),
+            Err(error) => Err(error),
+        },
+        Ok(Outcome::Empty(step)) => Ok(Step::Ended(Outcome::Empty(step))),
+        Ok(Outcome::Spent) => Ok(Step::Ended(Outcome::Spent)),
+        Err(error) => Err(error),
+    }
+}
+
+/// Notes which candidates are no answers over one more consistent completion.
+pub fn note(
+    alloc: Global,
+    spec: &Specification,
+    query: &Query,
+    candidates: &mut Candidates,
+    completion: Completion,
+) -> Result<(), NoMemory>
+    requires query { IsQuery query.now }
+    requires consistent { IsConsistent spec.now completion }
+    requires candidates { AreCandidates spec.now query.now candidates.old }
+    ensures tuples { candidates.new.tuples ≡ candidates.old.tuples }
+    ensures candidates { OnOk result (AreCandidates spec.now query.now candidates.new) }
+    ensures stays { OnOk result (StaysGone candidates.old candidates.new) }
+    ensures refuted { (place : ℕ) (tuple : List Value) → slice_get candidates.old.tuples place ≡ Some tuple
+        → (IsAnswerIn spec.now.relations query.now tuple completion → ⊥) → OnOk result (slice_get candidates.new.gone place ≡ Some true) }
+{
+    let instance = match current(alloc, spec, &completion) {
+        Ok(instance) => instance,
+        Err(error) => return Err(error),
+    };
+    let indexed = match IndexedInstance::new(alloc, query, &instance) {
+        Ok(indexed) => indexed,
+        Err(error) => return Err(error),
+    };
+    candidates.note(alloc, &indexed, completion)
+}

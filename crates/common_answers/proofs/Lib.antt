@@ -1,0 +1,4 @@
+mod Leaving
+mod Lists
+mod Places
+mod Rest

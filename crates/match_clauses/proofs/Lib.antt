@@ -1,0 +1,6 @@
+mod Sources
+mod Putting
+mod Values
+mod Places
+mod Atoms
+mod Matches

@@ -1,0 +1,4 @@
+pub mod Documents
+pub mod Lines
+pub mod Rows
+pub mod Tables
