@@ -5,12 +5,13 @@ how it compares with an outside solver on the same clauses.
 The first family has rows in entities of 8: given chains (some of them broken), a value rule, two order rules and a copy. Asked of it
 are `consistent`, `certain` of one pair of each entity of one relation, which follows from two known pairs and a rule, and `answers` of a query with one
 answer for each entity of it, of which half are certain. In the second family
-each value is determined, and `same` is asked of all relations. The third is near the limits on pairs of rows and on instances: entities of 4 and of 64. Then comes a query with
-more answers than are gone through. At last
+each value is determined, and `same` is asked of all relations. The third is near the limits on pairs of rows and on instances: entities of 4 and of 64. In the fourth all that is
+asked is certain by cases alone, and so it is in the fifth, where each row of an entity may be the last. Then comes a query with more answers than are gone through. At last
 as many pairs are asked about as may be, and one more. Runs the program as
 built, and prints per command and N the time per row, its ratio to the smallest N, and the peak memory; and where the
 program `bench_ask` is built (`rt run` in its folder), what the log of the search came to, with how many axioms on three rows
-were brought in. Where Debian's
+were brought in, how many units were taken (learned and on demand), how many completions are listed, and how many models there were that are
+consistent completions. Where Debian's
 `cadical` is installed, the clauses of the first family are written for it too (with the axioms on three rows of all
 lists, which `currency` brings in only where a list goes round), and the ratio of the times is printed. Where a case is
 above a mark, this is said and the exit status is 1."""
@@ -23,6 +24,8 @@ import time
 from runs import ROOT, build, end, timed
 
 SEARCH = ROOT / "crates" / "bench_ask" / "out" / "bench_ask"
+# the words of that program beside which commands
+SEARCHED = {"ask": ["s"], "ask answers": ["s", "query"]}
 
 SIZES = [1_000, 10_000, 100_000]
 ENTITY = 8
@@ -32,6 +35,10 @@ MARKS = {
     "ask certain": (4, 60, 1_600),
     "ask same": (4, 60, 1_600),
     "ask answers": (4, 120, 1_600),
+    "ask certain by cases": (4, 60, 1_600),
+    "ask same by cases": (4, 60, 1_600),
+    "ask answers by cases": (4, 120, 1_600),
+    "ask answers of any row": (4, 120, 1_600),
 }
 MOST_RATIO = 3
 OUTSIDE = 10_000
@@ -139,6 +146,35 @@ def write_determined(folder, rows):
     )
 
 
+CASES = """relation R from "r.csv" row id entity eid (x: int, a: int, c: int, b: int);
+rule rises on R (s, t): if s.x < t.x then s before t in x;
+""" + "".join(
+    f"rule r{number} on R (s, t): if s.x < t.x and {first} and {second} then s before t in b;\n"
+    for number, (first, second) in enumerate(
+        (f"{one} in a", f"{other} in c") for one in ("s before t", "t before s") for other in ("s before t", "t before s")
+    )
+)
+
+
+def write_cases(folder, rows):
+    """The fourth family: entities of two rows, of which one stands before the other in an attribute however they stand in two others."""
+    entities = range(rows // 2)
+    (folder / "s").write_text(CASES)
+    (folder / "pairs").write_text('certain orders R from "asked.csv";\n')
+    (folder / "values").write_text("same R;\n")
+    (folder / "query").write_text("answers (e, y) where R(e, _, _, _, y);\n")
+    # the two rows have the same values where their order is not known
+    table(folder / "r.csv", "id,eid,x,a,c,b", (f"r{e}_{r},e{e},{r},0,0,{r}" for e in entities for r in (1, 2)))
+    table(folder / "asked.csv", "attribute,earlier,later", (f"b,r{e}_1,r{e}_2" for e in entities))
+
+
+def write_any_row(folder, rows):
+    """The fifth family: entities of three rows of which nothing is known, and each of which has a value that the query asks for."""
+    (folder / "s").write_text('relation R from "r.csv" row id entity eid (a: int);\n')
+    (folder / "query").write_text("answers (e) where R(e, x) and x >= 1;\n")
+    table(folder / "r.csv", "id,eid,a", (f"r{e}_{r},e{e},{r}" for e in range(rows // 3) for r in (1, 2, 3)))
+
+
 def write_limit(folder, entity, entities, attrs):
     """The third family: entities of one size, a value rule and a chain of order rules over the attributes."""
     names = [f"a{number}" for number in range(attrs)]
@@ -234,11 +270,32 @@ ANSWERS = {
     "ask answers": ["ask", "s", "query"],
     "verify answers": ["verify", "s", "query", "p"],
 }
-VERDICTS = {"ask": b"consistent", "ask certain": b"certain", "ask same": b"same", "ask answers": b"answers"}
+CASES_ASKED = {
+    "ask certain by cases": ["ask", "s", "pairs"],
+    "verify certain by cases": ["verify", "s", "pairs", "p"],
+    "ask same by cases": ["ask", "s", "values"],
+    "verify same by cases": ["verify", "s", "values", "p"],
+    "ask answers by cases": ["ask", "s", "query"],
+    "verify answers by cases": ["verify", "s", "query", "p"],
+}
+ANY_ROW = {
+    "ask answers of any row": ["ask", "s", "query"],
+    "verify answers of any row": ["verify", "s", "query", "p"],
+}
+VERDICTS = {
+    "ask": b"consistent",
+    "ask certain": b"certain",
+    "ask same": b"same",
+    "ask answers": b"answers",
+    "ask certain by cases": b"certain",
+    "ask same by cases": b"same",
+    "ask answers by cases": b"answers",
+    "ask answers of any row": b"answers",
+}
 
 
 def told_of(said, rows, above):
-    """How many answers a report prints, completions it lists, and units its log has; half of the entities have a certain answer."""
+    """How many answers a report prints, completions it lists, and units its trimmed log has; half of the entities have a certain answer."""
     lines = said.split(b"\n")
     counts = {word: sum(line.startswith(word + b" ") or line == word + b";" for line in lines) for word in (b"answer", b"completion", b"learn", b"demand")}
     print("  " + ", ".join(f"{count} {word.decode()}" for word, count in counts.items()))
@@ -268,14 +325,14 @@ def measure(commands, folder, rows, first, above):
             above.append(f"{name} at {rows} rows: {megabytes:.0f} MB")
         if name == "ask answers":
             told_of(said, rows, above)
-        if name == "ask" and SEARCH.exists():
-            print("  " + subprocess.run([SEARCH, "s"], cwd=folder, capture_output=True, text=True).stdout.strip())
+        if name in SEARCHED and SEARCH.exists():
+            print("  " + subprocess.run([SEARCH, *SEARCHED[name]], cwd=folder, capture_output=True, text=True).stdout.strip())
         if name == "ask --brief" and rows == OUTSIDE:
             compare(folder, rows, spent)
 
 
 def measure_sizes(above):
-    """The first two families, for each size."""
+    """The families that grow, for each size."""
     first = {}
     for rows in SIZES:
         with tempfile.TemporaryDirectory() as made:
@@ -290,6 +347,14 @@ def measure_sizes(above):
             folder = pathlib.Path(made)
             write_determined(folder, rows)
             measure(VALUES, folder, rows, first, above)
+        with tempfile.TemporaryDirectory() as made:
+            folder = pathlib.Path(made)
+            write_cases(folder, rows)
+            measure(CASES_ASKED, folder, rows, first, above)
+        with tempfile.TemporaryDirectory() as made:
+            folder = pathlib.Path(made)
+            write_any_row(folder, rows)
+            measure(ANY_ROW, folder, rows, first, above)
 
 
 def measure_limits():

@@ -2,7 +2,7 @@ ghost use Rattle.bound_spec.specs.Growth.{IsWithinLimits};
 ghost use Rattle.search_logs.specs.SearchLogs.{IsWithin};
 
 use currency_base::{NoMemory, TupleList};
-use order_search::Search;
+use order_search::{Outcome, Search};
 use refutation_log::{LabelRef, Log, StepRef};
 use solver_guides::Guides;
 use spec_model::{RelList, Specification};
@@ -10,22 +10,26 @@ use std::alloc::Global;
 use watch_solver::Budget;
 
 /// The budget where none is said.
-const BUDGET: u64 = 100_000;
+pub const BUDGET: u64 = 100_000;
 
-/// How many steps a log has of each kind.
+/// What a search came to: how many steps its log has of each kind, how many completions were found that a report lists, and how
+/// many models in all that are consistent completions.
 #[derive(Clone, Copy, Debug, PartialEq, Eq)]
-pub struct Counts {
+pub struct Told {
     pub axioms: u64,
     pub three_rows: u64,
     pub learned: u64,
+    pub on_demand: u64,
+    pub completions: u64,
+    pub models: u64,
 }
 
-/// What the log of a search for a consistent completion came to.
+/// What a search for a consistent completion came to, if there is an end within the budget.
 pub fn searched(
     alloc: Global,
     spec: &Specification,
     guides: &mut Guides,
-) -> Result<Counts, NoMemory>
+) -> Result<Option<Told>, NoMemory>
     requires { IsWithinLimits spec.now }
 {
     is_within(spec);
@@ -42,13 +46,19 @@ pub fn searched(
     };
     let mut units = Budget::new(BUDGET);
     match search.decide(alloc, None, &mut units, guides) {
-        Ok(_) => Ok(counted(search.log())),
+        Ok(Outcome::Model { .. }) => Ok(Some(Told {
+            completions: 1,
+            models: 1,
+            ..counted(search.log())
+        })),
+        Ok(Outcome::Empty(_)) => Ok(Some(counted(search.log()))),
+        Ok(_) => Ok(None),
         Err(error) => Err(error),
     }
 }
 
-// No work: a specification within its limits keeps what a search asks of it.
-fn is_within(spec: &Specification)
+/// No work: a specification within its limits keeps what a search asks of it.
+pub fn is_within(spec: &Specification)
     requires { IsWithinLimits spec.now }
     ensures { IsWithin spec.now }
 {
@@ -57,36 +67,43 @@ fn is_within(spec: &Specification)
     let _ = spec.copies();
 }
 
-// The steps of a log by kinds.
-fn counted(log: &Log) -> Counts {
-    let mut counts = Counts {
+/// The steps of a log by kinds, and no completion or model.
+pub fn counted(log: &Log) -> Told {
+    let mut told = Told {
         axioms: 0,
         three_rows: 0,
         learned: 0,
+        on_demand: 0,
+        completions: 0,
+        models: 0,
     };
     for place in 0..log.steps.len() {
-        counts = with_step(counts, log.steps.get(place));
+        told = with_step(told, log.steps.get(place));
     }
-    counts
+    told
 }
 
 // One step more.
-fn with_step(counts: Counts, step: StepRef<'_>) -> Counts {
+fn with_step(told: Told, step: StepRef<'_>) -> Told {
     match step {
         StepRef::Axiom {
             label: LabelRef::Transitive { .. },
             ..
-        } => Counts {
-            three_rows: counts.three_rows.saturating_add(1),
-            ..counts
+        } => Told {
+            three_rows: told.three_rows.saturating_add(1),
+            ..told
         },
-        StepRef::Learn { .. } => Counts {
-            learned: counts.learned.saturating_add(1),
-            ..counts
+        StepRef::Learn { .. } => Told {
+            learned: told.learned.saturating_add(1),
+            ..told
         },
-        _ => Counts {
-            axioms: counts.axioms.saturating_add(1),
-            ..counts
+        StepRef::OnDemand { .. } => Told {
+            on_demand: told.on_demand.saturating_add(1),
+            ..told
+        },
+        _ => Told {
+            axioms: told.axioms.saturating_add(1),
+            ..told
         },
     }
 }

@@ -7,12 +7,14 @@ ghost use Rattle.spec_model.specs.Completion.{IsCompletion};
 ghost use Rattle.spec_model.specs.Consistent.{IsConsistent};
 ghost use Rattle.certain_answers.specs.Deciding.{IsSearchFor};
 
+use crate::aiming::aim;
+use crate::lists::bring_near;
 use crate::matches::bring;
 use answer_candidates::Candidates;
 use answer_laws::instances_exist;
 use currency_base::{Assignment, NoMemory};
 use current_tuples::current;
-use order_search::Search;
+use order_search::{Search, When};
 use query_model::Query;
 use solver_guides::Guides;
 use spec_model::{Completion, Specification};
@@ -21,7 +23,8 @@ use ucq_answers::IndexedInstance;
 
 /// Brings in the axiom of a match of each candidate, other than the one at a place, that a model belies: it makes the
 /// candidate's statement false, though the candidate is an answer over the model's completion. No unit is taken. So one model
-/// serves all candidates that need a match of it.
+/// serves all candidates that need a match of it. Then the guides aim at the candidates from that place on, so that the next model
+/// belies or refutes as many.
 pub(crate) fn bring_belied(
     alloc: Global,
     spec: &Specification,
@@ -36,6 +39,7 @@ pub(crate) fn bring_belied(
     requires query { IsQuery query.now }
     requires search { IsSearchFor spec.now query.now search.old }
     requires marks { length candidates.now.gone ≡ length search.old.posed.answers }
+    requires place { place < length search.old.posed.answers }
     requires consistent { IsConsistent spec.now completion.now }
     ensures gone { HasGone search.old search.new }
     ensures units { counted_steps search.new.log.steps ≡ counted_steps search.old.log.steps }
@@ -59,11 +63,29 @@ pub(crate) fn bring_belied(
             Err(error) => return Err(error),
         }
     }
-    Ok(())
+    match aim(
+        alloc, spec, query, &indexed, candidates, place, search, guides,
+    ) {
+        Ok(()) => {}
+        Err(error) => return Err(error),
+    }
+    match bring_near(
+        alloc,
+        spec,
+        query,
+        &indexed,
+        search,
+        place,
+        When::Next,
+        guides,
+    ) {
+        Ok(_) => Ok(()),
+        Err(error) => Err(error),
+    }
 }
 
-// How many answers are posed.
-fn answers_of(search: &Search<'_>) -> u32
+/// How many answers are posed.
+pub(crate) fn answers_of(search: &Search<'_>) -> u32
     ensures { result ≡ length search.now.posed.answers }
 {
     search.is_search();

@@ -153,6 +153,7 @@ fn demanded(
     requires query { IsQuery query.now }
     requires search { IsSearchFor spec.now query.now search.old }
     requires marks { length candidates.now.gone ≡ length search.old.posed.answers }
+    requires place { place < length search.old.posed.answers }
     requires consistent { IsConsistent spec.now completion.now }
     requires counter { IsAnswerCounter search.old place truths.now completion.now }
     requires found { IsMatchAt search.old completion.now found.now place }

@@ -1,8 +1,10 @@
 //! Decides which candidates for certain answers are answers in every consistent completion.
 #![tactic(auto)]
 
+mod aiming;
 mod belied;
 mod deciding;
+mod lists;
 mod matches;
 mod settling;
 mod starting;

@@ -9,7 +9,7 @@ use crate::goal::{Goal, GoalList};
 use currency_base::NoMemory;
 use current_claims::CurrentRow;
 use order_links::ListId;
-use order_search::{Outcome, Search};
+use order_search::{Outcome, Search, When};
 use refutation_log::HintList;
 use solver_guides::Guides;
 use spec_model::{Asked, Completion, Specification};
@@ -101,8 +101,8 @@ fn decide_pair(
 {
     search.is_search();
     let list = list_of(spec, asked);
-    match search.bring(alloc, list, guides) {
-        Ok(()) => {}
+    match search.bring(alloc, list, When::Next, guides) {
+        Ok(_) => {}
         Err(error) => return Err(error),
     }
     let pair = asked.pair;
@@ -145,8 +145,8 @@ fn decide_current(
         ent,
         row,
     } = place;
-    match search.bring(alloc, ListId { rel, attr, ent }, guides) {
-        Ok(()) => {}
+    match search.bring(alloc, ListId { rel, attr, ent }, When::Next, guides) {
+        Ok(_) => {}
         Err(error) => return Err(error),
     }
     let lit = search.current(rel, attr, row);

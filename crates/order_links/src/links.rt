@@ -1,4 +1,4 @@
-ghost use Rattle.std.specs.Prelude.{◌≡◌, All, IfOk};
+ghost use Rattle.std.specs.Prelude.{◌≡◌, All, IfOk, OnOk};
 ghost use Rattle.order_links.specs.Lists.{IsListOf};
 
 use crate::list::{ListId, ListIdList};
@@ -55,6 +55,23 @@ impl<'a> Links<'a> {
     {
         let met = meet_all(self.alloc, &self.ways, &mut self.marks, list)?;
         tell_all(self.alloc, &mut self.marks, met.as_slice())
+    }
+
+    /// The lists that a list is linked with, itself first, in the order in which they are met, up to so many; whether they were
+    /// told before or not. Takes time in proportion to their links, and to the square of their number.
+    pub fn near(&self, list: ListId, most: usize) -> Result<ListIdList, NoMemory>
+        requires { IsListOf self.now list }
+        ensures lists { IfOk result (All (IsListOf self.now)) }
+    {
+        let mut near = ListIdList::new(self.alloc);
+        near.push(list)?;
+        for place in 0..most {
+            let Some(next) = near.as_slice().get(place).copied() else {
+                break;
+            };
+            near_linked(&self.ways, &self.marks, &mut near, next, most)?;
+        }
+        Ok(near)
     }
 
     /// A list counts as told from then on: it is not answered again, and what it is linked with still is.
@@ -162,4 +179,68 @@ fn tell_all(alloc: Global, marks: &mut Marks<'_>, met: &[ListId]) -> Result<List
         }
     }
     Ok(lists)
+}
+
+// Puts the lists that a list is linked with after those that are near, up to so many.
+fn near_linked(
+    ways: &Ways,
+    marks: &Marks<'_>,
+    near: &mut ListIdList,
+    list: ListId,
+    most: usize,
+) -> Result<(), NoMemory>
+    requires { All (IsListOf marks.now) near.old }
+    ensures { OnOk result (All (IsListOf marks.now) near.new) }
+{
+    let from = Column {
+        rel: list.rel,
+        attr: list.attr,
+    };
+    for way in ways.of(from) {
+        near_over(ways, marks, near, way, list.ent, most)?;
+    }
+    Ok(())
+}
+
+// Puts the lists that a way leads to from an entity after those that are near, up to so many.
+fn near_over(
+    ways: &Ways,
+    marks: &Marks<'_>,
+    near: &mut ListIdList,
+    way: &Way,
+    ent: EntId,
+    most: usize,
+) -> Result<(), NoMemory>
+    requires { All (IsListOf marks.now) near.old }
+    ensures { OnOk result (All (IsListOf marks.now) near.new) }
+{
+    let Some(number) = way.over else {
+        return put_near(marks, near, way.to.list(ent), most);
+    };
+    let Some(ties) = ways.ties(number, ent) else {
+        return Ok(());
+    };
+    for tie in ties {
+        if near.len() >= most {
+            break;
+        }
+        put_near(marks, near, way.to.list(tie.to), most)?;
+    }
+    Ok(())
+}
+
+// Puts a list after those that are near, unless it is among them or there are so many.
+fn put_near(
+    marks: &Marks<'_>,
+    near: &mut ListIdList,
+    list: ListId,
+    most: usize,
+) -> Result<(), NoMemory>
+    requires { All (IsListOf marks.now) near.old }
+    ensures { OnOk result (All (IsListOf marks.now) near.new) }
+{
+    if near.len() < most && marks.is_list(list) && !near.as_slice().contains(&list) {
+        near.push(list)?;
+    }
+    Ok(())
 }

@@ -76,6 +76,13 @@ impl<'a> Marks<'a> {
         first.checked_add(column)?.checked_add(ent)
     }
 
+    /// Is there such a list?
+    pub(crate) fn is_list(&self, list: ListId) -> bool
+        ensures { result ≡ true → IsListOf self.now list }
+    {
+        self.number(list).is_some()
+    }
+
     /// Is there such a list, which was not met before? It counts as met from then on.
     pub(crate) fn meet(&mut self, list: ListId) -> bool
         ensures same { self.new ≡ self.old }

@@ -11,9 +11,8 @@ mod progress;
 mod rounds;
 mod search;
 mod subject;
+mod when;
 
 pub use outcome::Outcome;
 pub use search::Search;
-
-#[cfg(test)]
-mod tests;
+pub use when::When;

@@ -4,6 +4,7 @@ ghost use Rattle.refutation_log.specs.Counted.{counted_steps};
 ghost use Rattle.order_links.specs.Lists.{IsListOf};
 ghost use Rattle.order_search.specs.Kept.{AreRowsOf, HasAdded, IsHeld, IsOfList, vars_of};
 
+use crate::When;
 use crate::bringing::bring_in;
 use crate::progress::Progress;
 use crate::subject::Subject;
@@ -14,15 +15,30 @@ use order_links::{Links, ListId, ListIdList};
 use solver_guides::Guides;
 use std::alloc::Global;
 
-/// Brings in a list and those that it is linked with, but for those that are there, and tells the ring its variables.
+// The place in the ring of the guide that picks first what it is told of. The first one takes variables in their order.
+const LEADER: usize = 1;
+
+// How many variables are told at least of what is next, some of them again and again. So they outweigh what conflicts of earlier
+// goals told, and the guide that leads does not go over all that is decided before it comes to the next.
+const ENOUGH: usize = 64;
+
+// Of how many linked lists the ring is told at most.
+const NEAR: usize = 64;
+
+// Where more variables than these are told, those of no further list are.
+const MANY: usize = 512;
+
+/// Brings in a list and those that it is linked with, but for those that are there, and tells the ring the variables of those
+/// that are near: about how many it told.
 pub(crate) fn bring_linked(
     subject: &Subject<'_>,
     progress: &mut Progress,
     links: &mut Links<'_>,
     alloc: Global,
     list: ListId,
+    when: When,
     guides: &mut Guides,
-) -> Result<(), NoMemory>
+) -> Result<usize, NoMemory>
     requires held { IsHeld subject.now progress.old.solver progress.old.brought.items }
     requires list { IsListOf subject.now.spec.relations list }
     requires links { links.old ≡ subject.now.spec.relations }
@@ -35,8 +51,18 @@ pub(crate) fn bring_linked(
         Ok(lists) => lists,
         Err(error) => return Err(error),
     };
-    tell_list(subject, list, guides);
-    bring_lists(subject, progress, alloc, &lists, guides)
+    let near = match links.near(list, NEAR) {
+        Ok(near) => near,
+        Err(error) => return Err(error),
+    };
+    let told = match when {
+        When::Next => lead_to(subject, &near, guides),
+        When::Later => tell_lists(subject, &near, guides),
+    };
+    match bring_lists(subject, progress, alloc, &lists, guides) {
+        Ok(()) => Ok(told),
+        Err(error) => Err(error),
+    }
 }
 
 // Brings in these lists, but for those that are there.
@@ -139,14 +165,54 @@ fn is_marked(
     false
 }
 
-// Tells the ring the variables of a list, so that the search stays near it.
-fn tell_list(subject: &Subject<'_>, list: ListId, guides: &mut Guides)
+// Lets the guide lead that picks first what it is told of, if there is one, and tells it the variables of lists: the more often,
+// the fewer these are. How many they are.
+fn lead_to(subject: &Subject<'_>, lists: &ListIdList, guides: &mut Guides) -> usize
+    requires { All (IsListOf subject.now.spec.relations) lists.now }
+{
+    for _ in 0..guides.len() {
+        if guides.place() == LEADER {
+            break;
+        }
+        guides.restart();
+    }
+    tell_often(subject, lists, guides)
+}
+
+// Tells the ring the variables of lists as often as makes enough: how many they are.
+fn tell_often(subject: &Subject<'_>, lists: &ListIdList, guides: &mut Guides) -> usize
+    requires { All (IsListOf subject.now.spec.relations) lists.now }
+{
+    let told = tell_lists(subject, lists, guides);
+    for _ in 0..ENOUGH / told.max(1) {
+        tell_lists(subject, lists, guides);
+    }
+    told
+}
+
+// Tells the ring the variables of lists, from the first one on, up to the list with which there are many: how many they are.
+fn tell_lists(subject: &Subject<'_>, lists: &ListIdList, guides: &mut Guides) -> usize
+    requires { All (IsListOf subject.now.spec.relations) lists.now }
+{
+    let mut told: usize = 0;
+    for place in 0..lists.len() {
+        if told > MANY {
+            break;
+        }
+        told = told.saturating_add(tell_list(subject, *lists.get(place), guides));
+    }
+    told
+}
+
+// Tells the ring the variables of a list, so that the search stays near it: how many they are.
+fn tell_list(subject: &Subject<'_>, list: ListId, guides: &mut Guides) -> usize
     requires { IsListOf subject.now.spec.relations list }
 {
     let rows = subject.rows(list);
     for place in 0..rows.len() {
         tell_row(subject, list, rows, place, guides);
     }
+    rows.len().saturating_mul(rows.len()) / 2
 }
 
 // Tells the ring the variables of a row and those that stand above it in the list of rows.

@@ -10,13 +10,13 @@ ghost use Rattle.order_literals.specs.Said.{Says, before, last};
 ghost use Rattle.spec_model.specs.declared.relation.Relation.{Relation};
 ghost use Rattle.value_names.specs.Names.{name_of};
 
-use crate::Outcome;
 use crate::linked::bring_linked;
 use crate::matching::{add_match, demand_match};
 use crate::opening::{begun, guess};
 use crate::progress::Progress;
 use crate::rounds::decided;
 use crate::subject::Subject;
+use crate::{Outcome, When};
 use currency_base::{Assignment, AttrId, Lit, NoMemory, RelId, RowId, TupleList};
 use literal_laws::one_literal;
 use order_links::{Links, ListId};
@@ -147,13 +147,15 @@ impl<'a> Search<'a> {
     }
 
     /// Brings in a list that a goal is about, and those that it is linked with, so that no model is spent on finding
-    /// that they go round; those that are there stay. Tells the ring the list's variables. No unit is taken.
+    /// that they go round; those that are there stay. Tells the ring the variables of those that are near, as it is said when the list is decided: about how many.
+    /// No unit is taken.
     pub fn bring(
         &mut self,
         alloc: Global,
         list: ListId,
+        when: When,
         guides: &mut Guides,
-    ) -> Result<(), NoMemory>
+    ) -> Result<usize, NoMemory>
         requires { IsListOf self.old.spec.relations list }
         ensures gone { HasGone self.old self.new }
         ensures units { counted_steps self.new.log.steps ≡ counted_steps self.old.log.steps }
@@ -167,6 +169,7 @@ impl<'a> Search<'a> {
             &mut self.links,
             alloc,
             list,
+            when,
             guides,
         );
         self.failed = outcome.is_err();

@@ -1,6 +1,6 @@
-use crate::cases::{CIRCLE, Case, EACH, EIGHT, FREE, NEVER, VOID};
 use std::process::Abort;
 use std::test::Fail;
+use worked_cases::{CIRCLE, Case, EACH, EIGHT, FREE, NEVER, VOID};
 use worked_documents::{Documents, asked, first, with};
 
 const ASK: [&str; 4] = ["currency", "ask", "s", "q"];

@@ -1,6 +1,6 @@
-use crate::cases::{BACK, CIRCLE, Case, FREE, HISTORY, LAST, STAFF, TRIANGLE};
 use std::process::Abort;
 use std::test::Fail;
+use worked_cases::{BACK, CIRCLE, Case, FREE, HISTORY, LAST, STAFF, TRIANGLE};
 use worked_documents::{Documents, asked};
 
 const BRIEF: [&str; 5] = ["currency", "ask", "s", "q", "--brief"];

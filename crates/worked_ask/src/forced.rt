@@ -1,6 +1,6 @@
-use crate::cases::{BACK, CIRCLE, Case, FREE, NEVER, TRIANGLE};
 use std::process::Abort;
 use std::test::Fail;
+use worked_cases::{BACK, CIRCLE, Case, FREE, NEVER, TRIANGLE};
 use worked_documents::asked;
 
 // The forced pairs of a case are these.

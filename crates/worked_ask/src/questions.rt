@@ -1,18 +1,5 @@
-use crate::cases::{BACK, BADGES, CIRCLE, Case, EIGHT, FREE, HISTORY, STAFF};
-use std::process::Abort;
 use std::test::Fail;
-use worked_documents::{Documents, asked};
-
-const ASK: [&str; 4] = ["currency", "ask", "s", "q"];
-
-/// A specification, a question, the kind of its verdict and the verdict.
-#[derive(Clone, Copy)]
-pub struct Question<'a> {
-    pub case: Case<'a>,
-    pub question: &'a str,
-    pub kind: &'a str,
-    pub verdict: &'a str,
-}
+use worked_cases::{BACK, BADGES, CIRCLE, EIGHT, FREE, HISTORY, Question, STAFF, is_shown};
 
 const CERTAIN: [Question<'static>; 10] = [
     Question {
@@ -128,36 +115,10 @@ const SAME: [Question<'static>; 8] = [
     },
 ];
 
-/// The report of `ask` has this verdict, and `verify` accepts it.
-pub fn expect_shown(rt: &(impl Abort + AllocGlobal), row: Question<'_>) -> Result<(), Fail> {
-    let documents = Documents {
-        q: row.question.as_bytes(),
-        ..row.case.documents(b"")
-    };
-    let (ended, sink) = asked(rt.alloc(), documents, &ASK)?;
-    let head = format!(in rt.alloc(); "currency report 2;\nverdict {};\n", row.verdict)?;
-    assert!(rt;
-        sink.written().starts_with(head.as_bytes()),
-        "{}",
-        row.question
-    );
-    assert_eq!(rt; ended, 0, "{}", row.question);
-    let given = Documents {
-        p: sink.written(),
-        ..documents
-    };
-    let words = ["currency", "verify", "s", "q", "p"];
-    let (ended, sink) = asked(rt.alloc(), given, &words)?;
-    let accepted = format!(in rt.alloc(); "accepted {}\n", row.kind)?;
-    assert_eq!(rt; sink.written(), accepted.as_bytes(), "{}", row.question);
-    assert_eq!(rt; ended, 0, "{}", row.question);
-    Ok(())
-}
-
 #[test]
 fn pairs_are_decided(rt: HostRuntime) -> Result<(), Fail> {
     for row in CERTAIN {
-        expect_shown(&rt, row)?;
+        assert!(rt; is_shown(rt.alloc(), row)?, "{}", row.question);
     }
     Ok(())
 }
@@ -165,7 +126,7 @@ fn pairs_are_decided(rt: HostRuntime) -> Result<(), Fail> {
 #[test]
 fn current_values_are_decided(rt: HostRuntime) -> Result<(), Fail> {
     for row in SAME {
-        expect_shown(&rt, row)?;
+        assert!(rt; is_shown(rt.alloc(), row)?, "{}", row.question);
     }
     Ok(())
 }

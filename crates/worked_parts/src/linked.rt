@@ -137,6 +137,53 @@ fn is_answered(
     Ok(true)
 }
 
+#[test]
+fn near_lists_are_the_first_that_are_linked(rt: HostRuntime) -> Result<(), Fail> {
+    let alloc = rt.alloc();
+    for (source, (told, asked, linked)) in ROWS {
+        if told.is_empty() {
+            let spec = specification(alloc, *source)?;
+            assert!(rt; are_near(alloc, &spec, *asked, linked)?);
+        }
+    }
+    Ok(())
+}
+
+// Are these lists near, and the first of them where fewer are asked for, though each was told?
+fn are_near(
+    alloc: Global,
+    spec: &Specification,
+    asked: List,
+    linked: &[List],
+) -> Result<bool, NoMemory> {
+    let mut links = Links::new(alloc, spec)?;
+    tell(spec, &mut links, linked);
+    for most in [1, 2, 64] {
+        let near = ask_near(alloc, spec, &links, asked, most)?;
+        if !are(&near, &linked[..linked.len().min(most)]) {
+            return Ok(false);
+        }
+    }
+    Ok(true)
+}
+
+// The lists that are near a list, up to so many; none where there is no such list.
+fn ask_near(
+    alloc: Global,
+    spec: &Specification,
+    links: &Links<'_>,
+    list: List,
+    most: usize,
+) -> Result<ListIdList, NoMemory>
+    requires { links.now ≡ spec.now.relations }
+{
+    let list = list_of(list);
+    if !is_list(spec.relations(), list) {
+        return Ok(ListIdList::new(alloc));
+    }
+    links.near(list, most)
+}
+
 // The list of these numbers.
 fn list_of((rel, attr, ent): List) -> ListId {
     ListId {

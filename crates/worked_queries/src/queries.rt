@@ -1,7 +1,8 @@
-use crate::cases::{BACK, CIRCLE, Case, EMPTY, FREE, HISTORY, LAST, NEVER, STAFF};
-use crate::questions::{Question, expect_shown};
 use std::process::Abort;
 use std::test::Fail;
+use worked_cases::{
+    BACK, CIRCLE, Case, EMPTY, FREE, HISTORY, LAST, NEVER, Question, STAFF, is_shown,
+};
 use worked_documents::{Documents, Numbers, asked, with_each};
 
 const ASK: [&str; 4] = ["currency", "ask", "s", "q"];
@@ -183,7 +184,7 @@ const ANSWERS: [Question<'static>; 25] = [
 #[test]
 fn answers_are_decided(rt: HostRuntime) -> Result<(), Fail> {
     for row in ANSWERS {
-        expect_shown(&rt, row)?;
+        assert!(rt; is_shown(rt.alloc(), row)?, "{}", row.question);
     }
     Ok(())
 }
@@ -315,7 +316,8 @@ fn expect_size(
             kind: "answers",
             verdict: "answers;\nanswer ();\ncompletion",
         };
-        expect_shown(rt, row)
+        assert!(rt; is_shown(rt.alloc(), row)?, "{question}");
+        Ok(())
     } else {
         expect_refused(rt, case, question.as_str(), 6, "limit 12\n")
     }

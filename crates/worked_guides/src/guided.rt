@@ -1,5 +1,4 @@
-use crate::cases::{Case, EACH, FREE};
-use crate::guides::{four, one_steady};
+use crate::kinds::{four, one_steady};
 use currency_base::NoMemory;
 use currency_cli::run;
 use currency_edge::MemorySink;
@@ -7,6 +6,7 @@ use solver_guides::Guides;
 use std::alloc::Global;
 use std::process::Abort;
 use std::test::Fail;
+use worked_cases::{Case, EACH, FREE};
 use worked_documents::{shelf_of, words_of};
 
 // The status and the sink of these words over a case, with these guides.

@@ -1,7 +1,7 @@
 use Rattle.std.proofs.Common.{◌∙◌, subst}
 use Rattle.certain_answers.specs.Deciding.{TellsStep}
 use Rattle.certain_answers.proofs.Going.{gone_then, settled_more}
-use Rattle.certain_answers.proofs.settling.decide_left.Goals as goal
+use Rattle.certain_answers.proofs.settling.decide_each.Goals as goal
 
 pub loop-place-preserved : goal.loop-place-preserved
 loop-place-preserved g c = record {

@@ -41,21 +41,26 @@ impl Guide for Steady {
     fn restarted(&mut self) {}
 }
 
-// Puts a guide after the others.
-fn put(boxes: &mut Vec<Box<dyn Guide>>, guide: Box<dyn Guide>) -> Result<(), NoMemory> {
+/// Puts a guide after the others.
+pub(crate) fn put(boxes: &mut Vec<Box<dyn Guide>>, guide: Box<dyn Guide>) -> Result<(), NoMemory> {
     match boxes.push(guide) {
         Ok(()) => Ok(()),
         Err(_) => Err(NoMemory),
     }
 }
 
+/// Puts one guide of each kind after the others.
+pub(crate) fn put_four(alloc: Global, boxes: &mut Vec<Box<dyn Guide>>) -> Result<(), NoMemory> {
+    put(boxes, Box::new(alloc, FirstFree::new(alloc))?)?;
+    put(boxes, Box::new(alloc, Activity::new(alloc))?)?;
+    put(boxes, Box::new(alloc, KeepPhase::new(alloc))?)?;
+    put(boxes, Box::new(alloc, Seeded::new(1))?)
+}
+
 /// The four kinds.
 pub(crate) fn four(alloc: Global) -> Result<Guides, NoMemory> {
     let mut boxes: Vec<Box<dyn Guide>> = Vec::new(alloc);
-    put(&mut boxes, Box::new(alloc, FirstFree::new(alloc))?)?;
-    put(&mut boxes, Box::new(alloc, Activity::new(alloc))?)?;
-    put(&mut boxes, Box::new(alloc, KeepPhase::new(alloc))?)?;
-    put(&mut boxes, Box::new(alloc, Seeded::new(1))?)?;
+    put_four(alloc, &mut boxes)?;
     Ok(Guides::new(boxes))
 }
 
