@@ -27,7 +27,7 @@ const MOST_ANSWERS: usize = 1_000_000;
 pub type CompletionList = ItemList<Completion>;
 
 /// Why there are no candidates.
-#[derive(Debug, Drop)]
+#[derive(Drop)]
 pub enum CandidateFault {
     /// The query has more than 1,000,000 answers over this completion.
     TooMany(Completion),

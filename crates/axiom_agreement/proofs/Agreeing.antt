@@ -13,7 +13,7 @@ use Rattle.log_axioms.specs.Axioms.{says_same, is_said, lit_says, is_clause}
 use Rattle.log_axioms.specs.Truth.{meaning}
 use Rattle.log_axioms.specs.declared.signed.Signed.{Signed}
 use Rattle.order_literals.specs.Said.{Said, turned, told_by, Says}
-use Rattle.literal_laws.proofs.Items.{IsIn, contained, in_contained}
+use Rattle.order_literals.proofs.Items.{IsIn, contained, in_contained}
 use Rattle.order_clauses.specs.Clauses.{SaysOneOf, IsSaidByOne, AreLits}
 
 -- ---- one of each

@@ -19,8 +19,8 @@ use Rattle.spec_model.specs.Satisfies.{IsChoice}
 use Rattle.entity_rows.specs.Members.{members_from, members}
 use Rattle.entity_rows.proofs.Membership.{member_of_entity}
 use Rattle.entity_lists.specs.Lists.{entities_of, rows_from, rows_of}
-use Rattle.literal_laws.proofs.Items.{IsIn, contained, in_contained, place_of}
-use Rattle.literal_laws.proofs.Rows.{row_is}
+use Rattle.order_literals.proofs.Items.{IsIn, contained, in_contained, place_of}
+use Rattle.order_literals.proofs.RowLaws.{row_is}
 use Rattle.log_axioms.specs.Axioms as judged
 use Rattle.log_axioms.specs.Axioms.{is_attr, is_one, same_entity, are_two, same_value, of_one_entity, in_relation}
 use Rattle.log_axioms.specs.declared.signed.Signed.{Signed}

@@ -6,7 +6,7 @@ use std::alloc::Global;
 use text_grammar::Named;
 
 /// The first check of a document that fails.
-#[derive(Debug, Drop, PartialEq)]
+#[derive(Debug, Drop)]
 pub struct Refusal {
     pub code: ErrorCode,
     /// The table at fault; `None` is the tree's own text.
@@ -16,7 +16,7 @@ pub struct Refusal {
 }
 
 /// Why nothing is bound.
-#[derive(Debug, Drop, PartialEq)]
+#[derive(Debug, Drop)]
 pub enum BindFault {
     Refused(Refusal),
     /// A row differs from the row that it is copied from. The values are those of the first place where

@@ -38,3 +38,10 @@ impl Bound {
         }
     }
 }
+
+/// Lets a specification go that is not bound. Called on each way that answers a fault, so that what goes with it is said
+/// once.
+pub(crate) fn discard(bound: Bound) {}
+
+/// The same of its parts.
+pub(crate) fn discard_parts(spec: Specification, names: SpecNames) {}

@@ -5,11 +5,13 @@
 mod bound;
 mod copy;
 mod end;
+mod laws;
 mod relation;
 mod rule;
 
 pub use bound::Bound;
 pub use copy::add_copy;
 pub use end::within_limits;
+pub use laws::is_specification;
 pub use relation::add_relation;
 pub use rule::add_rule;

@@ -1,16 +1,17 @@
-ghost use Rattle.std.specs.Prelude.{◌≡◌, None, Contains, IfOk};
+ghost use Rattle.std.specs.Prelude.{◌≡◌, ◌++◌, ◌∷◌, [], None, Contains, IfOk, OnOk};
 ghost use Rattle.bind_faults.specs.Faults.{IsDue, IsReadFault};
 ghost use Rattle.spec_limits.specs.Limits.{exceeded};
 ghost use Rattle.spec_model.specs.Facts.{IsRelation};
-ghost use Rattle.spec_names.specs.Names.{names_of};
+ghost use Rattle.spec_names.specs.Names.{all_names_of, names_of};
 ghost use Rattle.bound_spec.specs.Growth.{limited, relation_names, with_relation};
 
-use crate::bound::Bound;
+use crate::bound::{Bound, discard, discard_parts};
+use crate::laws::is_specification;
 use bind_faults::BindFault;
 use currency_base::NoMemory;
 use spec_limits::limit_with_relation;
-use spec_model::Relation;
-use spec_names::RelationNames;
+use spec_model::{Relation, Specification};
+use spec_names::{RelationNames, SpecNames};
 use std::alloc::Global;
 
 /// Adds a relation, with the names of its parts, after the others, unless a limit is then exceeded.
@@ -31,8 +32,14 @@ pub fn add_relation(
             Ok(bound) => Ok(bound),
             Err(NoMemory) => Err(BindFault::NoMemory),
         },
-        Ok(Some(limit)) => Err(BindFault::Limit(limit)),
-        Err(NoMemory) => Err(BindFault::NoMemory),
+        Ok(Some(limit)) => {
+            discard(bound);
+            Err(BindFault::Limit(limit))
+        }
+        Err(NoMemory) => {
+            discard(bound);
+            Err(BindFault::NoMemory)
+        }
     }
 }
 
@@ -54,9 +61,36 @@ fn with_relation(
         mut names,
         rows,
     } = bound;
-    let name = relation.name.duplicate(alloc)?;
     let rows = rows + relation.rows.len();
+    match put_relation(alloc, &mut spec, &mut names, relation, parts) {
+        Ok(()) => Ok(Bound { spec, names, rows }),
+        Err(NoMemory) => {
+            discard_parts(spec, names);
+            Err(NoMemory)
+        }
+    }
+}
+
+/// Puts a relation after the others, and the names of its parts after theirs.
+fn put_relation(
+    alloc: Global,
+    spec: &mut Specification,
+    names: &mut SpecNames,
+    relation: Relation,
+    parts: RelationNames,
+) -> Result<(), NoMemory>
+    requires facts { IsRelation relation }
+    requires fresh { Contains (relation_names spec.old) relation.name → ⊥ }
+    requires within { exceeded spec.old ≡ None }
+    requires names { names.old ≡ all_names_of spec.old }
+    ensures spec { OnOk result (spec.new ≡ with_relation spec.old relation) }
+    ensures relations { OnOk result (names.new.relations ≡ names.old.relations ++ relation.name ∷ []) }
+    ensures each { OnOk result (names.new.each ≡ names.old.each ++ parts ∷ []) }
+    ensures rules { names.new.rules ≡ names.old.rules }
+    ensures copies { names.new.copies ≡ names.old.copies }
+{
+    is_specification(spec);
+    let name = relation.name.duplicate(alloc)?;
     spec.add_relation(relation)?;
-    names.add(name, parts)?;
-    Ok(Bound { spec, names, rows })
+    names.add(name, parts)
 }

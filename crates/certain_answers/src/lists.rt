@@ -103,7 +103,7 @@ fn list_at(spec: &Specification, atom: &Atom, entity: EntId, place: usize) -> Op
     requires within { place < length atom.now.terms }
     ensures { IfSome result (IsListOf spec.now.relations) }
 {
-    if *atom.terms.get(place) == Term::Any {
+    if matches!(atom.terms.get(place), Term::Any) {
         return None;
     }
     let Ok(attr) = u32::try_from(place - 1) else {

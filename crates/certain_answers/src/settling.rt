@@ -24,7 +24,7 @@ use ucq_answers::IndexedInstance;
 use watch_solver::Budget;
 
 /// What deciding candidates came to.
-#[derive(Debug, Drop)]
+#[derive(Drop)]
 pub enum Settled {
     /// One step for each candidate: its unit, unless the candidate is gone.
     All(HintList),

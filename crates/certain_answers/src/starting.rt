@@ -1,11 +1,11 @@
 ghost use Rattle.std.specs.Prelude.{◌≡◌, ◌++◌, ◌≤◌, All, IfOk, OnOk, length, map, true};
 ghost use Rattle.answer_candidates.specs.Candidates.{AreAnswersIn, AreCandidates};
-ghost use Rattle.log_write.specs.Writable.{AreFew};
+ghost use Rattle.refutation_log.specs.Writable.{AreFew};
 ghost use Rattle.query_model.specs.Fitting.{IsQuery};
 ghost use Rattle.refutation_log.specs.Counted.{counted_steps};
 ghost use Rattle.search_logs.specs.SearchLogs.{IsWithin};
 ghost use Rattle.spec_model.specs.Consistent.{IsConsistent};
-ghost use Rattle.text_write.specs.Written.{IsValue};
+ghost use Rattle.currency_base.specs.Values.{IsValue};
 ghost use Rattle.certain_answers.specs.Deciding.{IsSearchFor, relations_in, relations_of};
 
 use crate::matches::{bring_matches, first_matches};

@@ -1,8 +1,8 @@
 ghost use Rattle.std.specs.Prelude.{◌≡◌, All, nat_lt, true};
 ghost use Rattle.std.specs.List.{list_all};
-ghost use Rattle.log_write.specs.Writable.{AreFew, IsWritableLabel};
+ghost use Rattle.refutation_log.specs.Writable.{AreFew, IsWritableLabel};
 ghost use Rattle.refutation_log.specs.declared.step.Label.TheVariants as label;
-ghost use Rattle.text_write.specs.Written.{IsValue};
+ghost use Rattle.currency_base.specs.Values.{IsValue};
 
 use currency_base::{EntId, TupleList, Value};
 use query_model::Match;

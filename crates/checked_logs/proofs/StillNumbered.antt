@@ -9,7 +9,7 @@ use Rattle.refutation_log.specs.Steps.{clause_of, clauses_of}
 use Rattle.refutation_log.specs.declared.log.Log.{Log}
 use Rattle.refutation_log.specs.declared.step.Step.{Step}
 use Rattle.refutation_log.specs.declared.step.Step.TheVariants.{Axiom, OnDemand, Learn}
-use Rattle.log_checker.specs.Accepted.{HasFewHints}
+use Rattle.refutation_log.specs.Numbered.{HasFewHints}
 use Rattle.log_trim.specs.Trimmed.{IsTrimmed, lits_at, rank, renumbered_step}
 use Rattle.log_trim.specs.declared.trimming.Trimmed.{Trimmed}
 use Rattle.log_trim.proofs.NewPlaces.{changed_from}

@@ -8,7 +8,8 @@ use Rattle.refutation_log.specs.declared.log.Log.{Log}
 use Rattle.refutation_log.specs.declared.statement.Statement.TheVariants.{Answer}
 use Rattle.log_axioms.specs.Truth.{meaning}
 use Rattle.log_axioms.specs.declared.signed.Signed.{Signed}
-use Rattle.log_checker.specs.Accepted.{IsAccepted, IsNumbered}
+use Rattle.log_checker.specs.Accepted.{IsAccepted}
+use Rattle.refutation_log.specs.Numbered.{IsNumbered}
 use Rattle.log_trim.specs.Trimmed.{AreInPlace, IsTrimmed, lits_at, rank, renumbered_lit, renumbered_statement}
 use Rattle.log_trim.specs.declared.trimming.Trimmed.{Trimmed}
 

@@ -3,7 +3,8 @@ use Rattle.std.proofs.Common.{◌≡◌, ◌+◌, ◌-◌, ◌<◌, ◌≤◌, �
 use Rattle.std.proofs.lemmas.List.{take-set-le, drop-set-lt, drop-set-add}
 use Rattle.std.proofs.Math.Seq.{take-set-lt}
 use Rattle.flat_lists.specs.Flat.{cut_from, Ascend, IsFlat}
-use Rattle.clause_arena.proofs.Cuts.{list_at, span_order, end_within, length-cut_from}
+use Rattle.flat_lists.proofs.Cuts.{length-cut_from}
+use Rattle.clause_arena.proofs.Cuts.{list_at, span_order, end_within}
 
 -- a change before a range, or behind it, does not reach it
 range_after : {A : Type 0} (xs : List A) (place from to : ℕ) (x : A) → place < from → slice_range (slice_set xs place x) from to ≡ slice_range xs from to

@@ -1,3 +1,3 @@
 /// A clause of an arena, by its place in the order in which clauses were added, counted from 0.
-#[derive(Clone, Copy, Debug, PartialEq, Eq, PartialOrd, Ord)]
+#[derive(Clone, Copy, PartialEq, Eq, PartialOrd, Ord)]
 pub struct ClauseNo(pub u32);

@@ -7,6 +7,3 @@ mod merging;
 mod printed;
 
 pub use common::are_common;
-
-#[cfg(test)]
-mod tests;

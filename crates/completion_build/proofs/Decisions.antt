@@ -2,16 +2,15 @@
 use Rattle.std.proofs.Common.{◌≡◌, ◌<◌, ℕ, Bool, true, false, not, List, Some, length, slice_get, get_or, refl, sym, ap, ◌∙◌, ⊎_elim, inl, inr, subst}
 use mathlib.Core.Bool.{beq}
 use Rattle.std.specs.Bool.{OnFalse}
-use Rattle.std.proofs.lemmas.Bool.{OnFalse_from}
+use Rattle.std.proofs.lemmas.Bool.{OnFalse_from, cases_eq}
 use Rattle.std.proofs.lemmas.Option.{slice_get-get_or, same_Some}
-use Rattle.std.proofs.lemmas.Bool.{cases_eq}
 use Rattle.currency_base.specs.Lists.{OnlyOnce}
 use Rattle.currency_base.specs.Literals.{var_of, is_negative}
 use Rattle.currency_base.specs.declared.ids.AttrId.{AttrId}
 use Rattle.currency_base.specs.declared.ids.RelId.{RelId}
 use Rattle.currency_base.specs.declared.ids.RowId.{RowId}
 use Rattle.currency_base.specs.declared.lit.Lit.{Lit}
-use Rattle.literal_laws.specs.Laws.{OneLiteral, PairIsDecided, PairExcludes}
+use Rattle.order_literals.specs.Laws.{OneLiteral, PairIsDecided, PairExcludes}
 use Rattle.order_literals.specs.Numbers.{Numbers, IsPairOf}
 use Rattle.order_literals.specs.Said.{Says, before, IsLitTrue, IsSaidTrue}
 use Rattle.order_literals.specs.Statements.{statements_of}

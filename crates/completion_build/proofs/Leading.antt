@@ -9,7 +9,7 @@ use Rattle.currency_base.specs.declared.ids.RowId.{RowId}
 use Rattle.currency_base.specs.declared.row.Row.{Row}
 use Rattle.entity_lists.specs.Lists.{entities_of, rows_of}
 use Rattle.entity_lists.proofs.Facts.{member_of, found_in}
-use Rattle.literal_laws.specs.Laws.{PairExcludes}
+use Rattle.order_literals.specs.Laws.{PairExcludes}
 use Rattle.order_literals.proofs.Callers.{entity_read}
 use Rattle.order_literals.specs.Numbers.{Numbers}
 use Rattle.order_literals.specs.Statements.{statements_of}

@@ -9,7 +9,7 @@ use Rattle.currency_base.specs.declared.ids.RelId.{RelId}
 use Rattle.currency_base.specs.declared.ids.RowId.{RowId}
 use Rattle.currency_base.specs.declared.row.Row.{Row}
 use Rattle.entity_lists.specs.Lists.{entities_of}
-use Rattle.literal_laws.specs.Laws.{PairExcludes, SaidOfPairs}
+use Rattle.order_literals.specs.Laws.{PairExcludes, SaidOfPairs}
 use Rattle.order_literals.specs.Numbers.{Numbered}
 use Rattle.order_literals.specs.Said.{before, IsSaidTrue}
 use Rattle.order_literals.specs.Statements.{statements_of}

@@ -3,7 +3,7 @@ use spec_model::Completion;
 
 /// A list whose pairs of rows go round, and three of its rows that do: each is put before the next, and the
 /// third before the first.
-#[derive(Clone, Copy, Debug, PartialEq, Eq)]
+#[derive(Clone, Copy, PartialEq, Eq)]
 pub struct Cycle {
     pub rel: RelId,
     pub attr: AttrId,
@@ -17,7 +17,7 @@ pub struct Cycle {
 pub type CycleList = ItemList<Cycle>;
 
 /// What an assignment says of the order of the rows.
-#[derive(Debug, Drop)]
+#[derive(Drop)]
 pub enum Built {
     /// A completion.
     Whole(Completion),

@@ -11,8 +11,7 @@ use crate::judging::judge;
 use crate::source::Source;
 use crate::{Built, CycleList};
 use currency_base::{Assignment, AttrId, EntId, NoMemory, RelId};
-use literal_laws::pairs_are_decided;
-use order_literals::{Numbering, Wanted};
+use order_literals::{Numbering, Wanted, pairs_are_decided};
 use spec_model::{Completion, Specification, set_keeps_shape};
 use std::alloc::Global;
 

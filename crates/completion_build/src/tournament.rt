@@ -8,8 +8,7 @@ ghost use Rattle.order_literals.specs.Said.{before, IsSaidTrue};
 ghost use Rattle.completion_build.specs.Contests.{IsListOf, IsContest, Beats, IsDecided, IsCount};
 
 use currency_base::{Assignment, AttrId, EntId, RelId, RowId};
-use literal_laws::{one_literal, pairs_are_decided};
-use order_literals::Numbering;
+use order_literals::{Numbering, one_literal, pairs_are_decided};
 use std::marker::Model;
 
 /// The rows of one list, and the assignment that puts of each two of them one before the other. Places are

@@ -17,7 +17,7 @@ pub(crate) struct ListId {
 }
 
 /// The places of a relation's rows, one list of them per attribute.
-#[derive(Debug, Drop)]
+#[derive(Drop)]
 pub(crate) struct RelationPlaces {
     attrs: Vec<Places>,
 }

@@ -9,7 +9,7 @@ use std::marker::Model;
 
 /// For each row of a relation, 0 or its place in its entity's list of one attribute, counted from 1.
 /// Contracts see the list of the places.
-#[derive(Debug, Drop)]
+#[derive(Drop)]
 pub(crate) struct Places {
     places: Vec<usize>,
 }

@@ -12,7 +12,7 @@ use std::marker::Model;
 
 /// Memory that checks of completions of one specification write over, and the rows of its entities.
 /// Contracts see what it holds; a check asks only that it has room.
-#[derive(Debug, Drop)]
+#[derive(Drop)]
 pub struct CheckScratch {
     pub(crate) alloc: Global,
     pub(crate) places: Vec<RelationPlaces>,

@@ -13,7 +13,7 @@ use std::marker::Model;
 
 /// What was last learned from a conflict, and the room in which conflicts are analysed. Contracts see the clause, its
 /// hints, the level to which it leads back, and the places of the trail's literals that were resolved.
-#[derive(Debug, Drop)]
+#[derive(Drop)]
 pub struct Analysis {
     found: Resolution,
     lits: Vec<Lit>,

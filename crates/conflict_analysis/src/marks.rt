@@ -6,7 +6,7 @@ use std::marker::Model;
 
 /// Which places of a trail have been met since the marks were cleared. Clearing them takes constant time, but once
 /// in 2^32 times. Contracts see a truth for each place.
-#[derive(Debug, Drop)]
+#[derive(Drop)]
 pub(crate) struct Marks {
     // by place, the round in which it was met last
     rounds: Vec<u32>,

@@ -12,7 +12,7 @@ use spec_model::{CopyMap, Relation};
 use std::alloc::Global;
 
 /// Two different rows of one entity that a copy function maps to two different rows of one entity.
-#[derive(Clone, Copy, Debug, PartialEq, Eq)]
+#[derive(Clone, Copy, PartialEq, Eq)]
 pub struct CopiedPair {
     pub first: RowId,
     pub second: RowId,

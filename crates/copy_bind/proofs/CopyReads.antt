@@ -12,8 +12,8 @@ use Rattle.copy_functions.specs.Faults.{fault_due}
 use Rattle.copy_functions.specs.declared.fault.CopyFault.{CopyFault}
 use Rattle.copy_functions.specs.declared.fault.CopyFault.TheVariants as copy_fault
 use Rattle.spec_names.specs.Names.{place_of}
-use Rattle.copy_head.specs.declared.head.CopyHead.{CopyHead}
-use Rattle.copy_head.proofs.NoReads.{ReadsNothing, all_reads, found_reads, then_reads, unless_reads}
+use Rattle.copy_bind.specs.declared.head.CopyHead.{CopyHead}
+use Rattle.copy_bind.proofs.NoReads.{ReadsNothing, all_reads, found_reads, then_reads, unless_reads}
 use Rattle.copy_bind.specs.Copied.{copied, empty_copy, fault_of, mapping_named, mappings_of, names_of_rows, refusal_of, row_named, with_mappings}
 use Rattle.copy_bind.specs.declared.mapping.Mapping.{Mapping}
 

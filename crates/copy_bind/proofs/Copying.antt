@@ -16,9 +16,9 @@ use Rattle.copy_functions.specs.Copies.{CopyFunction}
 use Rattle.spec_model.specs.Facts.{IsCopyAmong, IsPlaceBetween}
 use Rattle.spec_model.specs.declared.relation.Relation.{Relation}
 use Rattle.spec_names.specs.Names.{place_of}
-use Rattle.copy_head.specs.HeadFacts.{IsHeadAmong}
-use Rattle.copy_head.specs.declared.head.CopyHead.{CopyHead}
-use Rattle.copy_head.proofs.Due.{due_through}
+use Rattle.copy_bind.specs.HeadFacts.{IsHeadAmong}
+use Rattle.copy_bind.specs.declared.head.CopyHead.{CopyHead}
+use Rattle.copy_bind.proofs.Due.{due_through}
 use Rattle.copy_bind.specs.Copied.{copied, empty_copy, mapping_named, mappings_of, names_of_rows, row_named, with_mappings}
 use Rattle.copy_bind.specs.Steps.{IsCopyOfHead, IsWithin}
 use Rattle.copy_bind.specs.declared.mapping.Mapping.{Mapping}

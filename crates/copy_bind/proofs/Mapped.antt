@@ -6,9 +6,9 @@ use Rattle.currency_base.specs.declared.row.Row.{Row}
 use Rattle.bind_faults.specs.Faults.{IsDue, all_of, and_then, unless}
 use Rattle.bind_faults.specs.declared.fault.BindFault.{BindFault}
 use Rattle.copy_functions.specs.Copies.{CopyFunction, with_source}
-use Rattle.copy_head.proofs.Due.{due_through, is_free, is_refused}
-use Rattle.copy_head.proofs.Places.{drop_at}
-use Rattle.copy_head.proofs.Walk.{with_front}
+use Rattle.copy_bind.proofs.Due.{due_through, is_free, is_refused}
+use Rattle.copy_bind.proofs.Places.{drop_at}
+use Rattle.copy_bind.proofs.Walk.{with_front}
 use Rattle.copy_bind.specs.Copied.{fault_of, with_mappings}
 use Rattle.copy_bind.specs.Steps.{KeepsHead}
 use Rattle.copy_bind.specs.declared.mapping.Mapping.{Mapping}

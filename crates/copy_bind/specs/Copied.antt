@@ -19,7 +19,7 @@ use Rattle.copy_functions.specs.declared.fault.CopyFault.{CopyFault}
 use Rattle.copy_functions.specs.declared.fault.CopyFault.TheVariants as copy_fault
 use Rattle.spec_model.specs.declared.relation.Relation.{Relation}
 use Rattle.spec_names.specs.Names.{place_of}
-use Rattle.copy_head.specs.declared.head.CopyHead.{CopyHead}
+use Rattle.copy_bind.specs.declared.head.CopyHead.{CopyHead}
 use Rattle.copy_bind.specs.declared.mapping.Mapping.{Mapping}
 
 -- ---- names to rows

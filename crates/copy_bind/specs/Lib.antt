@@ -4,3 +4,6 @@ pub mod Steps
 pub use Rattle.currency_edge.specs.Shelf
 pub use Rattle.currency_edge.specs.Fault
 pub use Rattle.currency_csv.specs.Table
+pub mod HeadFacts
+pub mod Heads
+pub mod Sides

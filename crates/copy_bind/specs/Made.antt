@@ -12,8 +12,8 @@ use Rattle.copy_functions.specs.Copies.{CopyFunction}
 use Rattle.spec_model.specs.Spec.{Spec}
 use Rattle.table_bind.specs.Columns.{text_column}
 use Rattle.table_bind.specs.Tuples.{AreTuples}
-use Rattle.copy_head.specs.Heads.{head_of}
-use Rattle.copy_head.specs.declared.head.CopyHead.{CopyHead}
+use Rattle.copy_bind.specs.Heads.{head_of}
+use Rattle.copy_bind.specs.declared.head.CopyHead.{CopyHead}
 use Rattle.copy_bind.specs.Copied.{copied, pairs_from}
 
 -- the columns of a table of mappings

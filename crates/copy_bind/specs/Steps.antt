@@ -5,7 +5,7 @@ use Rattle.currency_base.specs.declared.value.Kind.TheVariants.{Text}
 use Rattle.currency_base.specs.declared.value.Value.{Value}
 use Rattle.copy_functions.specs.Copies.{CopyFunction, IsCopied}
 use Rattle.spec_model.specs.declared.relation.Relation.{Relation}
-use Rattle.copy_head.specs.declared.head.CopyHead.{CopyHead}
+use Rattle.copy_bind.specs.declared.head.CopyHead.{CopyHead}
 use Rattle.copy_bind.specs.declared.mapping.Mapping.{Mapping}
 
 -- both rows of a mapping are there

@@ -7,12 +7,12 @@ ghost use Rattle.copy_bind.specs.Copied.{copied};
 ghost use Rattle.copy_bind.specs.Made.{IsCopyMade, IsCopyTable, IsMapped, IsTableOf};
 ghost use Rattle.copy_bind.specs.Steps.{IsCopyOfHead};
 
+use crate::head::{CopyHead, bind_head};
 use crate::map::with_mappings;
 use crate::mapping::mappings_named;
 use crate::table::read_pairs;
 use bind_faults::BindFault;
 use copy_functions::CopyMap;
-use copy_head::{CopyHead, bind_head};
 use copy_syntax::{CopyTree, Mappings};
 use currency_base::Name;
 use currency_edge::Shelf;

@@ -8,9 +8,9 @@ ghost use Rattle.copy_bind.specs.Copied.{fault_of, refusal_of, with_mappings};
 ghost use Rattle.copy_bind.specs.Steps.{IsWithin, KeepsHead};
 
 use crate::mapping::Mapping;
+use crate::side::CopySide;
 use bind_faults::{BindFault, Refusal};
 use copy_functions::{CopyFault, CopyMap};
-use copy_head::CopySide;
 use currency_base::{ErrorCode, Name, NoMemory};
 use std::alloc::Global;
 

@@ -11,7 +11,7 @@ use std::marker::Model;
 
 /// A copy function: rows of a target relation, each mapped to the row of a source relation that it was
 /// copied from. At each place the two rows have equal values. Contracts see it as a finite map.
-#[derive(Debug, Drop)]
+#[derive(Drop)]
 pub struct CopyMap {
     name: Name,
     target: RelId,

@@ -1,7 +1,7 @@
 use currency_base::{NoMemory, Value};
 
 /// Why a row is not mapped.
-#[derive(Debug, Drop, PartialEq)]
+#[derive(Debug, Drop)]
 pub enum CopyFault {
     /// The target row is mapped already.
     CopyTwice,

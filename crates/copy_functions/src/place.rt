@@ -2,7 +2,7 @@ use currency_base::{AttrId, ItemList};
 
 /// An attribute of the target relation, and the attribute of the source relation that it is copied
 /// from.
-#[derive(Clone, Copy, Debug, Default, PartialEq, Eq)]
+#[derive(Clone, Copy, Default, PartialEq, Eq)]
 pub struct Place {
     pub target: AttrId,
     pub source: AttrId,

@@ -9,7 +9,7 @@ use std::marker::Model;
 /// Counts of numbers from 0 on, of which some are present. The present number with the greatest count is found in
 /// constant time, and each change takes logarithmic time. Contracts see the counts, and which numbers are present. A
 /// number takes thirteen bytes.
-#[derive(Debug, Drop)]
+#[derive(Drop)]
 pub struct CountTree {
     counts: Vec<u64>,
     present: Vec<bool>,

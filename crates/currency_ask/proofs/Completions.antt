@@ -1,7 +1,7 @@
 -- Reports that list completions.
 use Rattle.std.proofs.Common.{◌≡◌, ◌≢◌, ◌∙◌, ◌<◌, ◌≤◌, ℕ, zero, suc, List, [], ◌∷◌, All, Contains, length, slice_index_or, refl, sym, ap, subst, arith}
 use Rattle.std.proofs.lemmas.List.Elements.{All-cons, All-nil}
-use Rattle.log_write.specs.Writable.{AreFew, IsWritable}
+use Rattle.refutation_log.specs.Writable.{AreFew, IsWritable}
 use Rattle.refutation_log.specs.declared.log.Log.{Log}
 use Rattle.refutation_log.specs.declared.statement.Statement.{Statement}
 use Rattle.refutation_log.specs.declared.step.Step.{Step}
@@ -15,7 +15,7 @@ use Rattle.report_model.specs.declared.report.Report.{Report}
 use Rattle.report_model.specs.declared.verdict.Verdict.{Verdict}
 use Rattle.report_model.specs.declared.verdict.Verdict.TheVariants as verdict
 use Rattle.report_verify.specs.Supported.{IsOneOf, IsSupported}
-use Rattle.report_write.specs.Writable.{AllCover, Covers, IsWritableCompletion, IsWritableVerdict}
+use Rattle.report_model.specs.Writable.{AllCover, Covers, IsWritableCompletion, IsWritableVerdict}
 use Rattle.search_logs.specs.Laws.{CompletionsAreWritable}
 use Rattle.search_logs.specs.SearchLogs.{IsWithin}
 use Rattle.currency_ask.specs.Answered.{IsAnswerWithin, IsDecidedBy, NamesFirst}

@@ -23,7 +23,7 @@ use Rattle.log_checker.specs.Shown.{is_unit}
 use Rattle.log_form.specs.Form.{first_fault}
 use Rattle.log_trim.specs.Trimmed.{AreInPlace, IsTrimmed, lits_at, rank, renumbered_lit, renumbered_statement}
 use Rattle.log_trim.specs.declared.trimming.Trimmed.{Trimmed}
-use Rattle.log_write.specs.Writable.{IsWritable}
+use Rattle.refutation_log.specs.Writable.{IsWritable}
 use Rattle.order_literals.specs.Said as made
 use Rattle.order_literals.specs.Said.{Said, Says, positive}
 use Rattle.order_literals.specs.declared.wanted.Wanted.{Wanted}
@@ -39,7 +39,7 @@ use Rattle.report_model.specs.declared.verdict.Verdict.TheVariants as verdict
 use Rattle.report_verify.specs.Asked.{query_of}
 use Rattle.report_verify.specs.Supported.{Claim, IsDerived, IsOneOf, IsSupported, Need, needs_of}
 use Rattle.report_verify.specs.Supported.Claim.{Holds, HasValue, HasAnswer}
-use Rattle.report_write.specs.Writable.{IsWritableVerdict}
+use Rattle.report_model.specs.Writable.{IsWritableVerdict}
 use Rattle.search_logs.specs.Laws.{CompletionsAreWritable, LogsAreAccepted, LogsAreInPlace, TrimmedAreAmong, TrimmedAreReached, TrimmedAreWritable}
 use Rattle.search_logs.specs.SearchLogs.{HasFewSteps}
 use Rattle.spec_model.specs.Completion.{Rankings}

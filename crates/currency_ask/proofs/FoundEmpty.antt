@@ -10,14 +10,14 @@ use Rattle.log_checker.specs.Shown.{is_empty}
 use Rattle.log_form.specs.Form.{first_fault}
 use Rattle.log_trim.specs.Trimmed.{AreInPlace, IsTrimmed, lits_at, rank, renumbered_lit}
 use Rattle.log_trim.specs.declared.trimming.Trimmed.{Trimmed}
-use Rattle.log_write.specs.Writable.{IsWritable}
+use Rattle.refutation_log.specs.Writable.{IsWritable}
 use Rattle.order_search.specs.Searches.{IsSearch, Search}
 use Rattle.refutation_log.specs.Steps.{clause_of, clauses_of}
 use Rattle.refutation_log.specs.declared.log.Log.{Log}
 use Rattle.report_model.specs.declared.verdict.Verdict.TheVariants.{Inconsistent}
 use Rattle.report_verify.specs.Asked.{query_of}
 use Rattle.report_verify.specs.Supported.{HasEmpty}
-use Rattle.report_write.specs.Writable.{AllCover, IsWritableCompletion}
+use Rattle.report_model.specs.Writable.{AllCover, IsWritableCompletion}
 use Rattle.search_logs.specs.Laws.{LogsAreAccepted, LogsAreInPlace, TrimmedAreAmong, TrimmedAreReached, TrimmedAreWritable}
 use Rattle.search_logs.specs.SearchLogs.{HasFewSteps}
 use Rattle.spec_model.specs.Completion.{Rankings}

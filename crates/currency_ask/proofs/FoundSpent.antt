@@ -3,9 +3,9 @@ use Rattle.std.proofs.Common.{◌≡◌, ◌∙◌, ◌<◌, ◌≤◌, ◌^◌,
 use Rattle.std.proofs.lemmas.List.Elements.{All-nil, Contains-append_left}
 use Rattle.currency_base.specs.declared.value.Value.{Value}
 use Rattle.axiom_agreement.specs.Agreement.{AxiomsAreWhole, HasAxioms}
-use Rattle.log_checker.specs.Accepted.{IsNumbered}
+use Rattle.refutation_log.specs.Numbered.{IsNumbered}
 use Rattle.log_form.specs.Form.{first_fault}
-use Rattle.log_write.specs.Writable.{IsWritable}
+use Rattle.refutation_log.specs.Writable.{IsWritable}
 use Rattle.order_literals.specs.Enough.{IsEnough, variables_of as variables_in}
 use Rattle.order_literals.specs.declared.wanted.Wanted.{Wanted}
 use Rattle.order_search.specs.Searches.{BeginsWithAxioms, IsSearch, Search}
@@ -15,7 +15,7 @@ use Rattle.refutation_log.specs.declared.statement.Statement.{Statement}
 use Rattle.refutation_log.specs.declared.step.Step.{Step}
 use Rattle.refutation_log.specs.declared.step.Step.TheVariants as step
 use Rattle.report_model.specs.declared.verdict.Verdict.TheVariants.{Undecided}
-use Rattle.report_write.specs.Writable.{AllCover, IsWritableCompletion}
+use Rattle.report_model.specs.Writable.{AllCover, IsWritableCompletion}
 use Rattle.search_logs.specs.Laws.{LogsAreAccepted, LogsAreInPlace, LogsAreWritable}
 use Rattle.search_logs.specs.SearchLogs.{HasFewSteps, variables}
 use Rattle.spec_model.specs.Completion.{Rankings}

@@ -10,17 +10,17 @@ use Rattle.std.proofs.lemmas.Option.{same_Some, slice_get-get_or}
 use Rattle.answer_candidates.specs.Candidates.{AreCandidates, LeftAreCommon, Standing, is_left, left_of, left_tuples}
 use Rattle.certain_answers.specs.Deciding.{AreSettled, IsProved as HasItsUnit}
 use Rattle.currency_base.specs.declared.value.Value.{Value}
-use Rattle.log_write.specs.Writable.{AreFew}
+use Rattle.refutation_log.specs.Writable.{AreFew}
 use Rattle.order_search.specs.Searches.{IsSearch, Search}
 use Rattle.query_model.specs.declared.query.Query.{Query}
 use Rattle.report_model.specs.declared.verdict.Verdict.TheVariants as verdict
 use Rattle.report_verify.specs.Supported.{IsOneOf, Need, answer_needs}
 use Rattle.report_verify.specs.Supported.Claim.{HasAnswer}
-use Rattle.report_write.specs.Writable.{IsWritableVerdict}
+use Rattle.report_model.specs.Writable.{IsWritableVerdict}
 use Rattle.spec_model.specs.Completion.{Rankings}
 use Rattle.spec_model.specs.Spec.{Spec}
 use Rattle.spec_model.specs.declared.question.Question.TheVariants as asked
-use Rattle.text_write.specs.Written.{IsValue}
+use Rattle.currency_base.specs.Values.{IsValue}
 use Rattle.currency_ask.specs.Goals.{AreClaims, AreProved, IsClaimOf, IsGoalOn, IsProved}
 use Rattle.currency_ask.specs.Reported.{IsListedFor}
 use Rattle.currency_ask.specs.declared.goal.Goal.{Goal}

@@ -1,7 +1,7 @@
 -- A report that lists no completion.
 use Rattle.std.proofs.Common.{◌≡◌, List, [], sym, subst, arith}
 use Rattle.std.proofs.lemmas.List.Elements.{All-nil}
-use Rattle.log_write.specs.Writable.{AreFew}
+use Rattle.refutation_log.specs.Writable.{AreFew}
 
 -- no items are few
 pub few_none : {A : Type 0} (P : A → Type 0) (xs : List A) → xs ≡ [] → AreFew P xs

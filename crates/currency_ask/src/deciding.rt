@@ -17,7 +17,7 @@ use std::alloc::Global;
 use watch_solver::Budget;
 
 /// What deciding goals one after another came to.
-#[derive(Debug, Drop)]
+#[derive(Drop)]
 pub(crate) enum Decided {
     /// Each holds in every consistent completion: the steps that are their units.
     Proved(HintList),

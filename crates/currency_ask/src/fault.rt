@@ -2,7 +2,7 @@ use currency_base::NoMemory;
 use spec_model::Completion;
 
 /// Why a question is not answered.
-#[derive(Debug, Drop)]
+#[derive(Drop)]
 pub enum AskFault {
     /// The query has more than 1,000,000 answers over the current instance of this consistent completion.
     TooMany(Completion),

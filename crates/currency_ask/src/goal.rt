@@ -3,7 +3,7 @@ use current_claims::CurrentRow;
 use spec_model::Asked;
 
 /// What is decided: does it hold in every consistent completion?
-#[derive(Clone, Copy, Debug, PartialEq, Eq)]
+#[derive(Clone, Copy, PartialEq, Eq)]
 pub(crate) enum Goal {
     /// An asked pair holds.
     Pair(Asked),

@@ -1,7 +1,7 @@
 ghost use Rattle.std.specs.Prelude.{◌≡◌, ◌≤◌, ◌∷◌, ℕ, [], All, Some, length, slice_get, IfOk};
 ghost use Rattle.refutation_log.specs.Steps.{clauses_of};
 ghost use Rattle.report_verify.specs.Supported.{IsOneOf, needs_of};
-ghost use Rattle.report_write.specs.Writable.{IsWritableVerdict};
+ghost use Rattle.report_model.specs.Writable.{IsWritableVerdict};
 ghost use Rattle.search_logs.specs.SearchLogs.{HasFewSteps};
 ghost use Rattle.spec_model.specs.Completion.{Rankings};
 ghost use Rattle.spec_model.specs.Consistent.{IsConsistent};

@@ -1,5 +1,5 @@
 -- The kinds of values, their order, and what comparisons say of them.
-use Rattle.std.specs.Prelude.{Bool, true, false}
+use Rattle.std.specs.Prelude.{◌^◌, ◌≤ℤ◌, ◌<ℤ◌, pos, neg_ℤ, Bool, true, false, IsUtf8}
 use Rattle.std.specs.Ordering.{nat_cmp, int_cmp}
 use Rattle.std.specs.Cmp.Lexicographic.{slice_cmp}
 use Rattle.std.specs.declared.cmp.Ordering.{Ordering}
@@ -15,6 +15,11 @@ use Rattle.currency_base.specs.declared.value.Cmp.TheVariants.{Eq, Ne, Lt, Le, G
 abbrev pub kind_of : Value → Kind
 kind_of (Int n) = kind.Int
 kind_of (Text bytes) = kind.Text
+
+-- a value of the program: a text is UTF-8, and an int has 64 signed bits
+abbrev pub IsValue : Value → Type 0
+IsValue (Text bytes) = IsUtf8 bytes
+IsValue (Int n) = (neg_ℤ (pos (2 ^ 63)) ≤ℤ n) × (n <ℤ pos (2 ^ 63))
 
 -- the order of values: ints by number, texts by their bytes, and an int below a text
 abbrev pub value_cmp : Value → Value → Ordering

@@ -5,7 +5,7 @@ use std::alloc::Global;
 use std::marker::Model;
 
 /// A bool for each variable. Contracts see it as the list of them, in the order of the variables.
-#[derive(Debug, Drop)]
+#[derive(Drop)]
 pub struct Assignment {
     truths: Vec<bool>,
 }

@@ -6,7 +6,7 @@ use std::marker::Model;
 use std::mem;
 
 /// A list that grows at its end. Contracts see it as the list of its items.
-#[derive(Debug, Drop)]
+#[derive(Drop)]
 pub struct ItemList<T> {
     items: Vec<T>,
 }

@@ -14,33 +14,3 @@ pub fn read_int(bytes: &[u8]) -> Option<i64>
         Err(_) => None,
     }
 }
-
-#[cfg(test)]
-mod tests {
-    use super::*;
-    use std::test::Fail;
-
-    #[test]
-    fn reads_integers(rt: HostRuntime) -> Result<(), Fail> {
-        let table: [(&str, Option<i64>); 13] = [
-            ("", None),
-            ("-", None),
-            ("+1", None),
-            ("007", Some(7)),
-            ("-0", Some(0)),
-            ("-12", Some(-12)),
-            ("9223372036854775807", Some(9223372036854775807)),
-            ("9223372036854775808", None),
-            ("-9223372036854775808", Some(-9223372036854775808)),
-            ("-9223372036854775809", None),
-            ("1a", None),
-            (" 1", None),
-            ("--1", None),
-        ];
-        for (text, number) in table.iter() {
-            assert_eq!(rt; read_int(text.as_bytes()), *number);
-        }
-        assert_eq!(rt; read_int(b"\xff"), None);
-        Ok(())
-    }
-}

@@ -3,7 +3,7 @@ ghost use Rattle.std.specs.Prelude.{◌≡◌, ◌<◌, length, slice_get};
 use crate::{EntId, ItemList, Name, RowId, Tuple};
 
 /// A row of a relation: its name, the entity that it stands for, and one value per attribute.
-#[derive(Debug, Drop, PartialEq)]
+#[derive(Drop)]
 pub struct Row {
     pub name: Name,
     pub entity: EntId,

@@ -1,15 +1,18 @@
 -- What is due is what the program comes to.
-use Rattle.std.proofs.Common.{◌≡◌, ◌⊎◌, ℕ, Bool, true, false, if◌then◌else◌, List, Option, Some, None, IfSome, Result, Ok, Err, ◌∙◌, ap, subst, sym, refl, inl, inr}
+use Rattle.std.proofs.Common.{◌≡◌, ◌⊎◌, ℕ, List, Option, Some, None, IfSome, Result, Ok, Err, ◌∙◌, ap, subst, sym, refl, inl, inr}
 use Rattle.currency_edge.specs.Fault.{Rose}
-use Rattle.currency_cli.specs.Alike.{AreAlike}
+use Rattle.command_stages.specs.Alike.{AreAlike, EndAlike}
+use Rattle.command_stages.specs.Endings.{IsOfQuestion, ending_status}
+use Rattle.command_stages.specs.declared.done.Ending.{Ending}
+use Rattle.command_stages.specs.declared.done.Ending.TheVariants as ending
 use Rattle.currency_cli.specs.Due.{IsDue}
-use Rattle.currency_cli.specs.Ends.{EndsWith, HasStatus, HasFailedStatus, ComesTo, status_of, failed_status_of}
-use Rattle.currency_cli.specs.Named.{IsSettled, IsReadFault}
-use Rattle.currency_cli.specs.Texts.{trouble_status}
-use Rattle.currency_cli.specs.declared.done.Done.{Done}
-use Rattle.currency_cli.specs.declared.done.Done.TheVariants as done
-use Rattle.currency_cli.specs.declared.trouble.Trouble.{Trouble}
-use Rattle.currency_cli.specs.declared.trouble.Trouble.TheVariants as trouble
+use Rattle.currency_cli.specs.Ends.{EndsWith, HasEndStatus, HasStatus, HasFailedStatus, ComesTo, failed_status_of}
+use Rattle.command_stages.specs.Outcomes.{status_of}
+use Rattle.command_stages.specs.Named.{IsSettled, IsReadFault}
+use Rattle.command_stages.specs.Texts.{trouble_status}
+use Rattle.command_stages.specs.declared.done.Done.{Done}
+use Rattle.command_stages.specs.declared.trouble.Trouble.{Trouble}
+use Rattle.command_stages.specs.declared.trouble.Trouble.TheVariants as trouble
 
 -- what is due is determined, but for which report answers a question
 abbrev pub OneDue : Type 0
@@ -18,37 +21,32 @@ OneDue = (told : List (List ℕ × List ℕ)) (count : ℕ) (words : List (List 
 
 -- ---- the outcome that was come to is like the one that is due
 
-pub zero_or_three : (undecided : Bool) (status : ℕ) → status ≡ (if undecided then 3 else 0) → (status ≡ 0) ⊎ (status ≡ 3)
-zero_or_three true status is = inr is
-zero_or_three false status is = inl is
+zero_or_three : (e : Ending) (status : ℕ) → IsOfQuestion e → status ≡ ending_status e → (status ≡ 0) ⊎ (status ≡ 3)
+zero_or_three ending.Told status of is = absurd of
+zero_or_three ending.Decided status of is = inl is
+zero_or_three ending.Undecided status of is = inr is
 
-answer_status : (status : ℕ) → (status ≡ 0) ⊎ (status ≡ 3) → (status ≡ 0) ⊎ ((status ≡ 3) ⊎ (status ≡ 6))
-answer_status status (inl zero) = inl zero
-answer_status status (inr three) = inr (inl three)
+any_of_question : (e : Ending) (status : ℕ) → IsOfQuestion e → (status ≡ 0) ⊎ ((status ≡ 3) ⊎ (status ≡ 6)) → HasEndStatus e status
+any_of_question ending.Told status of is = absurd of
+any_of_question ending.Decided status of is = is
+any_of_question ending.Undecided status of is = is
+
+end_status : (d e : Ending) (status : ℕ) → EndAlike d e → status ≡ ending_status d → HasEndStatus e status
+end_status ending.Told e status alike is = subst (λ (x : Ending). HasEndStatus x status) (sym alike) is
+end_status ending.Decided e status alike is = any_of_question e status alike (inl is)
+end_status ending.Undecided e status alike is = any_of_question e status alike (inr (inl is))
 
 has_status : (got outcome : Result Done Trouble) (status : ℕ) → AreAlike got outcome → status ≡ status_of got → HasStatus outcome status
-has_status (Ok (done.Accepted kind)) outcome status alike is = subst (λ (o : Result Done Trouble). HasStatus o status) (sym alike) is
-has_status (Ok (done.Answered text undecided)) (Ok (done.Answered other_text other)) status alike is = answer_status status (zero_or_three undecided status is)
-has_status (Ok (done.Answered text undecided)) (Ok (done.Accepted kind)) status alike is = absurd alike
-has_status (Ok (done.Answered text undecided)) (Ok (done.Forced other_text)) status alike is = absurd alike
-has_status (Ok (done.Answered text undecided)) (Err e) status alike is = inr (alike, zero_or_three undecided status is)
-has_status (Ok (done.Forced text)) (Ok (done.Forced other_text)) status alike is = is
-has_status (Ok (done.Forced text)) (Ok (done.Accepted kind)) status alike is = absurd alike
-has_status (Ok (done.Forced text)) (Ok (done.Answered other_text other)) status alike is = absurd alike
-has_status (Ok (done.Forced text)) (Err e) status alike is = absurd alike
-has_status (Err e) (Ok (done.Answered text undecided)) status alike is = inr (inr (is ∙ ap trouble_status alike))
-has_status (Err e) (Ok (done.Accepted kind)) status alike is = absurd alike
-has_status (Err e) (Ok (done.Forced text)) status alike is = absurd alike
+has_status (Ok d) (Ok e) status alike is = end_status d.ending e.ending status alike is
+has_status (Ok d) (Err e) status alike is = inr (alike.1, zero_or_three d.ending status alike.0 is)
+has_status (Err e) (Ok d) status alike is = any_of_question d.ending status alike.0 (inr (inr (is ∙ ap trouble_status alike.1)))
 has_status (Err e) (Err f) status alike is = inl (is ∙ ap trouble_status alike)
 
 -- an outcome whose text met a failing sink: a refusal keeps its status
 has_failed_status : (got outcome : Result Done Trouble) (status : ℕ) → AreAlike got outcome → status ≡ failed_status_of got
     → HasStatus outcome status ⊎ HasFailedStatus outcome status
-has_failed_status (Ok (done.Accepted kind)) outcome status alike is = inr (subst (λ (o : Result Done Trouble). HasFailedStatus o status) (sym alike) is)
-has_failed_status (Ok (done.Answered text undecided)) (Ok d) status alike is = inr is
-has_failed_status (Ok (done.Answered text undecided)) (Err e) status alike is = inr (inr (alike, is))
-has_failed_status (Ok (done.Forced text)) (Ok d) status alike is = inr is
-has_failed_status (Ok (done.Forced text)) (Err e) status alike is = absurd alike
+has_failed_status (Ok d) (Ok e) status alike is = inr is
+has_failed_status (Ok d) (Err e) status alike is = inr (inr (alike.1, is))
 has_failed_status (Err e) outcome status alike is = inl (has_status (Err e) outcome status alike is)
 
 failed : (rb rn wb wn : ℕ) (outcome : Result Done Trouble) (status : ℕ) → HasStatus outcome status ⊎ HasFailedStatus outcome status → Rose wb wn

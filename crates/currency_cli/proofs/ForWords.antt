@@ -2,11 +2,11 @@
 use Rattle.std.proofs.Common.{◌≡◌, ℕ, List, Option, Some, None, IfOk, IfSome, MatchOption, Result, Ok, Err, sym, subst}
 use Rattle.program_words.specs.Words.{CommandSaid}
 use Rattle.currency_cli.specs.Due.{IsDueFor, IsDue, IsDocumentDue, IsReadDue}
-use Rattle.currency_cli.specs.Told.{IsTold, IsOutcomeOf, IsToldFor}
+use Rattle.currency_cli.specs.Told.{IsTold, IsToldFor}
 use Rattle.currency_cli.specs.Words.{command_for}
-use Rattle.currency_cli.specs.declared.done.Done.{Done}
-use Rattle.currency_cli.specs.declared.trouble.Trouble.{Trouble}
-use Rattle.currency_cli.specs.declared.trouble.Trouble.TheVariants as trouble
+use Rattle.command_stages.specs.declared.done.Done.{Done}
+use Rattle.command_stages.specs.declared.trouble.Trouble.{Trouble}
+use Rattle.command_stages.specs.declared.trouble.Trouble.TheVariants as trouble
 
 pub due_for_words : (texts : Option (List (List ℕ × List ℕ))) (count : ℕ) (words : List (List ℕ)) (c : CommandSaid) (outcome : Result Done Trouble)
     → command_for count words ≡ Some c → IfSome texts (λ told. IsDueFor told c outcome) → IfSome texts (λ told. IsDue told count words outcome)
@@ -27,7 +27,7 @@ read_due_for_words (Some told) count words c name said due =
     subst (λ (o : Option CommandSaid). MatchOption o ⊥ (λ c. IsDocumentDue told c name)) (sym said) due
 
 pub told_for_words : (texts : Option (List (List ℕ × List ℕ))) (count : ℕ) (words : List (List ℕ)) (c : CommandSaid) (outcome : Result Done Trouble)
-    → command_for count words ≡ Some c → IfOk outcome (IsOutcomeOf c) → IfOk outcome (λ d. IfSome texts (λ told. IsTold told c d))
+    → command_for count words ≡ Some c → IfOk outcome (λ d. IfSome texts (λ told. IsTold told c d))
     → IfOk outcome (λ d. IsToldFor texts count words d)
-told_for_words texts count words c (Ok d) said kind told = record { command = c; said = said; kind = kind; told = told }
-told_for_words texts count words c (Err e) said kind told = tt
+told_for_words texts count words c (Ok d) said told = record { command = c; said = said; told = told }
+told_for_words texts count words c (Err e) said told = tt

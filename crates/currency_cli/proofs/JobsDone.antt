@@ -1,27 +1,22 @@
 -- Where the job is done, the sink got its text, and what is told is shown.
-use Rattle.std.proofs.Common.{◌≡◌, ℕ, Bool, true, false, List, codes, Option, Some, None, IfSome, MatchResult, Result, Ok, Err, inl, inr, refl, sym, ap, subst, ◌∙◌, arith}
+use Rattle.std.proofs.Common.{◌≡◌, ◌∙◌, ℕ, List, Option, Some, None, IfSome, Ok, Err, inl, inr, sym, ap, arith, subst}
 use Rattle.std.specs.Io.KnownBytes.{Appends}
+use Rattle.ask_command.proofs.Jobs as ask
+use Rattle.command_stages.specs.Endings.{ending_status}
+use Rattle.command_stages.specs.Texts.{trouble_status}
+use Rattle.command_stages.specs.declared.done.Done.{Done}
+use Rattle.command_stages.specs.declared.done.Ending.{Ending}
+use Rattle.command_stages.specs.declared.done.Ending.TheVariants as ending
+use Rattle.command_stages.specs.declared.trouble.Trouble.{Trouble}
+use Rattle.command_stages.specs.declared.trouble.Trouble.TheVariants as trouble
+use Rattle.currency_cli.specs.Ends.{EndsWith, IsJobDone, IsDone, IsSpent, IsUndecided}
+use Rattle.command_stages.specs.Outcomes.{output_of, status_of}
+use Rattle.currency_cli.specs.Told.{IsTold, IsToldFor}
 use Rattle.currency_edge.specs.Fault.{Rose}
 use Rattle.currency_edge.specs.Sink.{AppendsPrefix}
-use Rattle.currency_ask.specs.Answered.{IsAnswerWithin}
-use Rattle.program_words.specs.Words.{AskSaid, CommandSaid, AskFor, VerifyOf, ForcedOf, TrialOf}
-use Rattle.report_model.specs.Verdicts.{is_decided, kind_of}
-use Rattle.report_model.specs.declared.report.Report.{Report}
-use Rattle.report_model.specs.declared.verdict.Verdict.{Verdict}
-use Rattle.report_model.specs.declared.verdict.Verdict.TheVariants as verdict
-use Rattle.spec_model.specs.Spec.{Spec}
-use Rattle.trial_documents.specs.Documents.{documents}
-use Rattle.spec_model.specs.declared.question.Question.{Question}
-use Rattle.currency_cli.specs.Ends.{EndsWith, IsAnswerTold, IsJobDone, IsDone, IsShort, IsSpent, IsTrialSpent, IsTrialTold, IsUndecided, output_of, status_of}
-use Rattle.currency_cli.specs.Stages.{Then, IsAnswer, IsSpecRead}
-use Rattle.currency_cli.specs.Texts.{trouble_status}
-use Rattle.currency_cli.specs.Told.{IsTold, IsToldFor}
-use Rattle.currency_cli.specs.Trial.{AreQuestionsRead, AreTried, trial_budget}
-use Rattle.currency_cli.proofs.Accepted.{done_apart}
-use Rattle.currency_cli.specs.declared.done.Done.{Done}
-use Rattle.currency_cli.specs.declared.done.Done.TheVariants as done
-use Rattle.currency_cli.specs.declared.trouble.Trouble.{Trouble}
-use Rattle.currency_cli.specs.declared.trouble.Trouble.TheVariants as trouble
+use Rattle.forced_command.specs.Forced.{AreForcedListed}
+use Rattle.program_words.specs.Words.{CommandSaid, AskFor, VerifyOf, ForcedOf, TrialOf}
+use Rattle.trial_command.proofs.Replies as trial
 
 -- ---- the text
 
@@ -37,10 +32,12 @@ not_at status k j is other at = other (sym is ∙ at)
 
 -- the status of what is done is no 8
 done_not_eight : (d : Done) → status_of (Ok d) ≡ 8 → ⊥
-done_not_eight (done.Accepted kind) h = omega (arith, h)
-done_not_eight (done.Answered text true) h = omega (arith, h)
-done_not_eight (done.Answered text false) h = omega (arith, h)
-done_not_eight (done.Forced text) h = omega (arith, h)
+done_not_eight d h = by d.ending h
+  where
+    by : (e : Ending) → ending_status e ≡ 8 → ⊥
+    by ending.Told h = omega (arith, h)
+    by ending.Decided h = omega (arith, h)
+    by ending.Undecided h = omega (arith, h)
 
 -- a prefix of it where the status is 8
 pub prefix_written : (old new : Option (List ℕ)) (wb wn : ℕ) (d : Done) (status : ℕ) → EndsWith old new wb wn (Ok d) status
@@ -51,10 +48,12 @@ prefix_written old new wb wn d status (inr (inr h)) eight = absurd (omega (arith
 
 -- nothing is done with a status of 7, and 8 only where the sink failed
 done_not_seven : (d : Done) → status_of (Ok d) ≡ 7 → ⊥
-done_not_seven (done.Accepted kind) h = omega (arith, h)
-done_not_seven (done.Answered text true) h = omega (arith, h)
-done_not_seven (done.Answered text false) h = omega (arith, h)
-done_not_seven (done.Forced text) h = omega (arith, h)
+done_not_seven d h = by d.ending h
+  where
+    by : (e : Ending) → ending_status e ≡ 7 → ⊥
+    by ending.Told h = omega (arith, h)
+    by ending.Decided h = omega (arith, h)
+    by ending.Undecided h = omega (arith, h)
 
 pub done_reads : (old new : Option (List ℕ)) (wb wn : ℕ) (d : Done) (status : ℕ) → EndsWith old new wb wn (Ok d) status → status ≡ 7 → ⊥
 done_reads old new wb wn d status (inl h) seven = done_not_seven d (sym h.0 ∙ seven)
@@ -112,20 +111,10 @@ refusal_not_eight old new wb wn e status ends = refusal_not old new wb wn e stat
 -- ---- status 0
 
 job_at : (told : List (List ℕ × List ℕ)) (c : CommandSaid) (d : Done) → status_of (Ok d) ≡ 0 → IsTold told c d → IsJobDone told c (output_of (Ok d))
-job_at told (VerifyOf v) (done.Accepted kind) zero h = (kind, h, refl)
-job_at told (VerifyOf v) (done.Answered text undecided) zero h = absurd h
-job_at told (VerifyOf v) (done.Forced text) zero h = absurd h
-job_at told (AskFor a) (done.Answered text false) zero h = h
-job_at told (AskFor a) (done.Answered text true) zero h = absurd (omega (arith, zero))
-job_at told (AskFor a) (done.Accepted kind) zero h = absurd h
-job_at told (AskFor a) (done.Forced text) zero h = absurd h
-job_at told (ForcedOf name) (done.Forced text) zero h = h
-job_at told (ForcedOf name) (done.Accepted kind) zero h = absurd h
-job_at told (ForcedOf name) (done.Answered text undecided) zero h = absurd h
-job_at told (TrialOf size) (done.Answered text false) zero h = h
-job_at told (TrialOf size) (done.Answered text true) zero h = absurd (omega (arith, zero))
-job_at told (TrialOf size) (done.Accepted kind) zero h = absurd h
-job_at told (TrialOf size) (done.Forced text) zero h = absurd h
+job_at told (VerifyOf v) d zero h = (h.0, h.1, ap (λ (x : Done). x.text) h.2)
+job_at told (AskFor a) d zero h = ask.decided_told told a d.text d.ending zero h
+job_at told (ForcedOf name) d zero h = subst (AreForcedListed told name) (sym (ap (λ (x : Done). x.text) h.2)) h.1
+job_at told (TrialOf size) d zero h = trial.decided_told size d.text d.ending zero h
 
 job : (texts : Option (List (List ℕ × List ℕ))) (c : CommandSaid) (d : Done) → status_of (Ok d) ≡ 0 → IfSome texts (λ told. IsTold told c d)
     → IfSome texts (λ told. IsJobDone told c (output_of (Ok d)))
@@ -141,83 +130,11 @@ is_done texts count words old new wb wn d status t ends zero =
 
 -- ---- status 3
 
-true_not_false : ◌≡◌ {A = Bool} true false → ⊥
-true_not_false h = cc
-
--- nothing else is answered undecided
-no_kind : (r : Report) (v : Verdict) → r.verdict ≡ v → is_decided (kind_of v) ≡ true → is_decided (kind_of r.verdict) ≡ false → ⊥
-no_kind r v is decided undecided = true_not_false (sym decided ∙ subst (λ (w : Verdict). is_decided (kind_of w) ≡ false) is undecided)
-
-undecided_at : (s : Spec) (q : Question) (budget : ℕ) (r : Report) (v : Verdict) → r.verdict ≡ v → IsAnswerWithin s q budget r → is_decided (kind_of r.verdict) ≡ false
-    → r.verdict ≡ verdict.Undecided budget
-undecided_at s q budget r verdict.Inconsistent is within undecided = absurd (no_kind r _ is refl undecided)
-undecided_at s q budget r verdict.Consistent is within undecided = absurd (no_kind r _ is refl undecided)
-undecided_at s q budget r verdict.Certain is within undecided = absurd (no_kind r _ is refl undecided)
-undecided_at s q budget r (verdict.NotCertain p) is within undecided = absurd (no_kind r _ is refl undecided)
-undecided_at s q budget r (verdict.Same items) is within undecided = absurd (no_kind r _ is refl undecided)
-undecided_at s q budget r (verdict.NotSame rel attr ent) is within undecided = absurd (no_kind r _ is refl undecided)
-undecided_at s q budget r (verdict.Answers tuples) is within undecided = absurd (no_kind r _ is refl undecided)
-undecided_at s q budget r (verdict.Undecided counted) is within undecided = is ∙ ap verdict.Undecided ((rw is at within).1)
-
-short : (s : Spec) (q : Question) (budget : ℕ) (r : Report) → IsAnswer s q budget r → is_decided (kind_of r.verdict) ≡ false → IsShort s q budget r.verdict
-short s q budget r answer undecided =
-    (undecided_at s q budget r r.verdict refl answer.within undecided, λ count counts enough. true_not_false (sym (answer.enough count counts enough) ∙ undecided))
-
-spent_told : (told : List (List ℕ × List ℕ)) (a : AskSaid) (text : List ℕ) → IsAnswerTold told a text true → IsSpent told (AskFor a) text
-spent_told told a text t = (t, short t.spec t.question a.budget t.report t.answer t.decided)
-
-same_text : (a b : List ℕ) (u v : Bool) → ◌≡◌ {A = Result Done Trouble} (Ok (done.Answered a u)) (Ok (done.Answered b v)) → (a ≡ b) × (u ≡ v)
-same_text a b u v e = let texts : a ≡ b = cc in let undecided : u ≡ v = cc in (texts, undecided)
-
-no_limit : (a : List ℕ) (u : Bool) → ◌≡◌ {A = Result Done Trouble} (Ok (done.Answered a u)) (Err (trouble.Limit 3)) → ⊥
-no_limit a u e = cc
-
-trial_spent_at : (size : ℕ) (text : List ℕ) (s : Spec) (questions : List Question) → IsTrialTold size text true → IsSpecRead (documents size) (codes "spec") (Ok s)
-    → AreTried size s questions (Ok (done.Answered text true)) → IsTrialSpent size text
-trial_spent_at size text s questions told read (inl h) = absurd (true_not_false (same_text text _ true false h.is_text).1)
-trial_spent_at size text s questions told read (inr (inl h)) = record {
-  told = told;
-  spec = s;
-  question = h.question;
-  report = h.report;
-  spec_read = read;
-  answer = h.answer;
-  is_text = (same_text text _ true true h.is_text).0;
-  short = short s h.question trial_budget h.report h.answer h.undecided;
-}
-trial_spent_at size text s questions told read (inr (inr h)) = absurd (no_limit text true h.is_limit)
-
-trial_spent : (size : ℕ) (text : List ℕ) → IsTrialTold size text true → IsTrialSpent size text
-trial_spent size text told = of_spec told.0 told.1 told.2
-  where
-    of_questions : (s : Spec) → IsSpecRead (documents size) (codes "spec") (Ok s) → (r : Result (List Question) Trouble)
-        → MatchResult r (λ qs. AreTried size s qs (Ok (done.Answered text true))) (λ e. ◌≡◌ {A = Result Done Trouble} (Ok (done.Answered text true)) (Err e))
-        → IsTrialSpent size text
-    of_questions s read (Ok qs) h = trial_spent_at size text s qs told read h
-    of_questions s read (Err e) h = absurd (done_apart (done.Answered text true) e h)
-
-    of_spec : (r : Result Spec Trouble) → IsSpecRead (documents size) (codes "spec") r
-        → MatchResult r (λ s. Then (AreQuestionsRead (documents size) s.relations) (AreTried size s) (Ok (done.Answered text true)))
-        (λ e. ◌≡◌ {A = Result Done Trouble} (Ok (done.Answered text true)) (Err e))
-        → IsTrialSpent size text
-    of_spec (Ok s) read h = of_questions s read h.0 h.2
-    of_spec (Err e) read h = absurd (done_apart (done.Answered text true) e h)
-
 spent_at : (told : List (List ℕ × List ℕ)) (c : CommandSaid) (d : Done) → status_of (Ok d) ≡ 3 → IsTold told c d → IsSpent told c (output_of (Ok d))
-spent_at told (AskFor a) (done.Answered text true) three h = spent_told told a text h
-spent_at told (AskFor a) (done.Answered text false) three h = absurd (omega (arith, three))
-spent_at told (AskFor a) (done.Accepted k) three h = absurd h
-spent_at told (AskFor a) (done.Forced text) three h = absurd h
-spent_at told (VerifyOf v) (done.Accepted k) three h = absurd (omega (arith, three))
-spent_at told (VerifyOf v) (done.Answered text undecided) three h = absurd h
-spent_at told (VerifyOf v) (done.Forced text) three h = absurd h
-spent_at told (ForcedOf name) (done.Forced text) three h = absurd (omega (arith, three))
-spent_at told (ForcedOf name) (done.Accepted k) three h = absurd h
-spent_at told (ForcedOf name) (done.Answered text undecided) three h = absurd h
-spent_at told (TrialOf size) (done.Answered text true) three h = trial_spent size text h
-spent_at told (TrialOf size) (done.Answered text false) three h = absurd (omega (arith, three))
-spent_at told (TrialOf size) (done.Accepted k) three h = absurd h
-spent_at told (TrialOf size) (done.Forced text) three h = absurd h
+spent_at told (AskFor a) d three h = ask.spent_told told a d.text d.ending three h
+spent_at told (VerifyOf v) d three h = absurd (omega (arith, three, ap (λ (x : Done). ending_status x.ending) h.2))
+spent_at told (ForcedOf name) d three h = absurd (omega (arith, three, ap (λ (x : Done). ending_status x.ending) h.2))
+spent_at told (TrialOf size) d three h = trial.spent_told size d.text d.ending three h
 
 spent : (texts : Option (List (List ℕ × List ℕ))) (c : CommandSaid) (d : Done) → status_of (Ok d) ≡ 3 → IfSome texts (λ told. IsTold told c d)
     → IfSome texts (λ told. IsSpent told c (output_of (Ok d)))

@@ -1,13 +1,8 @@
-pub mod Accepted
+pub mod TrialTold
 pub mod Exact
 pub mod ForWords
+pub mod InRange
 pub mod JobsDone
-pub mod NameTexts
 pub mod OneDue
-pub mod PartLines
 pub mod Refusals
 pub mod Replies
-pub mod WholeTexts
-pub mod StageLemmas
-pub mod Trials
-pub mod InRange

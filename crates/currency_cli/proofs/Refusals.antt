@@ -1,16 +1,18 @@
 -- A refusal is due.
-use Rattle.std.proofs.Common.{◌≡◌, ◌≢◌, ◌⊎◌, ℕ, true, false, List, [], Option, Some, None, IfSome, Result, Ok, Err, inl, inr, refl, sym, subst, ◌∙◌, arith}
+use Rattle.std.proofs.Common.{◌≡◌, ◌≢◌, ◌⊎◌, ℕ, List, [], Option, Some, None, IfSome, Result, Ok, Err, inl, inr, refl, sym, subst, ◌∙◌, arith}
 use Rattle.std.proofs.lemmas.List.{append-nil}
 use Rattle.std.specs.Io.KnownBytes.{Appends}
 use Rattle.currency_edge.specs.Sink.{AppendsPrefix}
 use Rattle.currency_cli.specs.Due.{IsDue, IsReadDue}
-use Rattle.currency_cli.specs.Ends.{EndsWith, IsRefusal, RefusalDue, NamesUnread, status_of}
-use Rattle.currency_cli.specs.Named.{IsSettled, IsReadFaultOf}
-use Rattle.currency_cli.specs.Texts.{trouble_status, trouble_text}
-use Rattle.currency_cli.specs.declared.done.Done.{Done}
-use Rattle.currency_cli.specs.declared.done.Done.TheVariants as done
-use Rattle.currency_cli.specs.declared.trouble.Trouble.{Trouble}
-use Rattle.currency_cli.specs.declared.trouble.Trouble.TheVariants as trouble
+use Rattle.currency_cli.specs.Ends.{EndsWith, IsRefusal, RefusalDue, NamesUnread}
+use Rattle.command_stages.specs.Named.{IsSettled, IsReadFaultOf}
+use Rattle.command_stages.specs.Texts.{trouble_status, trouble_text}
+use Rattle.command_stages.specs.declared.done.Done.{Done}
+use Rattle.command_stages.specs.Endings.{ending_status}
+use Rattle.command_stages.specs.declared.done.Ending.{Ending}
+use Rattle.command_stages.specs.declared.done.Ending.TheVariants as ending
+use Rattle.command_stages.specs.declared.trouble.Trouble.{Trouble}
+use Rattle.command_stages.specs.declared.trouble.Trouble.TheVariants as trouble
 
 -- a status that is none of a refusal
 other : (status k : ℕ) → status ≡ k → k ≢ 2 → k ≢ 4 → k ≢ 5 → k ≢ 6 → IsRefusal status → ⊥
@@ -26,14 +28,13 @@ its_own old new wb wn e status (inr (inl h)) refusal = h.0
 its_own old new wb wn e status (inr (inr h)) refusal = absurd (other status 9 h.0 (omega arith) (omega arith) (omega arith) (omega arith) refusal)
 
 -- what is done has another status
-not_done : (d : Done) (status : ℕ) → status ≡ status_of (Ok d) → IsRefusal status → ⊥
-not_done (done.Accepted kind) status is refusal = other status 0 is (omega arith) (omega arith) (omega arith) (omega arith) refusal
-not_done (done.Answered text true) status is refusal = other status 3 is (omega arith) (omega arith) (omega arith) (omega arith) refusal
-not_done (done.Answered text false) status is refusal = other status 0 is (omega arith) (omega arith) (omega arith) (omega arith) refusal
-not_done (done.Forced text) status is refusal = other status 0 is (omega arith) (omega arith) (omega arith) (omega arith) refusal
+not_done : (e : Ending) (status : ℕ) → status ≡ ending_status e → IsRefusal status → ⊥
+not_done ending.Told status is refusal = other status 0 is (omega arith) (omega arith) (omega arith) (omega arith) refusal
+not_done ending.Decided status is refusal = other status 0 is (omega arith) (omega arith) (omega arith) (omega arith) refusal
+not_done ending.Undecided status is refusal = other status 3 is (omega arith) (omega arith) (omega arith) (omega arith) refusal
 
 done_not_refused : (old new : Option (List ℕ)) (wb wn : ℕ) (d : Done) (status : ℕ) → EndsWith old new wb wn (Ok d) status → IsRefusal status → ⊥
-done_not_refused old new wb wn d status (inl h) refusal = not_done d status h.0 refusal
+done_not_refused old new wb wn d status (inl h) refusal = not_done d.ending status h.0 refusal
 done_not_refused old new wb wn d status (inr (inl h)) refusal = other status 8 h.0 (omega arith) (omega arith) (omega arith) (omega arith) refusal
 done_not_refused old new wb wn d status (inr (inr h)) refusal = other status 9 h.0 (omega arith) (omega arith) (omega arith) (omega arith) refusal
 

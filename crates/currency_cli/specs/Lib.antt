@@ -1,9 +1,4 @@
 pub mod Words
-pub mod Named
-pub mod Texts
-pub mod Stages
-pub mod Trial
 pub mod Due
 pub mod Ends
 pub mod Told
-pub mod Alike

@@ -1,30 +1,22 @@
 -- What is told where a command comes to something.
-use Rattle.std.specs.Prelude.{◌≡◌, ℕ, List, Option, Some, IfSome}
-use Rattle.program_words.specs.Words.{CommandSaid, AskFor, VerifyOf, ForcedOf, TrialOf}
-use Rattle.currency_cli.specs.Ends.{IsShownRight, IsAnswerTold, AreForcedTold, IsTrialTold}
+use Rattle.std.specs.Prelude.{◌≡◌, ℕ, List, Option, Some, IfSome, Ok}
+use Rattle.ask_command.specs.Asked.{IsAnswerTold}
+use Rattle.command_stages.specs.declared.done.Done.{Done}
 use Rattle.currency_cli.specs.Words.{command_for}
-use Rattle.currency_cli.specs.declared.done.Done.{Done}
-use Rattle.currency_cli.specs.declared.done.Done.TheVariants.{Accepted, Answered, Forced}
+use Rattle.forced_command.specs.Forced.{AreForcedTold}
+use Rattle.program_words.specs.Words.{CommandSaid, AskFor, VerifyOf, ForcedOf, TrialOf}
+use Rattle.trial_command.specs.Trial.{IsTrialDue}
+use Rattle.verify_command.specs.Shown.{IsVerifyTold}
 
 -- what the told documents show of what a command came to
 abbrev pub IsTold : List (List ℕ × List ℕ) → CommandSaid → Done → Type 0
-IsTold told (VerifyOf v) (Accepted kind) = IsShownRight told v kind
-IsTold told (AskFor a) (Answered text undecided) = IsAnswerTold told a text undecided
-IsTold told (ForcedOf name) (Forced text) = AreForcedTold told name text
-IsTold told (TrialOf size) (Answered text undecided) = IsTrialTold size text undecided
-IsTold told c d = ⊥
-
--- a command comes to such an outcome
-abbrev pub IsOutcomeOf : CommandSaid → Done → Type 0
-IsOutcomeOf (VerifyOf v) (Accepted kind) = Unit {0}
-IsOutcomeOf (AskFor a) (Answered text undecided) = Unit {0}
-IsOutcomeOf (ForcedOf name) (Forced text) = Unit {0}
-IsOutcomeOf (TrialOf size) (Answered text undecided) = Unit {0}
-IsOutcomeOf c d = ⊥
+IsTold told (VerifyOf v) d = IsVerifyTold told v d
+IsTold told (AskFor a) d = IsAnswerTold told a d.text d.ending
+IsTold told (ForcedOf name) d = AreForcedTold told name d
+IsTold told (TrialOf size) d = IsTrialDue size (Ok d)
 
 -- words say a command that came to this
 pub record IsToldFor (texts : Option (List (List ℕ × List ℕ))) (count : ℕ) (words : List (List ℕ)) (d : Done) : Type 0 where
   pub command : CommandSaid
   pub said : command_for count words ≡ Some command
-  pub kind : IsOutcomeOf command d
   pub told : IfSome texts (λ told. IsTold told command d)

@@ -2,23 +2,23 @@ ghost use Rattle.std.specs.Prelude.{◌≡◌, ◌≢◌, ◌⊎◌, ℕ, List, 
 ghost use Rattle.currency_edge.specs.Fault.{Rose};
 ghost use Rattle.program_words.specs.Said.{said_of};
 ghost use Rattle.program_words.specs.Words.{TrialOf};
-ghost use Rattle.currency_cli.specs.Trial.{IsTrialDue};
+ghost use Rattle.trial_command.specs.Trial.{IsTrialDue};
 ghost use Rattle.solver_guides.specs.Rings.{count_of};
-ghost use Rattle.currency_cli.specs.Told.{IsOutcomeOf, IsTold, IsToldFor};
+ghost use Rattle.currency_cli.specs.Told.{IsTold, IsToldFor};
 ghost use Rattle.currency_cli.specs.Due.{IsDueFor, IsDue, IsDocumentDue, IsReadDue};
 ghost use Rattle.currency_cli.specs.Words.{IsInRange, command_for};
-ghost use Rattle.currency_cli.specs.Named.{IsSettled, IsReadFault, IsReadFaultOf};
+ghost use Rattle.command_stages.specs.Named.{IsSettled, IsReadFault, IsReadFaultOf};
 
-use crate::asking::ask_documents;
-use crate::forcing::forced_document;
-use crate::trial::try_generated;
-use crate::verifying::verified;
 use crate::words::command_kept;
-use crate::{Done, Trouble};
+use ask_command::ask_documents;
+use command_stages::{Done, Trouble};
 use currency_edge::Shelf;
+use forced_command::forced_document;
 use program_words::Command;
 use solver_guides::Guides;
 use std::alloc::Global;
+use trial_command::try_generated;
+use verify_command::verified;
 
 // What is due for a command, unless the outside fails or memory runs out.
 fn outcome_of<S: Shelf>(
@@ -30,7 +30,6 @@ fn outcome_of<S: Shelf>(
     requires { IsInRange (said_of command) }
     ensures later { S.faults shelf.old ≤ S.faults shelf.new }
     ensures due { IsSettled result → IfSome (S.texts shelf.old) (λ told. IsDueFor told (said_of command.entry) result) }
-    ensures kind { IfOk result (IsOutcomeOf (said_of command.entry)) }
     ensures told { IfOk result (λ done. IfSome (S.texts shelf.old) (λ told. IsTold told (said_of command.entry) done)) }
     ensures read_fault { IsReadFault result → Rose (S.faults shelf.old) (S.faults shelf.new) }
     ensures unread { (n : List ℕ) → IsReadFaultOf result n

@@ -1,81 +1,38 @@
-ghost use Rattle.std.specs.Prelude.{◌≡◌, ◌≢◌, ◌⊎◌, ℕ, List, IfOk, IfSome, None, Some, Ok, Err, Result, map, string_bytes};
+ghost use Rattle.std.specs.Prelude.{◌≡◌, ◌≢◌, ◌⊎◌, ℕ, List, IfSome, None, Some, Ok, Err, Result, map, string_bytes};
 ghost use Rattle.currency_edge.specs.Fault.{Rose};
 ghost use Rattle.currency_edge.specs.Sink.{AppendsPrefix};
-ghost use Rattle.currency_cli.specs.Stages.{IsSpecRead, IsQuestionRead, IsReportRead};
+ghost use Rattle.command_stages.specs.Stages.{IsSpecRead, IsQuestionRead};
+ghost use Rattle.report_stages.specs.Judged.{IsReportRead};
+ghost use Rattle.told_answers.specs.Answers.{ComesToAnswer};
 ghost use Rattle.currency_cli.specs.Due.{IsDue, IsReadDue};
-ghost use Rattle.currency_cli.specs.Ends.{EndsWith, output_of, status_of, ComesTo, ComesToAnswer, HasStatus, IsRefusal, RefusalDue, IsDone, IsUndecided, NamesUnread};
-ghost use Rattle.currency_cli.specs.Named.{IsSettled, IsReadFault, IsReadFaultOf};
-ghost use Rattle.currency_cli.specs.Texts.{trouble_status};
+ghost use Rattle.currency_cli.specs.Ends.{EndsWith, ComesTo, HasStatus, IsRefusal, RefusalDue, IsDone, IsUndecided, NamesUnread};
+ghost use Rattle.command_stages.specs.Named.{IsSettled, IsReadFault, IsReadFaultOf};
 ghost use Rattle.currency_cli.specs.Words.{command_for};
-ghost use Rattle.currency_cli.specs.declared.done.Done.{Done};
+ghost use Rattle.command_stages.specs.declared.done.Done.{Done};
 ghost use Rattle.program_words.specs.Words.{AskSaid, VerifySaid, AskFor, VerifyOf, ForcedOf, TrialOf};
 ghost use Rattle.currency_report.specs.declared.report.ReadReport.{ReadReport};
-ghost use Rattle.currency_cli.specs.Trial.{IsTrialDue};
+ghost use Rattle.trial_command.specs.Trial.{IsTrialDue};
 ghost use Rattle.solver_guides.specs.Rings.{count_of};
 ghost use Rattle.spec_model.specs.Spec.{Spec};
 ghost use Rattle.spec_model.specs.declared.question.Question.{Question};
-ghost use Rattle.currency_cli.specs.declared.trouble.Trouble.{Trouble};
+ghost use Rattle.command_stages.specs.declared.trouble.Trouble.{Trouble};
 
 use crate::commands::outcome;
-use crate::laws::{one_due, one_read};
-use crate::texts::{accepted_line, text_of};
-use crate::{Done, Trouble};
-use currency_base::{ByteList, NoMemory};
+use crate::laws::one_due;
+use command_stages::{Done, Trouble, one_read, text_of};
 use currency_edge::{Shelf, Sink, SinkFault, put_all};
+use report_stages::one_judgement;
 use solver_guides::Guides;
 use std::alloc::Global;
 
-// The text of what a command came to.
-fn done_text(alloc: Global, done: Done) -> Result<ByteList, NoMemory>
-    ensures { IfOk result (λ text. text ≡ output_of (Ok done)) }
-{
-    match done {
-        Done::Accepted(kind) => accepted_line(alloc, kind),
-        Done::Answered { text, .. } => Ok(text),
-        Done::Forced(text) => Ok(text),
-    }
-}
-
-// The status of what a command came to, whose text is written.
-fn done_status(done: &Done) -> u8
-    ensures { result ≡ status_of (Ok done.now) }
-{
-    match done {
-        Done::Answered {
-            undecided: true,
-            ..
-        } => 3,
-        _ => 0,
-    }
-}
-
 // Writes the text of what a command came to.
-fn hand_out<K: Sink>(alloc: Global, out: &mut K, done: Done) -> u8
-    ensures { EndsWith (K.written out.old) (K.written out.new) (K.faults out.old) (K.faults out.new) (Ok done) result }
+fn hand_out<K: Sink>(alloc: Global, out: &mut K, done: &Done) -> u8
+    ensures { EndsWith (K.written out.old) (K.written out.new) (K.faults out.old) (K.faults out.new) (Ok done.now) result }
 {
-    let status = done_status(&done);
-    let Ok(text) = done_text(alloc, done) else {
-        return 9;
-    };
-    match put_all(alloc, out, text.as_slice()) {
-        Ok(()) => status,
+    match put_all(alloc, out, done.text.as_slice()) {
+        Ok(()) => done.ending.status(),
         Err(SinkFault::Failed) => 8,
         Err(SinkFault::NoMemory) => 9,
-    }
-}
-
-// The status of a refusal whose text is written.
-fn status_of(trouble: &Trouble) -> u8
-    ensures { result ≡ trouble_status trouble.now }
-{
-    match trouble {
-        Trouble::Words => 2,
-        Trouble::Unshown { .. } => 4,
-        Trouble::Refused { .. } => 5,
-        Trouble::CopyDiffers { .. } => 5,
-        Trouble::Limit(_) => 6,
-        Trouble::ReadFault(_) => 7,
-        Trouble::NoMemory => 9,
     }
 }
 
@@ -87,8 +44,8 @@ fn refuse<K: Sink>(alloc: Global, out: &mut K, trouble: &Trouble) -> u8
         return 9;
     };
     match put_all(alloc, out, text.as_slice()) {
-        Ok(()) => status_of(trouble),
-        Err(SinkFault::Failed) => status_of(trouble),
+        Ok(()) => trouble.status(),
+        Err(SinkFault::Failed) => trouble.status(),
         Err(SinkFault::NoMemory) => 9,
     }
 }
@@ -179,12 +136,13 @@ pub fn run<S: Shelf, K: Sink>(
         → NamesUnread (S.texts shelf.old) (count_of guides.old) (map (λ w. string_bytes w) words.now) (K.written out.old) (K.written out.new) }
     ensures write_fault { result ≡ 8 → Rose (K.faults out.old) (K.faults out.new) }
     ensures write_fault_text { result ≡ 8
-        → (done : Done) × AppendsPrefix (K.written out.old) (K.written out.new) (output_of (Ok done)) }
+        → (done : Done) × AppendsPrefix (K.written out.old) (K.written out.new) done.text }
 {
     one_due();
     one_read();
+    one_judgement();
     match outcome(alloc, words, shelf, guides) {
-        Ok(done) => hand_out(alloc, out, done),
+        Ok(done) => hand_out(alloc, out, &done),
         Err(trouble) => refuse(alloc, out, &trouble),
     }
 }

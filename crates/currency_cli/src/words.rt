@@ -3,7 +3,7 @@ ghost use Rattle.program_words.specs.Said.{said_of};
 ghost use Rattle.currency_cli.specs.Words.{IsInRange, command_for, is_guide, with_guides};
 ghost use Rattle.solver_guides.specs.Rings.{count_of};
 
-use crate::Trouble;
+use command_stages::Trouble;
 use program_words::{Command, WordsFault, command_given, numbers_are_in_range};
 use solver_guides::Guides;
 use std::alloc::Global;

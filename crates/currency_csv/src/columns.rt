@@ -16,7 +16,7 @@ use indexmap::IndexMap;
 use std::alloc::Global;
 
 // Where a column's values come from: their place in each record, and their kind.
-#[derive(Clone, Copy, Debug, PartialEq, Eq)]
+#[derive(Clone, Copy, PartialEq, Eq)]
 pub(crate) struct Source {
     pub(crate) place: usize,
     pub(crate) kind: Kind,

@@ -12,6 +12,3 @@ mod tuples;
 
 pub use read::{one_list_of_records, read_table};
 pub use table::{Column, Table, TableFault};
-
-#[cfg(test)]
-mod tests;

@@ -4,7 +4,7 @@ ghost use Rattle.currency_csv.specs.Told.{told};
 use currency_base::{Kind, Name, TupleList};
 
 /// A declared column: the name that the header has for it, and the kind of its values.
-#[derive(Debug, Drop, PartialEq, Eq)]
+#[derive(Drop)]
 pub struct Column {
     pub name: Name,
     pub kind: Kind,
@@ -12,7 +12,7 @@ pub struct Column {
 
 /// What a table holds: one tuple per record below the header, in order, each with its values in the order
 /// of the columns.
-#[derive(Debug, Drop, PartialEq)]
+#[derive(Drop)]
 pub struct Table {
     pub tuples: TupleList,
 }

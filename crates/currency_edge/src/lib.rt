@@ -14,8 +14,6 @@ mod sink;
 mod std_sink;
 mod steady_shelf;
 mod steady_sink;
-#[cfg(test)]
-mod tests;
 
 pub use file_shelf::FileShelf;
 pub use memory_shelf::MemoryShelf;

@@ -2,7 +2,7 @@
 use Rattle.std.proofs.Common.{◌≡◌, ◌∙◌, ◌<◌, ◌^◌, ◌≤◌, ◌+◌, ℕ, List, [], ◌∷◌, length, map, Option, Some, None, Result, Ok, Err, IfOk, IfErr, refl, sym, subst, arith, inl, inr, ◌⊎◌}
 use Rattle.std.proofs.lemmas.List.{length-map}
 use Rattle.currency_base.specs.declared.ids.RowId.{RowId}
-use Rattle.log_checker.specs.Accepted.{HasFewHints, IsNumbered}
+use Rattle.refutation_log.specs.Numbered.{HasFewHints, IsNumbered}
 use Rattle.log_form.specs.Form.{first_fault}
 use Rattle.log_form.specs.declared.form.FormFault.{FormFault}
 use Rattle.log_syntax.proofs.Sizes.{few_hints, is_small}

@@ -11,21 +11,21 @@ use std::alloc::Global;
 use text_grammar::Named;
 
 /// A relation and one of its attributes.
-#[derive(Clone, Copy, Debug)]
+#[derive(Clone, Copy)]
 pub struct AttrIds {
     pub rel: RelId,
     pub attr: AttrId,
 }
 
 /// A relation and one of its entities.
-#[derive(Clone, Copy, Debug)]
+#[derive(Clone, Copy)]
 pub struct EntityIds {
     pub rel: RelId,
     pub ent: EntId,
 }
 
 /// A relation, one of its attributes and one of its entities.
-#[derive(Clone, Copy, Debug)]
+#[derive(Clone, Copy)]
 pub struct PlaceIds {
     pub rel: RelId,
     pub attr: AttrId,

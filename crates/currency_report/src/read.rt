@@ -1,5 +1,5 @@
 ghost use Rattle.std.specs.Prelude.{◌≡◌, ◌<◌, ◌^◌, ◌⊎◌, None, All, IfOk, IfErr, length};
-ghost use Rattle.log_checker.specs.Accepted.{IsNumbered};
+ghost use Rattle.refutation_log.specs.Numbered.{IsNumbered};
 ghost use Rattle.log_form.specs.Form.{first_fault};
 ghost use Rattle.spec_model.specs.Completion.{HasShape};
 ghost use Rattle.currency_report.specs.Lines.{AreLinesOf};

@@ -8,7 +8,7 @@ use text_tokens::TextFault;
 
 /// The lines on which the parts of a report begin: the verdict, its items, the completions and the steps of
 /// the log, in order.
-#[derive(Debug, Drop)]
+#[derive(Drop)]
 pub struct Lines {
     pub verdict: u32,
     pub items: LineList,
@@ -32,7 +32,7 @@ impl Lines {
 }
 
 /// A report as it was read, with the lines of its parts.
-#[derive(Debug, Drop)]
+#[derive(Drop)]
 pub struct ReadReport {
     pub report: Report,
     pub lines: Lines,

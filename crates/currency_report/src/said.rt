@@ -19,7 +19,7 @@ use std::alloc::Global;
 
 /// What a report says beside its log: the verdict with the lines of its items, and the completions with
 /// theirs.
-#[derive(Debug, Drop)]
+#[derive(Drop)]
 pub struct Parts {
     pub verdict: Verdict,
     pub items: LineList,

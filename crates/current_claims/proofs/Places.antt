@@ -9,7 +9,7 @@ use Rattle.spec_model.specs.Completion.{Rankings}
 use Rattle.spec_model.specs.declared.relation.Relation.{Relation}
 use Rattle.report_model.specs.declared.verdict.Current.{Current}
 use Rattle.report_verify.specs.Asked.{IsOfAsked, HasValues, IsItemBefore}
-use Rattle.report_write.specs.Writable.{IsItemOf}
+use Rattle.report_model.specs.Writable.{IsItemOf}
 use Rattle.current_claims.specs.Claims.{AreClaimsOf}
 use Rattle.current_claims.specs.Told.{AddsEntity, AreToldUpTo, HasItem, IsAhead}
 use Rattle.current_claims.specs.declared.claims.Claims.{Claims}

@@ -14,7 +14,7 @@ use Rattle.report_model.specs.declared.verdict.Verdict.TheVariants as verdict
 use Rattle.report_verify.specs.Asked.{AreItemsOf}
 use Rattle.report_verify.specs.Supported.{Claim, Need, needs_of}
 use Rattle.report_verify.specs.Supported.Claim.{HasValue}
-use Rattle.report_write.specs.Writable.{IsItemOf}
+use Rattle.report_model.specs.Writable.{IsItemOf}
 use Rattle.current_claims.specs.declared.claims.Claims.{Claims}
 use Rattle.current_claims.specs.declared.claims.CurrentRow.{CurrentRow}
 

@@ -11,8 +11,8 @@ use Rattle.spec_model.specs.declared.relation.Relation.{Relation}
 use Rattle.report_model.specs.declared.verdict.Current.{Current}
 use Rattle.report_verify.specs.Asked.{IsOfAsked, HasValues, IsItemBefore}
 use Rattle.report_verify.specs.Supported.{item_needs}
-use Rattle.report_write.specs.Writable.{IsItemOf}
-use Rattle.text_write.specs.Written.{IsValue}
+use Rattle.report_model.specs.Writable.{IsItemOf}
+use Rattle.currency_base.specs.Values.{IsValue}
 use Rattle.current_claims.specs.Claims.{AreOfRows}
 use Rattle.current_claims.specs.declared.claims.Claims.{Claims}
 use Rattle.current_claims.specs.declared.claims.CurrentRow.{CurrentRow}

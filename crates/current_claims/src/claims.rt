@@ -2,7 +2,7 @@ ghost use Rattle.std.specs.Prelude.{◌≡◌, ◌+◌, ◌<◌, ◌≤◌, ◌�
 ghost use Rattle.current_tuples.specs.Places.{IsEntityOf};
 ghost use Rattle.spec_model.specs.Completion.{IsCompletion};
 ghost use Rattle.spec_model.specs.declared.relation.Relation.{Relation};
-ghost use Rattle.text_write.specs.Written.{IsValue};
+ghost use Rattle.currency_base.specs.Values.{IsValue};
 ghost use Rattle.current_claims.specs.Claims.{AreClaimsOf};
 ghost use Rattle.current_claims.specs.Told.{AddsEntity, AddsLastOf, AreToldUpTo, AreValuesOf};
 
@@ -13,7 +13,7 @@ use spec_model::{Completion, RelList, Specification};
 use std::alloc::Global;
 
 /// A row of an entity, and an attribute in whose list it stands last.
-#[derive(Clone, Copy, Debug, PartialEq, Eq)]
+#[derive(Clone, Copy, PartialEq, Eq)]
 pub struct CurrentRow {
     pub rel: RelId,
     pub attr: AttrId,
@@ -26,7 +26,7 @@ pub type CurrentRowList = ItemList<CurrentRow>;
 
 /// The current tuples of the entities of asked relations in a completion, in order of relation and entity; and the
 /// rows that have their values, one for each value, attribute by attribute.
-#[derive(Debug, Drop)]
+#[derive(Drop)]
 pub struct Claims {
     pub items: CurrentList,
     pub rows: CurrentRowList,

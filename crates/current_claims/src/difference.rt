@@ -12,7 +12,7 @@ use current_tuples::last;
 use spec_model::{Completion, RelList, Specification};
 
 /// An attribute of an entity.
-#[derive(Clone, Copy, Debug, PartialEq, Eq)]
+#[derive(Clone, Copy, PartialEq, Eq)]
 pub struct CurrentPlace {
     pub rel: RelId,
     pub attr: AttrId,

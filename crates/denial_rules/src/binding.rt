@@ -9,7 +9,7 @@ use std::marker::Model;
 pub const MOST_VARS: usize = 4;
 
 /// One row per variable of a rule. Contracts see it as the list of the rows. Four rows need no memory.
-#[derive(Debug, Drop)]
+#[derive(Drop)]
 pub struct Binding {
     rows: SmallVec<RowId, 4>,
 }

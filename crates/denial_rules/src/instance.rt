@@ -7,7 +7,7 @@ use std::alloc::Global;
 
 /// What a rule says of rows for which its comparisons hold: where each premise holds, the conclusion
 /// does. With no conclusion the premises do not all hold.
-#[derive(Debug, Drop)]
+#[derive(Drop)]
 pub struct RuleInstance {
     pub premises: Premises,
     pub conclusion: Option<Pair>,

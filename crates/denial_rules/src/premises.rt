@@ -10,7 +10,7 @@ pub const MOST_PREDICATES: usize = 16;
 
 /// The pairs that an instance of a rule supposes. Contracts see it as the list of the pairs. Sixteen
 /// pairs need no memory.
-#[derive(Debug, Drop)]
+#[derive(Drop)]
 pub struct Premises {
     pairs: SmallVec<Pair, 16>,
 }

@@ -1,14 +1,14 @@
 use currency_base::{AttrId, Cmp, ItemList, Name, RelId, Value};
 
 /// What is compared: a row's value of an attribute, the row being that of a variable, or a constant.
-#[derive(Debug, Drop, PartialEq)]
+#[derive(Drop)]
 pub enum Operand {
     Field { var: u32, attr: AttrId },
     Constant(Value),
 }
 
 /// That the row of one variable is older than that of another, in an attribute.
-#[derive(Clone, Copy, Debug, PartialEq, Eq)]
+#[derive(Clone, Copy, PartialEq, Eq)]
 pub struct OrderAtom {
     pub earlier: u32,
     pub later: u32,
@@ -16,7 +16,7 @@ pub struct OrderAtom {
 }
 
 /// A condition of a rule.
-#[derive(Debug, Drop, PartialEq)]
+#[derive(Drop)]
 pub enum Predicate {
     Order(OrderAtom),
     Compare {
@@ -30,7 +30,7 @@ pub enum Predicate {
 pub type PredicateList = ItemList<Predicate>;
 
 /// What a rule concludes.
-#[derive(Clone, Copy, Debug, PartialEq, Eq)]
+#[derive(Clone, Copy, PartialEq, Eq)]
 pub enum Conclusion {
     /// What never holds: the conditions do not all hold.
     Never,
@@ -40,7 +40,7 @@ pub enum Conclusion {
 /// A denial constraint on a relation: for all rows of one entity that are taken for its variables, not
 /// necessarily different rows, the conclusion holds where all conditions do. Variables count from 0 and
 /// are below `vars`.
-#[derive(Debug, Drop, PartialEq)]
+#[derive(Drop)]
 pub struct Rule {
     pub name: Name,
     pub relation: RelId,

@@ -11,7 +11,7 @@ use spec_model::Specification;
 use std::alloc::Global;
 
 /// The grounds of a specification.
-#[derive(Debug, Drop)]
+#[derive(Drop)]
 pub struct Grounds {
     /// For each rule the choices of one row per variable, all of one entity, for which it has an instance:
     /// entity by entity, and there by the first variable's row, then by the second's, and so on.

@@ -9,7 +9,7 @@ use std::marker::Model;
 /// The rows of each entity of a relation, ascending, and the place of each row among those of its entity.
 /// Contracts see how many entities there are, and the entity of each row. A row takes twelve bytes, and an
 /// entity four.
-#[derive(Debug, Drop)]
+#[derive(Drop)]
 pub struct EntityLists {
     // by row, its entity
     entities: Vec<u32>,

@@ -1,2 +1,3 @@
-mod Cuts
+pub mod Cuts
+mod Parted
 mod Places

@@ -7,7 +7,7 @@ use std::marker::Model;
 
 /// A list of lists, kept flat: beside its items a list takes four bytes. Together the lists have fewer than
 /// 2^32 items. Contracts see the list of lists.
-#[derive(Debug, Drop)]
+#[derive(Drop)]
 pub struct FlatLists<T> {
     items: Vec<T>,
     // of each list, how many items there are up to its end

@@ -13,7 +13,7 @@ use Rattle.denial_rules.specs.declared.rule.OrderAtom.{OrderAtom}
 use Rattle.denial_rules.specs.declared.rule.Rule.{Rule}
 use Rattle.order_squares.specs.Squares.{Layout, IsSlot}
 use Rattle.order_squares.proofs.Places.{get_cases, get_only, get_old, item_at}
-use Rattle.forced_pairs.specs.Forced.{IsGiven}
+use Rattle.forced_closure.specs.Forced.{IsGiven}
 use Rattle.forced_closure.specs.Clauses.{Subject, AreOfGiven, AreSlots, HasFact, HasSlot, IsCopyClause, IsSaid, Told, with_clause, AreSaid, Adds, OfGrounds, OfRule, OfRules, OfPair, OfPairs, OfPlace, OfPlaces, OfCopy, OfCopies}
 use Rattle.forced_closure.specs.declared.origin.Origin.{Origin}
 use Rattle.forced_closure.specs.declared.origin.Origin.TheVariants as origin

@@ -19,7 +19,7 @@ use Rattle.horn_closure.specs.Least.{Horn, IsLeast, fact, joined, clause}
 use Rattle.order_squares.specs.Squares.{Layout, IsSlot}
 use Rattle.order_squares.proofs.Places.{item_at}
 use Rattle.order_squares.proofs.Slots.{one_slot, IsOnePair, one_pair, joins, parts}
-use Rattle.forced_pairs.specs.Forced.{IsForced, IsInstance, AreCopiedAt, given, transitive, ruled, copied, back}
+use Rattle.forced_closure.specs.Forced.{IsForced, IsInstance, AreCopiedAt, given, transitive, ruled, copied, back}
 use Rattle.forced_closure.specs.Clauses.{Subject, IsSubject, AreFacts, IsRuleClause, IsCopyClause, IsSaid, Told, AreSaid, AreClauses, OfRules, OfCopies, OfPair}
 use Rattle.forced_closure.specs.Derived.{AreCopied}
 use Rattle.forced_closure.specs.declared.origin.Origin.{Origin}

@@ -5,3 +5,5 @@ mod Nothing
 mod Standing
 mod Tables
 mod Whole
+pub mod RowOrders
+pub mod ForcedLaws

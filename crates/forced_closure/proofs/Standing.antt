@@ -27,7 +27,7 @@ use Rattle.spec_model.specs.Satisfies.{IsChoice}
 use Rattle.spec_model.specs.declared.relation.Relation.{Relation}
 use Rattle.order_squares.specs.Squares.{IsSlot, Stand}
 use Rattle.order_squares.proofs.Places.{item_at}
-use Rattle.forced_pairs.specs.Forced.{IsGiven}
+use Rattle.forced_closure.specs.Forced.{IsGiven}
 use Rattle.forced_closure.specs.Clauses.{Subject, IsSubject, AreSlots, IsRuleClause, IsCopyClause, HasPair}
 use Rattle.forced_closure.proofs.Adding.{stands}
 

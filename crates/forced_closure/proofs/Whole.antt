@@ -14,7 +14,7 @@ use Rattle.horn_closure.specs.declared.derived.Why.TheVariants.{Fact, Joined, Cl
 use Rattle.order_squares.specs.Squares.{IsSlot}
 use Rattle.order_squares.proofs.Places.{item_at}
 use Rattle.order_squares.proofs.Slots.{slot_in, one_slot, IsOnePair, one_pair, parts}
-use Rattle.forced_pairs.specs.Forced.{IsForced, IsGiven, IsInstance, HasLoop}
+use Rattle.forced_closure.specs.Forced.{IsForced, IsGiven, IsInstance, HasLoop}
 use Rattle.forced_closure.specs.Clauses.{Subject, IsRuleClause, IsCopyClause, IsSaid, Told}
 use Rattle.forced_closure.specs.Derived.{IsPair, IsAmong, IsJoined, IsRuled, IsCopied, IsCopiedBack, IsDerived, AreForced}
 use Rattle.forced_closure.specs.Kept.{AreTellable, IsTellable, IsThere, IsTold, AreTold, IsWhy, IsWhyOf, IsTable, HasLoopIn, IsClosure}

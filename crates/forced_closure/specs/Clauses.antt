@@ -14,7 +14,7 @@ use Rattle.entity_ground.specs.Grounds.{AreRuleGrounds, AreCopyGrounds}
 use Rattle.order_squares.specs.Squares.{Layout, IsLayout, IsSlot}
 use Rattle.spec_model.specs.Facts.{IsSpecification}
 use Rattle.spec_model.specs.Spec.{Spec}
-use Rattle.forced_pairs.specs.Forced.{IsGiven, IsInstance}
+use Rattle.forced_closure.specs.Forced.{IsGiven, IsInstance}
 use Rattle.forced_closure.specs.Derived.{AreCopied}
 use Rattle.forced_closure.specs.declared.origin.Origin.{Origin}
 use Rattle.forced_closure.specs.declared.origin.Origin.TheVariants as origin

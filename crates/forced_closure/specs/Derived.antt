@@ -8,7 +8,7 @@ use Rattle.denial_rules.specs.declared.instance.RuleInstance.{RuleInstance}
 use Rattle.denial_rules.specs.declared.rule.OrderAtom.{OrderAtom}
 use Rattle.denial_rules.specs.declared.rule.Rule.{Rule}
 use Rattle.spec_model.specs.Spec.{Spec}
-use Rattle.forced_pairs.specs.Forced.{IsForced, IsGiven, IsInstance, AreCopiedAt}
+use Rattle.forced_closure.specs.Forced.{IsForced, IsGiven, IsInstance, AreCopiedAt}
 use Rattle.forced_closure.specs.declared.forced.Forced.{Forced}
 use Rattle.forced_closure.specs.declared.forced.Why.{Why}
 use Rattle.forced_closure.specs.declared.forced.Why.TheVariants as why

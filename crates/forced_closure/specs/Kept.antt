@@ -6,7 +6,7 @@ use Rattle.horn_closure.specs.declared.derived.Derived.{Derived}
 use Rattle.horn_closure.specs.declared.derived.Why.{Why}
 use Rattle.horn_closure.specs.declared.derived.Why.TheVariants as cell
 use Rattle.order_squares.specs.Squares.{Layout, IsSlot}
-use Rattle.forced_pairs.specs.Forced.{IsForced, HasLoop}
+use Rattle.forced_closure.specs.Forced.{IsForced, HasLoop}
 use Rattle.forced_closure.specs.Clauses.{Subject}
 use Rattle.forced_closure.specs.Derived.{Closed, AreForced}
 use Rattle.forced_closure.specs.declared.forced.Forced.{Forced}

@@ -1,7 +1,7 @@
 ghost use Rattle.std.specs.Prelude.{◌≡◌, ◌<◌, ◌↔◌, List, None, Some, IfOk, length, slice_get, true};
 ghost use Rattle.spec_limits.specs.Limits.{exceeded, too_many_variables};
 ghost use Rattle.spec_model.specs.declared.relation.Relation.{Relation};
-ghost use Rattle.forced_pairs.specs.Forced.{IsForced, HasLoop};
+ghost use Rattle.forced_closure.specs.Forced.{IsForced, HasLoop};
 ghost use Rattle.forced_closure.specs.Clauses.{AreClauses, AreFacts};
 
 use crate::Forced;

@@ -2,7 +2,7 @@ use currency_base::{CopyId, Pair, RelId, RowId, RuleId};
 use denial_rules::Binding;
 
 /// A forced pair of a relation, and how it was derived.
-#[derive(Debug, Drop)]
+#[derive(Drop)]
 pub struct Forced {
     pub rel: RelId,
     pub pair: Pair,
@@ -10,7 +10,7 @@ pub struct Forced {
 }
 
 /// How a forced pair was derived. What it is derived from stands at smaller places.
-#[derive(Debug, Drop)]
+#[derive(Drop)]
 pub enum Why {
     /// It is a given pair.
     Given,

@@ -1,6 +1,6 @@
 ghost use Rattle.std.specs.Prelude.{◌<◌, IfOk, OnOk, length, Contains, ◌≡◌, Some, slice_get};
 ghost use Rattle.currency_base.specs.declared.pair.Pair as pairs;
-ghost use Rattle.forced_pairs.specs.Forced.{IsGiven};
+ghost use Rattle.forced_closure.specs.Forced.{IsGiven};
 ghost use Rattle.forced_closure.specs.Clauses.{AreFacts, AreOfGiven, Grows, HasFact};
 
 use crate::subject::Subject;

@@ -1,5 +1,5 @@
 //! The forced pairs of a specification: exactly those that given pairs, transitivity, rules and copy functions
-//! force.
+//! force; and the laws that each of them holds in every consistent completion and that a loop of them leaves none.
 #![tactic(auto)]
 
 mod closure;
@@ -7,6 +7,7 @@ mod copied;
 mod forced;
 mod gathered;
 mod given;
+mod laws;
 mod origin;
 mod ruled;
 mod subject;
@@ -15,3 +16,4 @@ mod telling;
 
 pub use closure::{Closure, close};
 pub use forced::{Forced, Why};
+pub use laws::{forced_pairs_hold, loops_rule_out};

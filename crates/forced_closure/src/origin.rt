@@ -1,7 +1,7 @@
 use currency_base::{CopyId, RowId, RuleId};
 
 /// What a clause was made of.
-#[derive(Clone, Copy, Debug)]
+#[derive(Clone, Copy)]
 pub(crate) enum Origin {
     /// This ground of the rule, by its place among the rule's grounds.
     Rule {

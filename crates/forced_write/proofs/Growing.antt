@@ -12,7 +12,7 @@ use Rattle.spec_model.specs.Facts.{IsSpecification}
 use Rattle.spec_model.specs.Spec.{Spec}
 use Rattle.spec_model.specs.declared.question.Asked.{Asked}
 use Rattle.spec_model.specs.declared.relation.Relation.{Relation}
-use Rattle.report_write.specs.Writable.{IsPairOf}
+use Rattle.report_model.specs.Writable.{IsPairOf}
 use Rattle.forced_write.specs.ForcedText.{pair_cmp}
 use Rattle.forced_write.specs.Listing.{IsForcedPair, Precedes, IsSeen, AreListed, AreForcedPairs, IsColumn}
 use Rattle.forced_write.specs.Listing.Precedes.{by_rel, by_attr, by_earlier, by_later}

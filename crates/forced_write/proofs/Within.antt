@@ -18,8 +18,8 @@ use Rattle.partial_orders.specs.Pairs.{entity_of}
 use Rattle.spec_model.specs.Facts.{IsSpecification, IsRelation, IsGivenPair, IsRuleOf, IsCopyAmong, IsPlaceBetween, kinds_of}
 use Rattle.spec_model.specs.Spec.{Spec}
 use Rattle.spec_model.specs.declared.relation.Relation.{Relation}
-use Rattle.forced_pairs.proofs.Standing.{all_at}
-use Rattle.forced_pairs.specs.Forced.{IsGiven, IsInstance, AreCopiedAt, IsForced, given, transitive, ruled, copied, back}
+use Rattle.forced_closure.proofs.RowOrders.{all_at}
+use Rattle.forced_closure.specs.Forced.{IsGiven, IsInstance, AreCopiedAt, IsForced, given, transitive, ruled, copied, back}
 
 -- an attribute of a relation, and two rows of one entity
 pub record IsWithin (s : Spec) (rel attr : ℕ) (earlier later : RowId) : Type 0 where

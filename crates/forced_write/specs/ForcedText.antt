@@ -11,7 +11,7 @@ use Rattle.spec_model.specs.declared.relation.Relation.{Relation}
 use Rattle.log_write.specs.Pieces.{word, symbol, many_pieces}
 use Rattle.text_write.specs.Pieces.{Piece, text_of}
 use Rattle.report_write.specs.Pieces.{attribute_pieces, row_pieces}
-use Rattle.forced_pairs.specs.Forced.{IsForced, HasLoop}
+use Rattle.forced_closure.specs.Forced.{IsForced, HasLoop}
 
 -- pair = "pair" REL "." ATTR ":" ROW "<" ROW ";"
 abbrev pub pair_pieces : List Relation → Asked → List Piece

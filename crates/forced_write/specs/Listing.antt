@@ -7,7 +7,7 @@ use Rattle.spec_model.specs.Facts.{IsSpecification}
 use Rattle.spec_model.specs.Spec.{Spec}
 use Rattle.spec_model.specs.declared.question.Asked.{Asked}
 use Rattle.spec_model.specs.declared.relation.Relation.{Relation}
-use Rattle.forced_pairs.specs.Forced.{IsForced}
+use Rattle.forced_closure.specs.Forced.{IsForced}
 use Rattle.forced_write.specs.ForcedText.{pair_cmp}
 
 -- a pair is forced

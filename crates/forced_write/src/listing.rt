@@ -2,7 +2,7 @@ ghost use Rattle.std.specs.Prelude.{◌≡◌, ◌<◌, ◌+◌, ◌++◌, ◌�
 ghost use Rattle.currency_base.specs.declared.ids.RowId.{RowId};
 ghost use Rattle.spec_model.specs.Facts.{IsRelation, IsSpecification};
 ghost use Rattle.spec_model.specs.declared.relation.Relation.{Relation};
-ghost use Rattle.report_write.specs.Writable.{IsPairOf};
+ghost use Rattle.report_model.specs.Writable.{IsPairOf};
 ghost use Rattle.forced_write.specs.Listing.{AreForcedPairs, AreListed, IsColumn};
 
 use currency_base::{AttrId, NoMemory, Pair, RelId, RowId};

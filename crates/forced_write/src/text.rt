@@ -1,6 +1,6 @@
 ghost use Rattle.std.specs.Prelude.{◌≡◌, [], All, OnOk, codes, if◌then◌else◌};
 ghost use Rattle.log_write.specs.Pieces.{many_pieces, word};
-ghost use Rattle.report_write.specs.Writable.{IsPairOf};
+ghost use Rattle.report_model.specs.Writable.{IsPairOf};
 ghost use Rattle.text_write.specs.Spacing.{writes_all};
 ghost use Rattle.forced_write.specs.ForcedText.{forced_pieces, pair_pieces};
 

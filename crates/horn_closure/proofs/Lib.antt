@@ -5,6 +5,5 @@ mod JoinFacts
 mod KnownFacts
 mod LeastFacts
 mod LookFacts
-mod Parted
 mod SmallHorns
 mod UseFacts

@@ -1,12 +1,12 @@
 /// A cell, and how it was derived.
-#[derive(Clone, Copy, Debug, PartialEq, Eq)]
+#[derive(Clone, Copy, PartialEq, Eq)]
 pub struct Derived {
     pub slot: u32,
     pub why: Why,
 }
 
 /// How a cell was derived. What it is derived from stands at smaller places.
-#[derive(Clone, Copy, Debug, PartialEq, Eq)]
+#[derive(Clone, Copy, PartialEq, Eq)]
 pub enum Why {
     /// It is given.
     Fact,

@@ -1,9 +1,9 @@
-ghost use Rattle.std.specs.Prelude.{◌≡◌, ◌<◌, ◌≤◌, ◌+◌, ◌*◌, ◌^◌, length, slice_index, IfOk};
-ghost use Rattle.std.specs.List.Sorted.{IsNonDecreasing};
+ghost use Rattle.std.specs.Prelude.{◌≡◌, ◌<◌, ◌≤◌, ◌+◌, ◌*◌, ◌^◌, IfOk};
 ghost use Rattle.horn_closure.specs.Least.{cells_of};
 ghost use Rattle.horn_closure.specs.Steps.{AreBases, IsCellAt, IsPlaced, slot_of};
 
 use currency_base::NoMemory;
+use flat_lists::last_up_to;
 use std::alloc::Global;
 
 /// A cell: how many cells there are before its square, how many rows the square has, and the cell's row and column.
@@ -64,16 +64,4 @@ pub fn slot_in(cell: Cell, row: u32, column: u32) -> u32
     ensures within { result < cell.base + cell.size * cell.size }
 {
     cell.base + (row * cell.size + column)
-}
-
-// The last place with a number up to this one, among numbers that do not fall.
-fn last_up_to(starts: &[u32], number: u32) -> usize
-    requires ascend { IsNonDecreasing starts.now }
-    requires some { 0 < length starts.now }
-    requires first { slice_index starts.now 0 ≤ number }
-    ensures within { result < length starts.now }
-    ensures up_to { slice_index starts.now result ≤ number }
-    ensures last { result + 1 < length starts.now → number < slice_index starts.now (result + 1) }
-{
-    starts.partition_point(|start| *start <= number) - 1
 }

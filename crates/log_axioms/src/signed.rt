@@ -5,7 +5,7 @@ use currency_base::{AttrId, ItemList, RelId, RowId};
 use refutation_log::Statement;
 
 /// A statement, or its negation.
-#[derive(Clone, Copy, Debug, PartialEq, Eq)]
+#[derive(Clone, Copy, PartialEq, Eq)]
 pub struct Signed {
     pub statement: Statement,
     pub negative: bool,

@@ -10,7 +10,8 @@ use Rattle.refutation_log.specs.Steps.{clause_of, clauses_of}
 use Rattle.refutation_log.specs.declared.statement.Statement.{Statement}
 use Rattle.refutation_log.specs.declared.step.Step.{Step}
 use Rattle.log_axioms.specs.Posed.{Posed}
-use Rattle.log_checker.specs.Accepted.{AreAccepted, IsAcceptedStep, FailsFirst, FailsAt, IsNumbered, HasFewHints}
+use Rattle.log_checker.specs.Accepted.{AreAccepted, IsAcceptedStep, FailsFirst, FailsAt}
+use Rattle.refutation_log.specs.Numbered.{IsNumbered, HasFewHints}
 use Rattle.log_checker.specs.Shown.{Shown, is_empty, is_unit, shows_unit, IsShownBy, ShowsMore}
 use Rattle.log_checker.specs.declared.fault.LogFault.{LogFault}
 

@@ -9,7 +9,7 @@ use Rattle.refutation_log.specs.Steps.{clause_of}
 use Rattle.refutation_log.specs.declared.statement.Statement.{Statement}
 use Rattle.refutation_log.specs.declared.step.Step.{Step}
 use Rattle.refutation_log.specs.declared.step.Step.TheVariants.{Axiom, OnDemand, Learn}
-use Rattle.log_checker.specs.Accepted.{IsNumbered, HasFewHints}
+use Rattle.refutation_log.specs.Numbered.{IsNumbered, HasFewHints}
 use Rattle.log_checker.specs.Numbered.{are_within, is_numbered_step, is_numbered}
 
 pub left_more : {A : Type 0} (xs : List A) (i : ℕ) (x : A) → slice_get xs i ≡ Some x → drop i xs ≡ x ∷ drop (i + 1) xs

@@ -1,9 +1,8 @@
 -- Accepted logs, and what fails first in one that is not.
-use Rattle.std.specs.Prelude.{◌≡◌, ◌⊎◌, ◌<◌, ◌^◌, ℕ, true, false, List, length, take, All, Option, Some, slice_get}
+use Rattle.std.specs.Prelude.{◌≡◌, ◌⊎◌, ℕ, true, false, List, length, take, Option, Some, slice_get}
 use Rattle.currency_base.specs.declared.lit.Lit.{Lit}
 use Rattle.query_model.specs.declared.query.Query.{Query}
 use Rattle.spec_model.specs.Spec.{Spec}
-use Rattle.refutation_log.specs.Counted.{AreWithin}
 use Rattle.refutation_log.specs.Follows.{FollowsFrom, IsUnknownHint, IsNoUnit, ComesToNoConflict}
 use Rattle.refutation_log.specs.Steps.{clauses_of}
 use Rattle.refutation_log.specs.declared.log.Log.{Log}
@@ -64,18 +63,3 @@ pub record FailsFirst (s : Spec) (posed : Posed) (statements : List Statement) (
 -- what fails first in a log
 abbrev pub IsFirstFault : Spec → Option Query → Log → LogFault → Type 0
 IsFirstFault s query log fault = FailsFirst s (posed_by query log) log.statements log.steps fault
-
--- ---- what a check asks for
-
--- a step has fewer hints than 2^32
-abbrev pub HasFewHints : Step → Type 0
-HasFewHints (Axiom label lits) = Unit {0}
-HasFewHints (OnDemand label lits) = Unit {0}
-HasFewHints (Learn lits hints counted) = length hints < 2 ^ 32
-
--- the literals are of the log's statements, and there are no more steps, statements and hints than numbers for them
-pub record IsNumbered (statements : List Statement) (steps : List Step) : Type 0 where
-  pub within : AreWithin (length statements) steps
-  pub few_statements : length statements < 2 ^ 32
-  pub few_steps : length steps < 2 ^ 32
-  pub few_hints : All HasFewHints steps

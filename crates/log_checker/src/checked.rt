@@ -8,7 +8,7 @@ use std::alloc::Global;
 use std::marker::Model;
 
 /// What an accepted log shows: the literals whose units it has, and whether it has the empty clause.
-#[derive(Debug, Drop)]
+#[derive(Drop)]
 pub struct Checked {
     // whether a unit is there, by the index of its literal
     units: Vec<bool>,

@@ -1,6 +1,7 @@
 ghost use Rattle.std.specs.Prelude.{◌≡◌, ◌⊎◌, ◌*◌, false, length, option_map, replicate, IfOk, IfErr};
 ghost use Rattle.refutation_log.specs.Steps.{clauses_of};
-ghost use Rattle.log_checker.specs.Accepted.{AreAccepted, FailsFirst, IsAccepted, IsFirstFault, IsNumbered};
+ghost use Rattle.log_checker.specs.Accepted.{AreAccepted, FailsFirst, IsAccepted, IsFirstFault};
+ghost use Rattle.refutation_log.specs.Numbered.{IsNumbered};
 ghost use Rattle.log_checker.specs.Shown.{IsShownBy};
 ghost use Rattle.log_checker.specs.declared.fault.LogFault.TheVariants as fault;
 

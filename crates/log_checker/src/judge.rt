@@ -2,7 +2,8 @@ ghost use Rattle.std.specs.Prelude.{◌≡◌, ◌⊎◌, ◌<◌, ◌^◌, ◌�
 ghost use Rattle.refutation_log.specs.Steps.{label_of, step_of, clause_of};
 ghost use Rattle.refutation_log.specs.Follows.{FollowsFrom};
 ghost use Rattle.log_axioms.specs.Axioms.{is_axiom};
-ghost use Rattle.log_checker.specs.Accepted.{IsAcceptedStep, FailsAt, FailsAsAxiom, FailsToFollow, HasFewHints};
+ghost use Rattle.log_checker.specs.Accepted.{IsAcceptedStep, FailsAt, FailsAsAxiom, FailsToFollow};
+ghost use Rattle.refutation_log.specs.Numbered.{HasFewHints};
 ghost use Rattle.log_checker.specs.declared.fault.LogFault.TheVariants as fault;
 
 use crate::LogFault;

@@ -1,6 +1,6 @@
 ghost use Rattle.std.specs.Prelude.{◌≡◌, true};
 ghost use Rattle.refutation_log.specs.Steps.{step_of};
-ghost use Rattle.log_checker.specs.Accepted.{IsNumbered};
+ghost use Rattle.refutation_log.specs.Numbered.{IsNumbered};
 ghost use Rattle.log_checker.specs.Numbered.{are_within, is_numbered_step, is_numbered};
 
 use currency_base::Lit;

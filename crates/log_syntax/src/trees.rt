@@ -5,7 +5,7 @@ use refutation_log::{Log, StatementList, Step, Steps};
 pub type LineList = ItemList<u32>;
 
 /// A log as it was read: the log, and the lines on which its statements and its steps begin, in order.
-#[derive(Debug, Drop)]
+#[derive(Drop)]
 pub struct ReadLog {
     pub log: Log,
     pub statements: LineList,
@@ -13,7 +13,7 @@ pub struct ReadLog {
 }
 
 /// A statement as it is written: an answer has its tuple.
-#[derive(Debug, Drop, PartialEq)]
+#[derive(Drop)]
 pub enum StatementTree {
     /// `before N N N N`
     Before {
@@ -41,14 +41,14 @@ pub enum StatementTree {
 }
 
 /// A statement, and the line of the word `statement` before it.
-#[derive(Debug, Drop)]
+#[derive(Drop)]
 pub struct StatementOnLine {
     pub line: u32,
     pub statement: StatementTree,
 }
 
 /// A step, and the line of its first word.
-#[derive(Debug, Drop)]
+#[derive(Drop)]
 pub struct StepOnLine {
     pub line: u32,
     pub step: Step,
@@ -56,7 +56,7 @@ pub struct StepOnLine {
 
 /// The statements that were read: the answers' tuples, the statements, which name them by their places, and
 /// the statements' lines.
-#[derive(Debug, Drop)]
+#[derive(Drop)]
 pub struct Said {
     pub answers: TupleList,
     pub statements: StatementList,
@@ -64,14 +64,14 @@ pub struct Said {
 }
 
 /// The steps that were read, and their lines.
-#[derive(Debug, Drop)]
+#[derive(Drop)]
 pub struct SaidSteps {
     pub steps: Steps,
     pub lines: LineList,
 }
 
 /// The numbers of a relation, of an attribute of it and of a row.
-#[derive(Clone, Copy, Debug)]
+#[derive(Clone, Copy)]
 pub struct Cell {
     pub rel: RelId,
     pub attr: AttrId,

@@ -9,7 +9,7 @@ use refutation_log::{HintList, Log};
 use std::alloc::Global;
 
 /// What goals need of a log, and their places in it.
-#[derive(Debug, Drop)]
+#[derive(Drop)]
 pub struct Trimmed {
     pub log: Log,
     pub goals: HintList,

@@ -7,7 +7,7 @@ use refutation_log::Statement;
 use spec_model::Relation;
 
 /// That one row of a relation stands before another in an attribute.
-#[derive(Clone, Copy, Debug, PartialEq, Eq, PartialOrd, Ord)]
+#[derive(Clone, Copy, PartialEq, Eq, PartialOrd, Ord)]
 pub(crate) struct SaidPair {
     pub rel: RelId,
     pub attr: AttrId,
@@ -16,7 +16,7 @@ pub(crate) struct SaidPair {
 }
 
 /// An attribute and an entity of a relation.
-#[derive(Clone, Copy, Debug, PartialEq, Eq, PartialOrd, Ord)]
+#[derive(Clone, Copy, PartialEq, Eq, PartialOrd, Ord)]
 pub(crate) struct Place {
     pub rel: RelId,
     pub attr: AttrId,
@@ -24,7 +24,7 @@ pub(crate) struct Place {
 }
 
 /// That a row's value is the current one at a place.
-#[derive(Clone, Copy, Debug, PartialEq, Eq)]
+#[derive(Clone, Copy, PartialEq, Eq)]
 pub(crate) struct SaidRow {
     pub place: Place,
     pub row: RowId,

@@ -18,7 +18,7 @@ use Rattle.log_syntax.specs.declared.trees.StatementTree.{StatementTree}
 use Rattle.log_syntax.specs.Grammar.{SpellsEndedStatement, SpellsLog, SpellsStatements, UpTo, answers_of, empty_log, no_log, statements_of}
 use Rattle.log_syntax.specs.Reads.{SpellsLogOrNothing}
 use Rattle.log_write.specs.Pieces.{clause_pieces, ended_statement_pieces, is_empty, log_pieces, many_pieces}
-use Rattle.log_write.specs.Writable.{AreAnswered, IsWritable}
+use Rattle.refutation_log.specs.Writable.{AreAnswered, IsWritable}
 use Rattle.log_write.proofs.Rules.{EndedStatement, Parts, StepsSomewhere, semicolon, statement_on, text_statements, text_steps, tree_of}
 use Rattle.log_write.proofs.Texts.{AreSpelled, IsText, many_on_lines, text_nothing, text_then, text_wider, text_word}
 

@@ -12,13 +12,13 @@ use Rattle.currency_base.specs.declared.value.Value.{Value}
 use Rattle.currency_base.specs.declared.value.Value.TheVariants as value
 use Rattle.text_write.specs.Pieces.{Piece, piece_of}
 use Rattle.text_write.specs.Spelling.{value_piece}
-use Rattle.text_write.specs.Written.{IsValue}
+use Rattle.currency_base.specs.Values.{IsValue}
 use Rattle.text_write.proofs.Numbers.{int_of_negative, int_of_positive}
 use Rattle.text_write.proofs.Readings.{value_is_whole, value_read}
 use Rattle.log_syntax.specs.Grammar.{SpellsConstant, SpellsLit, SpellsNumber}
 use Rattle.log_syntax.specs.Numbers.{constant_in, lit_in, lit_of, place_in, place_of}
 use Rattle.log_write.specs.Pieces.{lit_pieces, number_pieces}
-use Rattle.log_write.specs.Writable.{IsLit, IsPlace}
+use Rattle.refutation_log.specs.Writable.{IsLit, IsPlace}
 use Rattle.log_write.proofs.Texts.{IsText, text_says}
 
 -- ---- constants

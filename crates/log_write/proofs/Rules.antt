@@ -18,14 +18,14 @@ use Rattle.refutation_log.specs.declared.step.Label.{Label}
 use Rattle.refutation_log.specs.declared.step.Label.TheVariants as label
 use Rattle.refutation_log.specs.declared.step.Step.{Step}
 use Rattle.refutation_log.specs.declared.step.Step.TheVariants.{Axiom, OnDemand, Learn}
-use Rattle.text_write.specs.Written.{IsValue}
+use Rattle.currency_base.specs.Values.{IsValue}
 use Rattle.log_syntax.specs.declared.trees.StatementOnLine.{StatementOnLine}
 use Rattle.log_syntax.specs.declared.trees.StatementTree.{StatementTree}
 use Rattle.log_syntax.specs.declared.trees.StepOnLine.{StepOnLine}
 use Rattle.log_syntax.specs.declared.trees.StatementTree.TheVariants.{Before, Top, Last, Answer}
 use Rattle.log_syntax.specs.Grammar.{SpellsCell, SpellsConstants, SpellsEndedStatement, SpellsEndedStep, SpellsEntities, SpellsFurther, SpellsHints, SpellsLabel, SpellsLit, SpellsLits, SpellsNumber, SpellsRows, SpellsStatement, SpellsStep, SpellsSteps, SpellsValues, UpTo}
 use Rattle.log_write.specs.Pieces.{cell_pieces, constants_pieces, ended_statement_pieces, ended_step_pieces, entity_pieces, further_pieces, label_pieces, lit_pieces, many_pieces, number_pieces, row_pieces, statement_pieces, step_pieces, symbol, values_pieces}
-use Rattle.log_write.specs.Writable.{AreFew, IsLit, IsPlace, IsWritableLabel, IsWritableStatement, IsWritableStep}
+use Rattle.refutation_log.specs.Writable.{AreFew, IsLit, IsPlace, IsWritableLabel, IsWritableStatement, IsWritableStep}
 use Rattle.log_write.proofs.Numbers.{text_constant, text_lit, text_number}
 use Rattle.log_write.proofs.Texts.{AreSpelled, IsText, OnSomeLine, many_on_lines, text_few, text_many, text_nothing, text_on_line, text_symbol, text_then, text_wider, text_word, text_word_on}
 

@@ -14,7 +14,7 @@ use Rattle.text_write.specs.Pieces.{Piece, piece_of, symbol_piece, word_piece}
 use Rattle.text_write.specs.Written.{IsPiece, symbols}
 use Rattle.log_syntax.specs.Grammar.{IsWordOn, UpTo}
 use Rattle.log_write.specs.Pieces.{many_pieces, symbol, word}
-use Rattle.log_write.specs.Writable.{AreFew}
+use Rattle.refutation_log.specs.Writable.{AreFew}
 
 -- these pieces are whole tokens, and tokens that have just these pieces belong to the language
 pub record IsText (L : List Lexeme → Type 0) (ps : List Piece) : Type 0 where

@@ -3,7 +3,7 @@ ghost use Rattle.text_grammar.specs.Texts.{ReadsText};
 ghost use Rattle.text_write.specs.Pieces.{text_of};
 ghost use Rattle.log_syntax.specs.Reads.{SpellsLogOrNothing};
 ghost use Rattle.log_write.specs.Pieces.{log_pieces};
-ghost use Rattle.log_write.specs.Writable.{IsWritable};
+ghost use Rattle.refutation_log.specs.Writable.{IsWritable};
 
 use currency_base::laws_of_literals;
 

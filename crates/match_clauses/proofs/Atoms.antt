@@ -23,7 +23,7 @@ use Rattle.spec_model.specs.Current.{IsCurrentTuple, current_value}
 use Rattle.spec_model.specs.Facts.{AreRelations}
 use Rattle.spec_model.specs.declared.relation.Relation.{Relation}
 use Rattle.axiom_agreement.proofs.Agreeing.{AllAgree, all_agree_both}
-use Rattle.literal_laws.proofs.Items.{IsIn, in_either}
+use Rattle.order_literals.proofs.Items.{IsIn, in_either}
 use Rattle.order_literals.specs.Said.{Said}
 use Rattle.match_clauses.specs.Claimed.{atom_said, atoms_said, not_current, term_said, terms_said}
 use Rattle.match_clauses.proofs.Places.{IsDenied, claimed, place_is}

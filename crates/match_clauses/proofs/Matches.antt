@@ -32,8 +32,8 @@ use Rattle.spec_model.specs.Spec.{Spec}
 use Rattle.spec_model.specs.declared.relation.Relation.{Relation}
 use Rattle.axiom_agreement.proofs.Agreeing.{Agrees, agrees_if, lits_are_clause}
 use Rattle.axiom_agreement.proofs.Tests.{itself}
-use Rattle.literal_laws.proofs.Items.{IsIn, in_contained}
-use Rattle.literal_laws.proofs.Saying.{negation_says, says_within}
+use Rattle.order_literals.proofs.Items.{IsIn, in_contained}
+use Rattle.order_literals.proofs.Sayings.{negation_says, says_within}
 use Rattle.order_clauses.specs.Added.{IsAddedTo}
 use Rattle.order_clauses.specs.Clauses.{AreLits, IsSaidByOne, SaysOneOf}
 use Rattle.order_clauses.proofs.Reading.{all_at}

@@ -22,7 +22,7 @@ use Rattle.spec_model.specs.declared.relation.Relation.{Relation}
 use Rattle.log_axioms.specs.Axioms as judged
 use Rattle.axiom_agreement.proofs.Agreeing.{Agrees}
 use Rattle.axiom_agreement.proofs.Sayings.{last_agrees}
-use Rattle.literal_laws.proofs.Items.{in_at, place_of}
+use Rattle.order_literals.proofs.Items.{in_at, place_of}
 use Rattle.order_clauses.proofs.Reading.{all_at}
 use Rattle.order_literals.specs.Said.{Said, not_last}
 use Rattle.order_literals.specs.Truth.{IsCurrent}

@@ -14,7 +14,7 @@ use Rattle.spec_model.specs.Spec.{Spec}
 use Rattle.spec_model.specs.declared.relation.Relation.{Relation}
 use Rattle.log_axioms.specs.Truth.{rows_in}
 use Rattle.order_clauses.proofs.Reading.{all_at}
-use Rattle.literal_laws.proofs.Saying.{negation_says}
+use Rattle.order_literals.proofs.Sayings.{negation_says}
 use Rattle.order_literals.proofs.Callers.{row_of, name_is, own_name}
 use Rattle.order_literals.specs.Numbers.{IsRowOf, Numbered, Numbers, is_wanted, numbers_of}
 use Rattle.order_literals.specs.Said.{Says, last, not_last}

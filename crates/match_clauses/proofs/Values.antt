@@ -22,7 +22,7 @@ use Rattle.query_model.specs.declared.query.Term.TheVariants as term
 use Rattle.query_model.specs.declared.query.Test.{Test}
 use Rattle.match_premises.specs.Premises.{comparisons_are, fits, tuple_from, with_value}
 use Rattle.log_axioms.specs.Matches.{first_place, is_tuple}
-use Rattle.literal_laws.proofs.Items.{IsIn, contained}
+use Rattle.order_literals.proofs.Items.{IsIn, contained}
 use Rattle.axiom_agreement.proofs.Agreeing.{all_pass}
 
 -- ---- values

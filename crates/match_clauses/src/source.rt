@@ -8,8 +8,7 @@ ghost use Rattle.match_clauses.specs.Clauses.{IsSource};
 
 use currency_base::{AttrId, EntId, Lit, RelId};
 use current_tuples::last_row;
-use literal_laws::one_literal;
-use order_literals::{Numbering, Wanted};
+use order_literals::{Numbering, Wanted, one_literal};
 use spec_model::{Completion, Specification};
 
 /// A specification, the numbers of its statements, and a completion of it.

@@ -26,7 +26,7 @@ impl Model for NameIndex {
 }
 
 /// Where a name stands, and whether it was added just now.
-#[derive(Clone, Copy, Debug, PartialEq, Eq)]
+#[derive(Clone, Copy, PartialEq, Eq)]
 pub struct Added {
     pub place: usize,
     pub is_new: bool,

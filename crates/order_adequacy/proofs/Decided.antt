@@ -14,7 +14,7 @@ use Rattle.currency_base.specs.declared.ids.RowId.{RowId}
 use Rattle.currency_base.specs.declared.value.Cmp.TheVariants.{Eq}
 use Rattle.currency_base.specs.declared.value.Value.{Value}
 use Rattle.currency_base.specs.declared.value.Value.TheVariants.{Int, Text}
-use Rattle.literal_laws.proofs.Rows.{row_is}
+use Rattle.order_literals.proofs.RowLaws.{row_is}
 use Rattle.spec_model.specs.Completion.{Before}
 use Rattle.order_adequacy.proofs.Rows.{one_number}
 

@@ -1,7 +1,7 @@
 -- Members of lists.
 use Rattle.std.proofs.Common.{◌≡◌, ◌⊎◌, ◌∙◌, ℕ, zero, suc, Bool, true, List, [], ◌∷◌, Contains, Some, map, filter, slice_get, refl, sym, ap, subst, inl, inr, arith}
 use Rattle.std.proofs.lemmas.Option.{get_or_from_slice_get, slice_get-get_or, slice_get_within}
-use Rattle.literal_laws.proofs.Items.{IsIn, contained, in_contained, in_kept, kept_first, kept_later, in_map, from_map}
+use Rattle.order_literals.proofs.Items.{IsIn, contained, in_contained, in_kept, kept_first, kept_later, in_map, from_map}
 
 -- ---- members and their places
 

@@ -13,8 +13,8 @@ use Rattle.completion_build.specs.Ranked.{IsRankedBy}
 use Rattle.copy_functions.specs.Copies.{CopyFunction, source_at}
 use Rattle.denial_rules.specs.declared.instance.RuleInstance.{RuleInstance}
 use Rattle.denial_rules.specs.declared.rule.Rule.{Rule}
-use Rattle.literal_laws.proofs.Deciding.{said_exclude}
-use Rattle.literal_laws.proofs.Items.{in_contained}
+use Rattle.order_literals.proofs.Deciding.{said_exclude}
+use Rattle.order_literals.proofs.Items.{in_contained}
 use Rattle.order_adequacy.specs.Laws.{variables}
 use Rattle.order_clauses.specs.Clauses.{IsAsked}
 use Rattle.order_literals.specs.Axioms.{AreTwo, conclusion_clause, instance_clause, IsCopyAxiom, IsAxiom}

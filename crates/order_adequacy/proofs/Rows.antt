@@ -7,7 +7,7 @@ use Rattle.currency_base.specs.declared.ids.RowId.{RowId}
 use Rattle.currency_base.specs.declared.row.Row.{Row}
 use Rattle.entity_lists.proofs.Facts.{found_in, member_of, length-entities_of}
 use Rattle.entity_lists.specs.Lists.{entities_of, rows_of}
-use Rattle.literal_laws.proofs.Rows.{row_is}
+use Rattle.order_literals.proofs.RowLaws.{row_is}
 use Rattle.order_literals.specs.Axioms.{others}
 use Rattle.partial_orders.specs.Pairs.{entity_of}
 use Rattle.order_adequacy.proofs.Lists.{place_of, at_place, passed_in, in_passed}

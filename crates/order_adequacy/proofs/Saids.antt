@@ -4,8 +4,8 @@ use Rattle.std.proofs.lemmas.Option.{slice_get-get_or}
 use Rattle.currency_base.specs.Literals.{var_of, is_negative, literal}
 use Rattle.currency_base.specs.declared.ids.RowId.{RowId}
 use Rattle.currency_base.specs.declared.lit.Lit.{Lit}
-use Rattle.literal_laws.proofs.Deciding.{said_of_pairs}
-use Rattle.literal_laws.proofs.Saying.{not_not, literal_var, literal_sign, turned_twice, tells, says_at, says_within}
+use Rattle.order_literals.proofs.Deciding.{said_of_pairs}
+use Rattle.order_literals.proofs.Sayings.{not_not, literal_var, literal_sign, turned_twice, tells, says_at, says_within}
 use Rattle.order_adequacy.specs.Laws.{variables}
 use Rattle.order_literals.specs.Numbers.{numbers_of}
 use Rattle.order_literals.specs.Said.{Said, turned, told_by, Says, IsLitTrue, IsSaidTrue}

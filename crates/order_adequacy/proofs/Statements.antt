@@ -8,8 +8,8 @@ use Rattle.currency_base.specs.declared.ids.RelId.{RelId}
 use Rattle.currency_base.specs.declared.ids.RowId.{RowId}
 use Rattle.currency_base.specs.declared.row.Row.{Row}
 use Rattle.entity_lists.specs.Lists.{entities_of}
-use Rattle.literal_laws.proofs.Items.{in_contained}
-use Rattle.literal_laws.proofs.Members.{IsNameOf, top_in, last_in}
+use Rattle.order_literals.proofs.Items.{in_contained}
+use Rattle.order_literals.proofs.Members.{IsNameOf, top_in, last_in}
 use Rattle.order_literals.specs.Numbers.{Numbered, is_wanted, value_names_of, numbered, tables_from, numbers_of, IsPairOf, IsRowOf}
 use Rattle.order_literals.specs.Statements.{statements_of}
 use Rattle.order_literals.specs.declared.wanted.Wanted.{Wanted}

@@ -5,7 +5,7 @@ use Rattle.std.proofs.lemmas.Option.{same_Some, none-some}
 use Rattle.currency_base.specs.declared.ids.AttrId.{AttrId}
 use Rattle.currency_base.specs.declared.ids.RelId.{RelId}
 use Rattle.currency_base.specs.declared.ids.RowId.{RowId}
-use Rattle.literal_laws.proofs.Deciding.{pair_decided}
+use Rattle.order_literals.proofs.Deciding.{pair_decided}
 use Rattle.order_adequacy.specs.Laws.{TruthsAreModelsOver, TruthsRankOver, ModelsAreOneOver, RankingsAreOne, variables}
 use Rattle.order_clauses.specs.Clauses.{IsSaidByOne}
 use Rattle.order_literals.proofs.Callers.{pair_of}

@@ -1,3 +1,7 @@
 pub mod OrderFaults
 pub mod OrderLemmas
 pub mod OrderPairs
+pub mod Answered
+pub mod Given
+pub mod Made
+mod Said

@@ -1,8 +1,9 @@
-//! Binding of `order` statements: the given pairs that they say.
+//! Binding of orderings: the given pairs that an `order` statement says, and those that a table holds.
 #![tactic(auto)]
 
 mod bind;
 mod resolve;
+pub mod tables;
 
 pub use bind::{add_all, bind_order};
 pub use resolve::{checked, first_wrong, resolve_all};

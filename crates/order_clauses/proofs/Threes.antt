@@ -18,7 +18,7 @@ use Rattle.refutation_log.specs.declared.step.Step.{Step}
 use Rattle.refutation_log.specs.declared.step.Step.TheVariants as step
 use Rattle.order_literals.specs.Axioms.{AreTwo, IsAxiom}
 use Rattle.order_literals.specs.Said.{Said, Says, turned, before, not_before}
-use Rattle.literal_laws.specs.Laws.{OneSaid}
+use Rattle.order_literals.specs.Laws.{OneSaid}
 use Rattle.order_clauses.specs.Added.{Adds, AreStepsOf, IsStepOf, below}
 use Rattle.order_clauses.specs.Clauses.{SaysOneOf, IsSaidByOne, AreLits, IsAxiomStep, IsTransitiveStep, StandsAmong, AreTransitive}
 use Rattle.order_clauses.specs.Listing.{members_of, three_label, first_labels, second_labels, third_labels, three_labels}

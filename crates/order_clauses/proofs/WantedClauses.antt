@@ -21,7 +21,7 @@ use Rattle.refutation_log.specs.declared.step.Step.{Step}
 use Rattle.order_literals.specs.Numbers.{is_wanted}
 use Rattle.order_literals.specs.Axioms.{others, alike}
 use Rattle.order_literals.specs.Said.{Said, Says, turned, not_before, top, not_top, last, not_last}
-use Rattle.literal_laws.specs.Laws.{OneSaid}
+use Rattle.order_literals.specs.Laws.{OneSaid}
 use Rattle.order_clauses.specs.Added.{Adds, Say, Tells, IsClauseOf}
 use Rattle.order_clauses.specs.Listing.{members_of, other_said, top_clause, alike_said, value_clause, value_label, above_labels, top_label, last_label, row_labels, relation_labels, wanted_at}
 use Rattle.order_clauses.specs.Subject.{Subject, told, Attribute, IsAttribute, IsWantedRow}

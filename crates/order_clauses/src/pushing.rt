@@ -65,7 +65,7 @@ fn add_new(distinct: &mut Vec<Lit>, lit: Lit) -> Result<(), NoMemory>
 }
 
 /// Room for the literals of a clause, so that no clause takes memory of its own.
-#[derive(Debug, Drop)]
+#[derive(Drop)]
 pub(crate) struct Scratch {
     pub lits: Vec<Lit>,
     pub distinct: Vec<Lit>,

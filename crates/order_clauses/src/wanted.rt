@@ -11,7 +11,7 @@ use crate::column::Column;
 use crate::pushing::{Scratch, push_axiom, push_distinct, put};
 use crate::sayings::Sayings;
 use currency_base::{AttrId, EntId, Lit, NoMemory, RelId, RowId};
-use literal_laws::one_literal;
+use order_literals::one_literal;
 use refutation_log::{LabelRef, Steps};
 use spec_model::Relation;
 

@@ -1,7 +1,7 @@
 use currency_base::{AttrId, EntId, ItemList, RelId};
 
 /// A list: the rows of an entity in an attribute of a relation.
-#[derive(Clone, Copy, Debug, PartialEq, Eq)]
+#[derive(Clone, Copy, PartialEq, Eq)]
 pub struct ListId {
     pub rel: RelId,
     pub attr: AttrId,

@@ -9,3 +9,11 @@ mod Saying
 mod Searched
 mod Tabled
 pub mod Callers
+pub mod Ascents
+pub mod BlockLaws
+pub mod Deciding
+pub mod Items
+pub mod Members
+pub mod Order
+pub mod RowLaws
+pub mod Sayings

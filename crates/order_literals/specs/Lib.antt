@@ -6,3 +6,4 @@ pub mod Axioms
 pub mod Enough
 pub mod Layout
 pub mod Held
+pub mod Laws

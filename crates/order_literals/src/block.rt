@@ -4,7 +4,7 @@ ghost use Rattle.order_literals.specs.Layout.{block_of};
 use currency_base::{AttrId, RelId};
 
 /// A run of numbered statements: all those of one kind on an attribute of a relation, or all on answers.
-#[derive(Clone, Copy, Debug, PartialEq, Eq)]
+#[derive(Clone, Copy, PartialEq, Eq)]
 pub enum Block {
     /// On the pairs of different rows of one entity, which of the two stands before the other.
     Pairs { rel: RelId, attr: AttrId },
@@ -17,7 +17,7 @@ pub enum Block {
 }
 
 /// A kind of blocks on attributes of relations.
-#[derive(Clone, Copy, Debug, PartialEq, Eq)]
+#[derive(Clone, Copy, PartialEq, Eq)]
 pub(crate) enum BlockKind {
     Pairs,
     Tops,

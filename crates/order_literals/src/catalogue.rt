@@ -14,7 +14,7 @@ use std::alloc::Global;
 use std::marker::Model;
 
 /// The tables of relations, and where the statements on them stand. Contracts see what is numbered.
-#[derive(Debug, Drop)]
+#[derive(Drop)]
 pub(crate) struct Catalogue {
     tables: Vec<Table>,
     answers: u32,

@@ -23,7 +23,7 @@ use std::marker::Model;
 /// the first row of the entity that has it; and the answers. A variable is the place of its statement in
 /// the order of statements, counted from 0. Contracts see what is numbered; the statements follow from it.
 /// It takes memory for the rows, and of the wanted relations for their values, and none for a pair.
-#[derive(Debug, Drop)]
+#[derive(Drop)]
 pub struct Numbering {
     catalogue: Catalogue,
 }

@@ -9,7 +9,7 @@ use std::alloc::Global;
 
 /// The rows of a relation. Where it has no attribute nothing is said of its pairs of rows, so that these,
 /// which may be too many to be numbered, are not.
-#[derive(Debug, Drop)]
+#[derive(Drop)]
 pub(crate) enum TableRows {
     Paired(PairNumbers),
     Plain(EntityLists),

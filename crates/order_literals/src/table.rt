@@ -18,7 +18,7 @@ use std::marker::Model;
 
 /// What is numbered of a relation. Contracts see the number of attributes, the rows of each entity, and the
 /// names of the values where the current values are wanted.
-#[derive(Debug, Drop)]
+#[derive(Drop)]
 pub(crate) struct Table {
     attrs: u32,
     rows: TableRows,

@@ -15,7 +15,7 @@ use value_names::{ValueNames, first_rows, value_names};
 
 /// The names of a relation's values, attribute by attribute, and the rows that name values. Contracts see
 /// the names.
-#[derive(Debug, Drop)]
+#[derive(Drop)]
 pub(crate) struct NamedValues {
     names: ValueNames,
     firsts: FlatLists<RowId>,

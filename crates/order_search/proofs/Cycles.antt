@@ -18,8 +18,8 @@ use Rattle.order_literals.specs.Axioms.{AreTwo, IsAxiom}
 use Rattle.order_literals.specs.Numbers.{numbers_of}
 use Rattle.order_literals.specs.Said.{IsClauseTrue, IsSaidTrue, Said, Says, before, not_before}
 use Rattle.order_clauses.specs.Clauses.{SaysOneOf}
-use Rattle.literal_laws.proofs.Deciding.{pair_exclude, said_exclude, said_of_pairs}
-use Rattle.literal_laws.proofs.Saying.{says_within, tells}
+use Rattle.order_literals.proofs.Deciding.{pair_exclude, said_exclude, said_of_pairs}
+use Rattle.order_literals.proofs.Sayings.{says_within, tells}
 use Rattle.completion_build.specs.Ranked.{IsCycle}
 use Rattle.completion_build.specs.declared.built.Cycle.{Cycle}
 use Rattle.watch_propagate.proofs.KeptLists.{contains_at, stands_at}

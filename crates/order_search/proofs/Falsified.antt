@@ -11,8 +11,8 @@ use Rattle.refutation_log.specs.Steps.{clause_of, clauses_of}
 use Rattle.refutation_log.specs.declared.step.Label.{Label}
 use Rattle.refutation_log.specs.declared.step.Step.{Step}
 use Rattle.refutation_log.specs.declared.step.Step.TheVariants.{OnDemand}
-use Rattle.literal_laws.proofs.Items.{IsIn, contained, from_map, in_contained, in_map, range_in}
-use Rattle.literal_laws.proofs.Saying.{lit_is, literal_sign, literal_var, negation_sign, negation_var}
+use Rattle.order_literals.proofs.Items.{IsIn, contained, from_map, in_contained, in_map, range_in}
+use Rattle.order_literals.proofs.Sayings.{lit_is, literal_sign, literal_var, negation_sign, negation_var}
 use Rattle.order_clauses.proofs.Saying.{all_of}
 use Rattle.search_state.specs.States.{IsFit}
 use Rattle.watch_solver.specs.Decided.{truth_in}

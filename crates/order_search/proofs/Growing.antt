@@ -15,7 +15,7 @@ use Rattle.refutation_log.specs.declared.step.Label.TheVariants as label
 use Rattle.refutation_log.specs.declared.step.Step.{Step}
 use Rattle.refutation_log.specs.declared.step.Step.TheVariants.{Axiom, Learn, OnDemand}
 use Rattle.log_axioms.specs.Posed.{Posed}
-use Rattle.literal_laws.proofs.Saying.{says_within}
+use Rattle.order_literals.proofs.Sayings.{says_within}
 use Rattle.order_clauses.specs.Clauses.{AreAxioms, AreTransitive}
 use Rattle.search_state.specs.States.{Frame, IsFit}
 use Rattle.watch_propagate.proofs.KeptLists.{contains_at, get_front}

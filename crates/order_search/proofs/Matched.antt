@@ -24,9 +24,9 @@ use Rattle.refutation_log.specs.declared.step.Label.TheVariants as label
 use Rattle.refutation_log.specs.declared.step.Step.{Step}
 use Rattle.refutation_log.specs.declared.step.Step.TheVariants.{OnDemand}
 use Rattle.spec_model.specs.Completion.{Rankings}
-use Rattle.literal_laws.specs.Laws.{OneLiteral}
-use Rattle.literal_laws.proofs.Items.{in_contained}
-use Rattle.literal_laws.proofs.Saying.{Tells, negation_sign, negation_var, tells}
+use Rattle.order_literals.specs.Laws.{OneLiteral}
+use Rattle.order_literals.proofs.Items.{in_contained}
+use Rattle.order_literals.proofs.Sayings.{Tells, negation_sign, negation_var, tells}
 use Rattle.match_clauses.specs.Clauses.{AreMatchLits, IsCurrentDenied, SaysAnswer}
 use Rattle.match_clauses.specs.Matched.{IsPosedAt}
 use Rattle.order_adequacy.specs.Laws.{IsModelOf}

@@ -6,7 +6,7 @@ use Rattle.currency_base.specs.declared.ids.RowId.{RowId}
 use Rattle.currency_base.specs.declared.lit.Lit.{Lit}
 use Rattle.currency_base.specs.declared.value.Value.{Value}
 use Rattle.log_axioms.specs.Posed.{Posed}
-use Rattle.log_write.specs.Writable.{IsWritableLabel}
+use Rattle.refutation_log.specs.Writable.{IsWritableLabel}
 use Rattle.match_clauses.specs.Clauses.{AreMatchLits, SaysAnswer}
 use Rattle.match_clauses.specs.Matched.{IsMatchIn, IsOfWanted}
 use Rattle.query_model.specs.declared.query.Match.{Match}

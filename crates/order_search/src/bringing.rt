@@ -8,7 +8,7 @@ use crate::progress::Progress;
 use crate::subject::Subject;
 use completion_build::{Cycle, CycleList};
 use currency_base::NoMemory;
-use literal_laws::one_literal;
+use order_literals::one_literal;
 use refutation_log::{StepRef, Steps};
 use solver_guides::Guides;
 use std::alloc::Global;

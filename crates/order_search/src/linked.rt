@@ -10,13 +10,11 @@ use crate::progress::Progress;
 use crate::subject::Subject;
 use completion_build::Cycle;
 use currency_base::{Lit, NoMemory, RowId};
-use literal_laws::one_literal;
 use order_links::{Links, ListId, ListIdList};
+use order_literals::one_literal;
+use search_restarts::LEADER;
 use solver_guides::Guides;
 use std::alloc::Global;
-
-// The place in the ring of the guide that picks first what it is told of. The first one takes variables in their order.
-const LEADER: usize = 1;
 
 // How many variables are told at least of what is next, some of them again and again. So they outweigh what conflicts of earlier
 // goals told, and the guide that leads does not go over all that is decided before it comes to the next.
@@ -171,6 +169,7 @@ fn lead_to(subject: &Subject<'_>, lists: &ListIdList, guides: &mut Guides) -> us
     requires { All (IsListOf subject.now.spec.relations) lists.now }
 {
     for _ in 0..guides.len() {
+        // the leader picks first what it is told of; the first guide takes variables in their order
         if guides.place() == LEADER {
             break;
         }

@@ -6,7 +6,7 @@ ghost use Rattle.order_search.specs.Searches.{HasTaken, IsAnswerCounter, IsMatch
 use crate::progress::Progress;
 use crate::subject::Subject;
 use currency_base::{Assignment, NoMemory, laws_of_tuple_order};
-use literal_laws::one_literal;
+use order_literals::one_literal;
 use query_model::Match;
 use refutation_log::LabelRef;
 use solver_guides::Guides;

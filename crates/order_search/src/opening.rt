@@ -6,7 +6,7 @@ ghost use Rattle.order_search.specs.Kept.{IsHeld, vars_of};
 use crate::progress::Progress;
 use crate::subject::Subject;
 use currency_base::{NoMemory, TupleList};
-use literal_laws::one_literal;
+use order_literals::one_literal;
 use solver_guides::Guides;
 use std::alloc::Global;
 use watch_solver::Solver;

@@ -2,7 +2,7 @@ use currency_base::Assignment;
 use spec_model::Completion;
 
 /// What a decision tells.
-#[derive(Debug, Drop)]
+#[derive(Drop)]
 pub enum Outcome {
     /// A consistent completion in which the goal is false, and the truth of each statement in it.
     Model {

@@ -3,5 +3,4 @@ mod Columns
 mod Layouts
 pub mod Cells
 pub mod Slots
-mod Parted
 mod Grouped

@@ -1,5 +1,4 @@
-ghost use Rattle.std.specs.Prelude.{◌≡◌, ◌<◌, ◌≤◌, ◌+◌, ◌*◌, ◌^◌, IfOk, IfSome, length, slice_index};
-ghost use Rattle.std.specs.List.Sorted.{IsNonDecreasing};
+ghost use Rattle.std.specs.Prelude.{◌≡◌, ◌<◌, ◌+◌, ◌*◌, ◌^◌, IfOk, IfSome};
 ghost use Rattle.horn_closure.specs.Least.{cells_of};
 ghost use Rattle.order_squares.specs.Squares.{AreBases};
 
@@ -34,18 +33,6 @@ fn after_square(base: u32, size: u32) -> Option<u32>
         Some(cells) => base.checked_add(cells),
         None => None,
     }
-}
-
-/// The last place with a number up to this one, among numbers that do not fall.
-pub(crate) fn last_up_to(numbers: &[u32], number: u32) -> usize
-    requires ascend { IsNonDecreasing numbers.now }
-    requires some { 0 < length numbers.now }
-    requires first { slice_index numbers.now 0 ≤ number }
-    ensures within { result < length numbers.now }
-    ensures up_to { slice_index numbers.now result ≤ number }
-    ensures last { result + 1 < length numbers.now → number < slice_index numbers.now (result + 1) }
-{
-    numbers.partition_point(|start| *start <= number) - 1
 }
 
 /// The slot of a cell in a square of this size that begins here.

@@ -6,11 +6,11 @@ ghost use Rattle.order_squares.specs.Entities.{count_of, entities_in};
 ghost use Rattle.order_squares.specs.Squares.{attrs_of, square_at, AreRowsAt, IsLayout, IsSlot, Stand};
 
 use crate::Square;
-use crate::bases::{bases_of, last_up_to, slot_in};
+use crate::bases::{bases_of, slot_in};
 use crate::groups::Groups;
 use crate::listing::{list_squares, sizes_of};
 use currency_base::{AttrId, EntId, NoMemory, Pair, RelId, RowId};
-use flat_lists::FlatLists;
+use flat_lists::{FlatLists, last_up_to};
 use spec_model::Relation;
 use std::alloc::Global;
 use std::marker::Model;

@@ -8,6 +8,3 @@ mod ranking;
 mod source;
 
 pub use guess::start;
-
-#[cfg(test)]
-mod tests;

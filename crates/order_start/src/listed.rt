@@ -4,8 +4,7 @@ ghost use Rattle.order_literals.specs.Statements.{statements_of};
 ghost use Rattle.order_start.specs.Lists.{slot_of};
 
 use currency_base::{AttrId, Lit, RelId, RowId};
-use literal_laws::one_literal;
-use order_literals::Numbering;
+use order_literals::{Numbering, one_literal};
 use search_trail::Values;
 use std::marker::Model;
 

@@ -1,4 +1,3 @@
 mod Blocks
 mod LaterRows
 pub mod PairFacts
-mod Parted

@@ -1,18 +1,18 @@
-ghost use Rattle.std.specs.Prelude.{◌≡◌, ◌<◌, ◌≤◌, ◌+◌, ◌^◌, Some, length, slice_get, slice_index, IfOk};
-ghost use Rattle.std.specs.List.Sorted.{IsNonDecreasing};
+ghost use Rattle.std.specs.Prelude.{◌≡◌, ◌<◌, ◌+◌, ◌^◌, Some, length, slice_get, IfOk};
 ghost use Rattle.pair_numbers.specs.Pairs.{pairs_of};
 ghost use Rattle.pair_numbers.specs.Starts.{left_from};
 
 use crate::RowPair;
 use currency_base::{NoMemory, RowId};
 use entity_lists::EntityLists;
+use flat_lists::last_up_to;
 use std::alloc::Global;
 use std::marker::Model;
 
 /// The pairs of different rows of one entity of a relation, each once with the lesser row first, numbered
 /// by the first row and then by the second. Contracts see how many entities there are, and the entity of
 /// each row. Beside the entities' lists a row takes four bytes, and a pair none.
-#[derive(Debug, Drop)]
+#[derive(Drop)]
 pub struct PairNumbers {
     lists: EntityLists,
     // of each row, how many pairs have a lesser first row
@@ -101,16 +101,4 @@ fn laters(lists: &EntityLists, row: RowId) -> u32
 {
     let rows = lists.of_entity(lists.entity(row));
     (rows.len() - lists.place(row) - 1) as u32
-}
-
-// The last place with a number up to this one, among numbers that do not fall.
-fn last_up_to(starts: &[u32], number: u32) -> usize
-    requires ascend { IsNonDecreasing starts.now }
-    requires some { 0 < length starts.now }
-    requires first { slice_index starts.now 0 ≤ number }
-    ensures within { result < length starts.now }
-    ensures up_to { slice_index starts.now result ≤ number }
-    ensures last { result + 1 < length starts.now → number < slice_index starts.now (result + 1) }
-{
-    starts.partition_point(|start| *start <= number) - 1
 }

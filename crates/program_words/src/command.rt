@@ -1,5 +1,5 @@
 /// What the program is asked to do. Documents are told by their names.
-#[derive(Clone, Copy, Debug, PartialEq)]
+#[derive(Clone, Copy)]
 pub enum Command<'a> {
     Ask(Ask<'a>),
     Verify(Verify<'a>),
@@ -10,7 +10,7 @@ pub enum Command<'a> {
 }
 
 /// `ask SPEC QUESTION [--budget N] [--brief] [--guide K]`.
-#[derive(Clone, Copy, Debug, PartialEq)]
+#[derive(Clone, Copy)]
 pub struct Ask<'a> {
     pub spec: &'a str,
     pub question: &'a str,
@@ -23,7 +23,7 @@ pub struct Ask<'a> {
 }
 
 /// `verify SPEC QUESTION REPORT`.
-#[derive(Clone, Copy, Debug, PartialEq)]
+#[derive(Clone, Copy)]
 pub struct Verify<'a> {
     pub spec: &'a str,
     pub question: &'a str,

@@ -11,6 +11,3 @@ mod rows;
 pub use command::{Ask, Command, Verify};
 pub use given::{WordsFault, command_given};
 pub use laws::{numbers_are_in_range, refusals_have_causes, words_are_read};
-
-#[cfg(test)]
-mod tests;

@@ -10,8 +10,6 @@ mod mismatches;
 mod noted;
 mod relations;
 mod resolve;
-#[cfg(test)]
-mod tests;
 mod variables;
 
 pub use bind::bind_query;

@@ -1,7 +1,7 @@
 use currency_base::{Cmp, EntList, ItemList, RelId, Tuple, Value};
 
 /// What stands at a place of an atom.
-#[derive(Debug, Drop, PartialEq)]
+#[derive(Drop)]
 pub enum Term {
     /// The value of a variable of the disjunct.
     Var(u32),
@@ -15,7 +15,7 @@ pub enum Term {
 pub type TermList = ItemList<Term>;
 
 /// That a relation has a tuple which these terms fit: the entity's name first, then one place per attribute.
-#[derive(Debug, Drop, PartialEq)]
+#[derive(Drop)]
 pub struct Atom {
     pub relation: RelId,
     pub terms: TermList,
@@ -25,7 +25,7 @@ pub struct Atom {
 pub type AtomList = ItemList<Atom>;
 
 /// A side of a comparison.
-#[derive(Debug, Drop, PartialEq)]
+#[derive(Drop)]
 pub enum TestTerm {
     /// The value of a variable of the disjunct.
     Var(u32),
@@ -34,7 +34,7 @@ pub enum TestTerm {
 }
 
 /// A comparison.
-#[derive(Debug, Drop, PartialEq)]
+#[derive(Drop)]
 pub struct Test {
     pub left: TestTerm,
     pub cmp: Cmp,
@@ -49,7 +49,7 @@ pub type VarList = ItemList<u32>;
 
 /// One way to be an answer: atoms and comparisons of so many variables, which are numbered from 0 in the order in which
 /// they first stand in an atom, and the variables whose values are the answer.
-#[derive(Debug, Drop, PartialEq)]
+#[derive(Drop)]
 pub struct Disjunct {
     pub head: VarList,
     pub atoms: AtomList,
@@ -61,14 +61,14 @@ pub struct Disjunct {
 pub type DisjunctList = ItemList<Disjunct>;
 
 /// A union of conjunctive queries with comparisons.
-#[derive(Debug, Drop, PartialEq)]
+#[derive(Drop)]
 pub struct Query {
     pub disjuncts: DisjunctList,
 }
 
 /// How a tuple is an answer: by which disjunct, by the tuple of which entity for each atom, and by which values of the
 /// variables.
-#[derive(Debug, Drop, PartialEq)]
+#[derive(Drop)]
 pub struct Match {
     pub disjunct: u32,
     pub entities: EntList,

@@ -1,14 +1,13 @@
-ghost use Rattle.std.specs.Prelude.{◌≡◌, map};
+ghost use Rattle.std.specs.Prelude.{map};
 ghost use Rattle.text_tokens.specs.Lexeme.{lexeme_of};
-ghost use Rattle.text_grammar.specs.Reading.{Gives, one};
-ghost use Rattle.rule_syntax.specs.Grammar.{cmp_named};
+ghost use Rattle.text_grammar.specs.Reading.{Gives};
 ghost use Rattle.query_syntax.specs.Reading.{constant_term_at, term_at, test_after, test_at, variable_term_at};
 
 use crate::{TestTermTree, TestTree};
-use currency_base::Cmp;
+use rule_syntax::cmp;
 use std::alloc::Global;
-use text_grammar::{Refusal, constant, is_fixed, is_variable, variable};
-use text_tokens::{Token, TokenKind};
+use text_grammar::{Refusal, constant, is_variable, variable};
+use text_tokens::Token;
 
 /// Reads a comparison of two terms.
 #[tactic(auto, unfolding(crate::specs::Reading::test_at))]
@@ -78,38 +77,4 @@ fn constant_term<'a>(
 {
     let (constant, rest) = constant(alloc, tokens)?;
     Ok((TestTermTree::Constant(constant), rest))
-}
-
-/// Takes the symbol of a comparison from the front of the tokens.
-fn cmp<'a>(tokens: &'a [Token<'a>]) -> Result<(Cmp, &'a [Token<'a>]), Refusal<'a>>
-    ensures { Gives (λ x. (x.0, map lexeme_of x.1.now)) result (one cmp_named (map lexeme_of tokens.now)) }
-{
-    match tokens {
-        [] => Err(Refusal::Syntax(tokens)),
-        [first, rest @ ..] => match cmp_in(first) {
-            Some(cmp) => Ok((cmp, rest)),
-            None => Err(Refusal::Syntax(tokens)),
-        },
-    }
-}
-
-/// The comparison that a symbol names.
-fn cmp_in(token: &Token) -> Option<Cmp>
-    ensures { result ≡ cmp_named (lexeme_of token.now) }
-{
-    if is_fixed(TokenKind::Symbol, b"=", token) {
-        Some(Cmp::Eq)
-    } else if is_fixed(TokenKind::Symbol, b"!=", token) {
-        Some(Cmp::Ne)
-    } else if is_fixed(TokenKind::Symbol, b"<", token) {
-        Some(Cmp::Lt)
-    } else if is_fixed(TokenKind::Symbol, b"<=", token) {
-        Some(Cmp::Le)
-    } else if is_fixed(TokenKind::Symbol, b">", token) {
-        Some(Cmp::Gt)
-    } else if is_fixed(TokenKind::Symbol, b">=", token) {
-        Some(Cmp::Ge)
-    } else {
-        None
-    }
 }

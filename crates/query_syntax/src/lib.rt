@@ -8,8 +8,6 @@ mod atom;
 mod comparison;
 mod disjunct;
 mod query;
-#[cfg(test)]
-mod tests;
 mod trees;
 
 pub use query::QueryRule;

@@ -2,14 +2,14 @@ use currency_base::{Cmp, ItemList};
 use text_grammar::{Const, Named, NamedList};
 
 /// A query: the variables of its answers and its disjuncts, in the order of the text.
-#[derive(Debug, Drop, PartialEq)]
+#[derive(Drop)]
 pub struct QueryTree {
     pub head: NamedList,
     pub disjuncts: DisjunctTreeList,
 }
 
 /// A conjunction, which an atom begins: that atom and the parts after it, in the order of the text.
-#[derive(Debug, Drop, PartialEq)]
+#[derive(Drop)]
 pub struct DisjunctTree {
     pub first: AtomTree,
     pub parts: PartTreeList,
@@ -19,7 +19,7 @@ pub struct DisjunctTree {
 pub type DisjunctTreeList = ItemList<DisjunctTree>;
 
 /// What stands after an `and`.
-#[derive(Debug, Drop, PartialEq)]
+#[derive(Drop)]
 pub enum PartTree {
     Atom(AtomTree),
     Test(TestTree),
@@ -29,14 +29,14 @@ pub enum PartTree {
 pub type PartTreeList = ItemList<PartTree>;
 
 /// That a relation holds of what stands in its places.
-#[derive(Debug, Drop, PartialEq)]
+#[derive(Drop)]
 pub struct AtomTree {
     pub relation: Named,
     pub places: PlaceTreeList,
 }
 
 /// What stands in a place of an atom.
-#[derive(Debug, Drop, PartialEq)]
+#[derive(Drop)]
 pub enum PlaceTree {
     Var(Named),
     /// `_`, for any value, with the line of its token.
@@ -48,7 +48,7 @@ pub enum PlaceTree {
 pub type PlaceTreeList = ItemList<PlaceTree>;
 
 /// That two terms compare so.
-#[derive(Debug, Drop, PartialEq)]
+#[derive(Drop)]
 pub struct TestTree {
     pub left: TestTermTree,
     pub cmp: Cmp,
@@ -56,7 +56,7 @@ pub struct TestTree {
 }
 
 /// What is compared: a variable or a constant.
-#[derive(Debug, Drop, PartialEq)]
+#[derive(Drop)]
 pub enum TestTermTree {
     Var(Named),
     Constant(Const),

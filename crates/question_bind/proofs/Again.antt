@@ -18,7 +18,7 @@ use Rattle.spec_model.specs.declared.question.Question.{Question}
 use Rattle.spec_model.specs.declared.question.Question.TheVariants.{Same}
 use Rattle.spec_model.specs.declared.relation.Relation.{Relation}
 use Rattle.order_bind.proofs.OrderPairs.{all_of-length, found_place, place_within}
-use Rattle.orders_bind.proofs.Answered.{each_answer}
+use Rattle.order_bind.proofs.Answered.{each_answer}
 use Rattle.question_bind.specs.Asked.{relation_named}
 use Rattle.question_bind.specs.Bound.{first_again, rel_ids, same_of}
 use Rattle.question_bind.specs.Steps.{named_in, same_in, unless_again}

@@ -20,10 +20,10 @@ use Rattle.spec_names.specs.Names.{all_names_of, place_of}
 use Rattle.order_bind.specs.Orders as text
 use Rattle.order_bind.proofs.OrderLemmas.{item_at}
 use Rattle.order_bind.proofs.OrderPairs as pairs
-use Rattle.orders_bind.specs.Orders as table
-use Rattle.orders_bind.specs.declared.records.PairRecord.{PairRecord}
-use Rattle.orders_bind.proofs.Answered.{each_answer}
-use Rattle.orders_bind.proofs.Given.{IsWithin, pair_within, record_within}
+use Rattle.order_bind.specs.TableOrders as table
+use Rattle.order_bind.specs.declared.tables.records.PairRecord.{PairRecord}
+use Rattle.order_bind.proofs.Answered.{each_answer}
+use Rattle.order_bind.proofs.Given.{IsWithin, pair_within, record_within}
 use Rattle.question_syntax.specs.declared.trees.AskedTree.{AskedTree}
 use Rattle.question_syntax.specs.declared.trees.AskedTree.TheVariants.{Ordering, Table}
 use Rattle.question_bind.specs.declared.heads.Head.{Head}

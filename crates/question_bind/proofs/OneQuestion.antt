@@ -4,8 +4,8 @@ use Rattle.currency_base.specs.declared.value.Value.{Value}
 use Rattle.bind_faults.specs.Faults.{all_of, and_then}
 use Rattle.bind_faults.specs.declared.fault.BindFault.{BindFault}
 use Rattle.bind_faults.specs.declared.fault.BindFault.TheVariants.{Limit}
-use Rattle.orders_bind.specs.Orders.{order_columns}
-use Rattle.orders_bind.proofs.Made.{OneTable}
+use Rattle.order_bind.specs.TableOrders.{order_columns}
+use Rattle.order_bind.proofs.Made.{OneTable}
 use Rattle.spec_model.specs.declared.question.Asked.{Asked}
 use Rattle.spec_model.specs.declared.question.Question.{Question}
 use Rattle.spec_model.specs.declared.relation.Relation.{Relation}

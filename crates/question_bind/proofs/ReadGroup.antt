@@ -17,8 +17,8 @@ use Rattle.spec_names.specs.NameLists.{NameLists}
 use Rattle.spec_names.specs.Names.{names_of}
 use Rattle.spec_names.specs.declared.names.RelationNames.{RelationNames}
 use Rattle.order_bind.proofs.OrderPairs.{all_of-length, found_place, place_within}
-use Rattle.orders_bind.specs.declared.records.PairRecord.{PairRecord}
-use Rattle.orders_bind.proofs.Answered.{each_answer}
+use Rattle.order_bind.specs.declared.tables.records.PairRecord.{PairRecord}
+use Rattle.order_bind.proofs.Answered.{each_answer}
 use Rattle.question_syntax.specs.declared.trees.AskedTree.{AskedTree}
 use Rattle.question_syntax.specs.declared.trees.AskedTree.TheVariants.{Ordering, Table}
 use Rattle.question_bind.specs.declared.heads.Head.{Head}

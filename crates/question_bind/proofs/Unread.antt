@@ -17,8 +17,8 @@ use Rattle.spec_model.specs.declared.question.Question.TheVariants.{Same}
 use Rattle.spec_model.specs.declared.relation.Relation.{Relation}
 use Rattle.spec_names.specs.Names.{place_of}
 use Rattle.order_bind.proofs.OrderFaults as text_faults
-use Rattle.orders_bind.specs.Orders as table
-use Rattle.orders_bind.proofs.Made as table_faults
+use Rattle.order_bind.specs.TableOrders as table
+use Rattle.order_bind.proofs.Made as table_faults
 use Rattle.question_syntax.specs.declared.trees.AskedTree.{AskedTree}
 use Rattle.question_syntax.specs.declared.trees.AskedTree.TheVariants.{Ordering, Table}
 use Rattle.question_bind.specs.declared.heads.Head.{Head}

@@ -14,8 +14,8 @@ use Rattle.spec_names.specs.Names.{place_of}
 use Rattle.spec_model.specs.declared.question.Asked.{Asked}
 use Rattle.spec_model.specs.declared.relation.Relation.{Relation}
 use Rattle.order_bind.specs.Orders as text
-use Rattle.orders_bind.specs.Orders as table
-use Rattle.orders_bind.specs.declared.records.PairRecord.{PairRecord}
+use Rattle.order_bind.specs.TableOrders as table
+use Rattle.order_bind.specs.declared.tables.records.PairRecord.{PairRecord}
 use Rattle.question_syntax.specs.declared.trees.AskedTree.{AskedTree}
 use Rattle.question_syntax.specs.declared.trees.AskedTree.TheVariants.{Ordering, Table}
 use Rattle.question_bind.specs.declared.heads.Head.{Head}

@@ -59,7 +59,7 @@ fn checked_part(
             order_bind::checked(rows, ordering.pairs.as_slice(), pairs)
         }
         AskedTree::Table { document, .. } => {
-            orders_bind::checked(alloc, &document.name, rows, pairs)
+            order_bind::tables::checked(alloc, &document.name, rows, pairs)
         }
     }
 }

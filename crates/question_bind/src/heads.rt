@@ -12,7 +12,7 @@ use std::alloc::Global;
 
 /// What stands before the pairs of a part: the place of its relation, and that of its attribute where a
 /// text says it.
-#[derive(Clone, Copy, Debug, PartialEq, Eq)]
+#[derive(Clone, Copy, PartialEq, Eq)]
 pub struct Head {
     pub rel: usize,
     pub attr: Option<usize>,

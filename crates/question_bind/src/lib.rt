@@ -14,8 +14,6 @@ mod pairs;
 mod records;
 mod same;
 mod tables;
-#[cfg(test)]
-mod tests;
 
 pub use bind::bind_question;
 pub use laws::one_bound_question;

@@ -9,7 +9,7 @@ use crate::records::RecordLists;
 use bind_faults::BindFault;
 use currency_base::{AttrId, ItemList, PairList};
 use order_bind::resolve_all;
-use orders_bind::{PairRecord, pairs_of};
+use order_bind::tables::{PairRecord, pairs_of};
 use question_syntax::AskedTree;
 use spec_names::SpecNames;
 use std::alloc::Global;

@@ -8,7 +8,7 @@ use crate::heads::Head;
 use crate::tables::TableList;
 use bind_faults::BindFault;
 use currency_base::{ItemList, TupleList};
-use orders_bind::{RecordList, records_of};
+use order_bind::tables::{RecordList, records_of};
 use question_syntax::AskedTree;
 use spec_names::SpecNames;
 use std::alloc::Global;

@@ -9,7 +9,7 @@ ghost use Rattle.question_bind.specs.Steps.{HasTable, IsItsTable};
 use bind_faults::BindFault;
 use currency_base::{ItemList, TupleList};
 use currency_edge::Shelf;
-use orders_bind::read_orders;
+use order_bind::tables::read_orders;
 use question_syntax::AskedTree;
 use std::alloc::Global;
 

@@ -5,8 +5,6 @@ mod asked;
 mod laws;
 mod question;
 mod read;
-#[cfg(test)]
-mod tests;
 mod trees;
 
 pub use laws::one_question;

@@ -4,7 +4,7 @@ use spec_syntax::OrderingTree;
 use text_grammar::{Named, NamedList};
 
 /// A question.
-#[derive(Debug, Drop, PartialEq)]
+#[derive(Drop)]
 pub enum QuestionTree {
     /// Is the specification consistent?
     Consistent,
@@ -17,7 +17,7 @@ pub enum QuestionTree {
 }
 
 /// Pairs that are asked about.
-#[derive(Debug, Drop, PartialEq)]
+#[derive(Drop)]
 pub enum AskedTree {
     /// Pairs of one attribute of a relation.
     Ordering(OrderingTree),

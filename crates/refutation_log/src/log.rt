@@ -6,7 +6,7 @@ use std::alloc::Global;
 
 /// A log: the tuples that its `Answer` statements name, its statements, and its steps. The variable of a
 /// literal is a place in the statements, and a hint a place in the steps; places count from 0.
-#[derive(Debug, Drop)]
+#[derive(Drop)]
 pub struct Log {
     pub answers: TupleList,
     pub statements: StatementList,

@@ -2,7 +2,7 @@ use currency_base::{AttrId, ItemList, RelId, RowId};
 
 /// What a variable of a log says of a completion. Statements are ordered by kind, in the order in which the
 /// kinds stand here, and then by their numbers in turn.
-#[derive(Clone, Copy, Debug, PartialEq, Eq, PartialOrd, Ord)]
+#[derive(Clone, Copy, PartialEq, Eq, PartialOrd, Ord)]
 pub enum Statement {
     /// One row stands before another.
     Before {

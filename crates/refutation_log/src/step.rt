@@ -10,7 +10,7 @@ use currency_base::{
 pub type HintList = ItemList<u32>;
 
 /// Which axiom a clause is. Ids and places count from 0, and need not be there: the checker judges them.
-#[derive(Debug, Drop, PartialEq)]
+#[derive(Drop)]
 pub enum Label {
     /// The pair is given.
     Given {
@@ -76,7 +76,7 @@ pub enum Label {
 }
 
 /// A step of a log. Its literals are those of its clause; a clause is a set, so they may stand in any order.
-#[derive(Debug, Drop, PartialEq)]
+#[derive(Drop)]
 pub enum Step {
     /// An axiom.
     Axiom {
@@ -97,7 +97,7 @@ pub enum Step {
 }
 
 /// A label whose lists are lent.
-#[derive(Clone, Copy, Debug)]
+#[derive(Clone, Copy)]
 pub enum LabelRef<'a> {
     Given {
         rel: RelId,
@@ -151,7 +151,7 @@ pub enum LabelRef<'a> {
 }
 
 /// A step whose lists are lent.
-#[derive(Clone, Copy, Debug)]
+#[derive(Clone, Copy)]
 pub enum StepRef<'a> {
     Axiom {
         label: LabelRef<'a>,

@@ -13,7 +13,7 @@ mod lists;
 
 /// The steps of a log, in order. Contracts see them as a list. They are kept flat: beside its literals,
 /// hints and the lists of its label, a step takes 48 bytes.
-#[derive(Debug, Drop)]
+#[derive(Drop)]
 pub struct Steps {
     heads: Vec<Head>,
     lists: Lists,

@@ -8,7 +8,7 @@ pub type CompletionList = ItemList<Completion>;
 
 /// A verdict, the completions that are listed for it, and the derivations. Completions show what holds in
 /// some completion, and the log what holds in all.
-#[derive(Debug, Drop)]
+#[derive(Drop)]
 pub struct Report {
     pub verdict: Verdict,
     pub completions: CompletionList,
@@ -16,7 +16,7 @@ pub struct Report {
 }
 
 /// A part of a report, as a refusal names it. Places count from 0.
-#[derive(Clone, Copy, Debug, PartialEq, Eq)]
+#[derive(Clone, Copy, PartialEq, Eq)]
 pub enum Part {
     Verdict,
     /// A current tuple or an answer of the verdict.

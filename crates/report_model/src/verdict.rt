@@ -5,7 +5,7 @@ use currency_base::{AttrId, EntId, ItemList, RelId, Tuple, TupleList};
 use spec_model::Asked;
 
 /// The current tuple of an entity: one value per attribute of the relation, in the order of the attributes.
-#[derive(Debug, Drop, PartialEq)]
+#[derive(Drop)]
 pub struct Current {
     pub rel: RelId,
     pub ent: EntId,
@@ -16,7 +16,7 @@ pub struct Current {
 pub type CurrentList = ItemList<Current>;
 
 /// What a report claims.
-#[derive(Debug, Drop, PartialEq)]
+#[derive(Drop)]
 pub enum Verdict {
     /// The specification has no consistent completion.
     Inconsistent,
@@ -41,7 +41,7 @@ pub enum Verdict {
 }
 
 /// The kind of a verdict.
-#[derive(Clone, Copy, Debug, PartialEq, Eq)]
+#[derive(Clone, Copy, PartialEq, Eq)]
 pub enum Kind {
     Inconsistent,
     Consistent,

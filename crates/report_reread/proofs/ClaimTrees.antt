@@ -6,9 +6,9 @@ use Rattle.currency_report.specs.Claimed.{currents_said, claim_said}
 use Rattle.report_model.specs.declared.verdict.Current.{Current}
 use Rattle.report_model.specs.declared.verdict.Verdict.{Verdict}
 use Rattle.report_model.specs.declared.verdict.Verdict.TheVariants.{Inconsistent, Consistent, Certain, NotCertain, Same, NotSame, Answers, Undecided}
-use Rattle.report_spelling.specs.Trees.{current_tree, claim_tree}
+use Rattle.report_reread.specs.Trees.{current_tree, claim_tree}
 use Rattle.report_syntax.specs.declared.tree.AnswerTree.{AnswerTree}
-use Rattle.report_write.specs.Writable.{IsItemOf, IsWritableVerdict}
+use Rattle.report_model.specs.Writable.{IsItemOf, IsWritableVerdict}
 use Rattle.spec_model.specs.Facts.{AreRelations}
 use Rattle.spec_model.specs.declared.relation.Relation.{Relation}
 use Rattle.report_reread.proofs.Found.{attr_found, entity_found, place_found, row_found}

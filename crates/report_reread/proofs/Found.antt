@@ -12,7 +12,7 @@ use Rattle.completion_fill.proofs.Shapes.{is_relation_at}
 use Rattle.currency_base.specs.Lists.{OnlyOnce}
 use Rattle.currency_base.specs.declared.ids.RowId.{RowId}
 use Rattle.currency_report.specs.Places.{relation_named, attr_named, entity_named, place_named, row_named, rows_named}
-use Rattle.report_spelling.specs.Trees.{relation_tree, attr_tree, entity_tree, row_tree}
+use Rattle.report_reread.specs.Trees.{relation_tree, attr_tree, entity_tree, row_tree}
 use Rattle.spec_model.specs.Facts.{IsRelation, AreRelations}
 use Rattle.spec_model.specs.declared.relation.Relation.{Relation}
 use Rattle.spec_names.specs.Names.{place_of}

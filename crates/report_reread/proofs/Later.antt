@@ -8,10 +8,10 @@ use Rattle.completion_fill.proofs.Shapes.{alike, shape_alike}
 use Rattle.completion_fill.specs.Alike.{AreAlike}
 use Rattle.completion_fill.specs.Filled.{merged, list_or, filled}
 use Rattle.currency_report.specs.Completed.{later_completed, later_ones, all_completed}
-use Rattle.report_spelling.specs.Trees.{completion_tree, completion_trees}
+use Rattle.report_reread.specs.Trees.{completion_tree, completion_trees}
 use Rattle.report_syntax.specs.declared.tree.Version.TheVariants.{Second}
 use Rattle.report_write.specs.Pieces.{same_rows, list_unless, differing}
-use Rattle.report_write.specs.Writable.{IsWritableCompletion, Covers, AllCover}
+use Rattle.report_model.specs.Writable.{IsWritableCompletion, Covers, AllCover}
 use Rattle.spec_model.specs.Completion.{Rankings, lists_of, ranking_of}
 use Rattle.spec_model.specs.Facts.{AreRelations}
 use Rattle.spec_model.specs.declared.relation.Relation.{Relation}

@@ -5,3 +5,9 @@ mod Ranked
 mod Later
 mod Told
 mod Reread
+mod Likenesses
+mod Names
+mod Claims
+mod Rankings
+mod Completions
+mod Reports

@@ -8,7 +8,7 @@ use Rattle.currency_report.specs.Completed.{ranked_with, ranked_by, completed}
 use Rattle.currency_report.specs.Outcomes.{and_then}
 use Rattle.currency_report.specs.Places.{Place, place_named, rows_named}
 use Rattle.currency_report.specs.declared.report.ReportFault.{ReportFault}
-use Rattle.report_spelling.specs.Trees.{relation_tree, attr_tree, entity_tree, row_tree, ranking_trees, entity_trees, attr_trees, rankings_trees, completion_tree}
+use Rattle.report_reread.specs.Trees.{relation_tree, attr_tree, entity_tree, row_tree, ranking_trees, entity_trees, attr_trees, rankings_trees, completion_tree}
 use Rattle.report_syntax.specs.declared.tree.RankingTree.{RankingTree}
 use Rattle.spec_model.specs.Blank.{blank_lists, blank_rankings, blank_of}
 use Rattle.spec_model.specs.Completion.{Rankings, HasShape, lists_of, ranking_of, with_ranking}

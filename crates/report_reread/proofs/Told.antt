@@ -8,7 +8,7 @@ use Rattle.log_form.specs.Form.{first_fault}
 use Rattle.log_syntax.specs.declared.trees.ReadLog.{ReadLog}
 use Rattle.refutation_log.specs.declared.log.Log.{Log}
 use Rattle.report_model.specs.declared.report.Report.{Report}
-use Rattle.report_spelling.specs.Trees.{unlined_report, tree_of}
+use Rattle.report_reread.specs.Trees.{unlined_report, tree_of}
 use Rattle.report_syntax.specs.declared.tree.ClaimTree.{ClaimTree}
 use Rattle.report_syntax.specs.declared.tree.CompletionTree.{CompletionTree}
 use Rattle.report_syntax.specs.declared.tree.ReportTree.{ReportTree}

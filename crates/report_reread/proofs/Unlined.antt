@@ -10,7 +10,7 @@ use Rattle.currency_report.specs.declared.report.ReportFault.{ReportFault}
 use Rattle.report_model.specs.declared.verdict.Current.{Current}
 use Rattle.report_model.specs.declared.verdict.Verdict.{Verdict}
 use Rattle.report_model.specs.declared.verdict.Verdict.TheVariants as verdict
-use Rattle.report_spelling.specs.Trees.{unlined_name, unlined_current, unlined_answer, unlined_claim, unlined_ranking, unlined_completion}
+use Rattle.report_reread.specs.Trees.{unlined_name, unlined_current, unlined_answer, unlined_claim, unlined_ranking, unlined_completion}
 use Rattle.report_syntax.specs.declared.tree.AnswerTree.{AnswerTree}
 use Rattle.report_syntax.specs.declared.tree.ClaimTree.{ClaimTree}
 use Rattle.report_syntax.specs.declared.tree.ClaimTree.TheVariants.{Inconsistent, Consistent, Certain, NotCertain, Same, NotSame, Answers, Undecided}

@@ -2,7 +2,7 @@ ghost use Rattle.std.specs.Prelude.{◌≡◌, List, All, Ok};
 ghost use Rattle.currency_report.specs.Reads.{ReadsReport, said};
 ghost use Rattle.currency_report.specs.declared.report.Lines.{Lines};
 ghost use Rattle.report_model.specs.declared.report.Report.{Report};
-ghost use Rattle.report_spelling.specs.Trees.{tree_of, unlined_report};
+ghost use Rattle.report_reread.specs.Trees.{tree_of, unlined_report};
 ghost use Rattle.report_syntax.specs.declared.tree.ReportTree.{ReportTree};
 ghost use Rattle.report_write.specs.Pieces.{report_pieces};
 ghost use Rattle.report_write.specs.Writable.{HasTextNames, IsWritableReport};
@@ -10,7 +10,7 @@ ghost use Rattle.spec_model.specs.Facts.{AreRelations};
 ghost use Rattle.spec_model.specs.declared.relation.Relation.{Relation};
 ghost use Rattle.text_write.specs.Pieces.{text_of};
 
-use report_spelling::written_is_spelled;
+use crate::spelled::written_is_spelled;
 
 /// A law: the tree of a report that can be written says the report.
 pub fn tree_says_report()

@@ -8,7 +8,7 @@ use text_grammar::{Named, Refusal, name, symbol};
 use text_tokens::Token;
 
 /// The names of an attribute: its relation's and its own.
-#[derive(Debug, Drop)]
+#[derive(Drop)]
 pub struct AttributeTree {
     pub relation: Named,
     pub attr: Named,

@@ -4,14 +4,14 @@ use text_grammar::{Named, NamedList};
 
 /// The version of a report's language. In a later completion of the second, a place that is not ranked has
 /// the first completion's list.
-#[derive(Clone, Copy, Debug, PartialEq, Eq)]
+#[derive(Clone, Copy, PartialEq, Eq)]
 pub enum Version {
     First,
     Second,
 }
 
 /// A report as it is written. Each clause keeps the line of its first word.
-#[derive(Debug, Drop)]
+#[derive(Drop)]
 pub struct ReportTree {
     pub version: Version,
     pub verdict: VerdictTree,
@@ -20,14 +20,14 @@ pub struct ReportTree {
 }
 
 /// `verdict CLAIM`, with the items that follow it
-#[derive(Debug, Drop, PartialEq)]
+#[derive(Drop)]
 pub struct VerdictTree {
     pub line: u32,
     pub claim: ClaimTree,
 }
 
 /// What a verdict claims.
-#[derive(Debug, Drop, PartialEq)]
+#[derive(Drop)]
 pub enum ClaimTree {
     /// `inconsistent`
     Inconsistent,
@@ -57,7 +57,7 @@ pub enum ClaimTree {
 }
 
 /// `current RELATION ENTITY (VALUE, ..)`
-#[derive(Debug, Drop, PartialEq)]
+#[derive(Drop)]
 pub struct CurrentTree {
     pub line: u32,
     pub relation: Named,
@@ -69,7 +69,7 @@ pub struct CurrentTree {
 pub type CurrentTreeList = ItemList<CurrentTree>;
 
 /// `answer (VALUE, ..)`
-#[derive(Debug, Drop, PartialEq)]
+#[derive(Drop)]
 pub struct AnswerTree {
     pub line: u32,
     pub values: Tuple,
@@ -79,7 +79,7 @@ pub struct AnswerTree {
 pub type AnswerTreeList = ItemList<AnswerTree>;
 
 /// `completion` with its rankings
-#[derive(Debug, Drop, PartialEq)]
+#[derive(Drop)]
 pub struct CompletionTree {
     pub line: u32,
     pub rankings: RankingTreeList,
@@ -89,7 +89,7 @@ pub struct CompletionTree {
 pub type CompletionTreeList = ItemList<CompletionTree>;
 
 /// `ranking RELATION.ATTRIBUTE of ENTITY: ROW < ROW`, the oldest first
-#[derive(Debug, Drop, PartialEq)]
+#[derive(Drop)]
 pub struct RankingTree {
     pub line: u32,
     pub relation: Named,

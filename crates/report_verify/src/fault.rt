@@ -3,7 +3,7 @@ use report_model::Part;
 use spec_model::Flaw;
 
 /// What a verdict asks for and a report lacks.
-#[derive(Clone, Copy, Debug, PartialEq, Eq)]
+#[derive(Clone, Copy, PartialEq, Eq)]
 pub enum Missing {
     /// The verdict is none of the question's.
     Shape,
@@ -25,7 +25,7 @@ pub enum Missing {
 }
 
 /// Why a report does not show its verdict.
-#[derive(Debug, Drop, PartialEq)]
+#[derive(Drop)]
 pub enum Unshown {
     /// A listed completion is not consistent.
     BadCompletion(Flaw),
@@ -36,7 +36,7 @@ pub enum Unshown {
 }
 
 /// Why a report is not accepted.
-#[derive(Debug, Drop, PartialEq)]
+#[derive(Drop)]
 pub enum VerifyFault {
     Refused { part: Part, why: Unshown },
     /// Want of memory.

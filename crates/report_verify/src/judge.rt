@@ -1,5 +1,5 @@
 ghost use Rattle.std.specs.Prelude.{◌≡◌, ◌<◌, ◌^◌, true, All, IfErr, OnOk, length};
-ghost use Rattle.log_checker.specs.Accepted.{IsNumbered};
+ghost use Rattle.refutation_log.specs.Numbered.{IsNumbered};
 ghost use Rattle.report_model.specs.Verdicts.{is_decided, kind_of};
 ghost use Rattle.spec_model.specs.Questions.{IsQuestionOn};
 ghost use Rattle.report_verify.specs.Right.{IsRight};

@@ -1,6 +1,7 @@
 ghost use Rattle.std.specs.Prelude.{◌≡◌, IfOk, IfErr, option_map};
 ghost use Rattle.std.specs.List.{list_any};
-ghost use Rattle.log_checker.specs.Accepted.{IsAccepted, IsNumbered};
+ghost use Rattle.log_checker.specs.Accepted.{IsAccepted};
+ghost use Rattle.refutation_log.specs.Numbered.{IsNumbered};
 ghost use Rattle.log_checker.specs.Shown.{is_empty};
 ghost use Rattle.refutation_log.specs.Steps.{clauses_of};
 ghost use Rattle.refutation_log.specs.declared.log.Log.{Log as LogOf};

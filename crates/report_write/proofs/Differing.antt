@@ -11,7 +11,7 @@ use Rattle.spec_model.specs.declared.relation.Relation.{Relation}
 use Rattle.report_write.specs.Named.{IsRowOf}
 use Rattle.report_write.specs.Pieces.{differing, list_unless, same_rows}
 use Rattle.report_write.specs.Shown.{AreOn}
-use Rattle.report_write.specs.Writable.{IsWritableCompletion}
+use Rattle.report_model.specs.Writable.{IsWritableCompletion}
 
 -- what stands at a place, relation by relation, then attribute by attribute, then list by list
 differing_attrs : (first c : Rankings) (rel : ℕ) → AreAlike first c

@@ -4,7 +4,7 @@ ghost use Rattle.text_write.specs.Spacing.{writes_all};
 ghost use Rattle.report_write.specs.Named.{IsAttrOf};
 ghost use Rattle.report_write.specs.Pieces.{attr_rankings, completion_pieces, differing, entity_rankings, rankings_pieces};
 ghost use Rattle.report_write.specs.Shown.{AreOn};
-ghost use Rattle.report_write.specs.Writable.{IsWritableCompletion};
+ghost use Rattle.report_model.specs.Writable.{IsWritableCompletion};
 
 use crate::names::relation_at;
 use crate::ranking::write_ranking;

@@ -1,7 +1,7 @@
 ghost use Rattle.std.specs.Prelude.{◌≡◌, ◌∷◌, All, OnOk};
 ghost use Rattle.text_write.specs.Spacing.{writes_all};
 ghost use Rattle.report_write.specs.Pieces.{completions_pieces};
-ghost use Rattle.report_write.specs.Writable.{IsWritableCompletion};
+ghost use Rattle.report_model.specs.Writable.{IsWritableCompletion};
 
 use crate::completion::{write_completion, write_later};
 use currency_base::NoMemory;

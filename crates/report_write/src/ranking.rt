@@ -3,7 +3,7 @@ ghost use Rattle.log_write.specs.Pieces.{many_pieces};
 ghost use Rattle.text_write.specs.Spacing.{writes_all};
 ghost use Rattle.report_write.specs.Named.{IsRowOf};
 ghost use Rattle.report_write.specs.Pieces.{further_row_pieces, ranking_pieces};
-ghost use Rattle.report_write.specs.Writable.{IsPlaceOf};
+ghost use Rattle.report_model.specs.Writable.{IsPlaceOf};
 
 use crate::names::{write_attribute, write_entity, write_row};
 use currency_base::{AttrId, EntId, NoMemory, RelId, RowId};

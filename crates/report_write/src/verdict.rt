@@ -4,7 +4,7 @@ ghost use Rattle.report_model.specs.declared.verdict.Verdict.TheVariants.{NotCer
 ghost use Rattle.text_write.specs.Spacing.{writes_all};
 ghost use Rattle.report_write.specs.Clauses.{answer_pieces, answers_pieces, undecided_pieces, word_clause};
 ghost use Rattle.report_write.specs.Pieces.{claim_pieces, current_pieces};
-ghost use Rattle.report_write.specs.Writable.{IsItemOf, IsPairOf, IsPlaceOf, IsWritableVerdict};
+ghost use Rattle.report_model.specs.Writable.{IsItemOf, IsPairOf, IsPlaceOf, IsWritableVerdict};
 
 use crate::names::{write_attribute, write_entity, write_relation, write_row};
 use currency_base::{AttrId, EntId, NoMemory, RelId, Tuple};

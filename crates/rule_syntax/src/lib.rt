@@ -11,6 +11,7 @@ mod term;
 mod trees;
 
 pub use rule::RuleRule;
+pub use term::cmp;
 pub use trees::{
     ConclusionTree, OrderAtomTree, PredicateTree, PredicateTreeList, RuleTree, TermTree,
 };

@@ -3,7 +3,7 @@ use text_grammar::{Const, Named, NamedList};
 
 /// A denial constraint: its name, the relation that it is on, its variables, its predicates and its
 /// conclusion, in the order of the text.
-#[derive(Debug, Drop, PartialEq)]
+#[derive(Drop)]
 pub struct RuleTree {
     pub name: Named,
     pub relation: Named,
@@ -13,7 +13,7 @@ pub struct RuleTree {
 }
 
 /// A condition of a rule.
-#[derive(Debug, Drop, PartialEq)]
+#[derive(Drop)]
 pub enum PredicateTree {
     Order(OrderAtomTree),
     Compare {
@@ -27,7 +27,7 @@ pub enum PredicateTree {
 pub type PredicateTreeList = ItemList<PredicateTree>;
 
 /// That the row of one variable is older than that of another, in an attribute.
-#[derive(Debug, Drop, PartialEq)]
+#[derive(Drop)]
 pub struct OrderAtomTree {
     pub earlier: Named,
     pub later: Named,
@@ -35,14 +35,14 @@ pub struct OrderAtomTree {
 }
 
 /// What is compared: an attribute of the row of a variable, or a constant.
-#[derive(Debug, Drop, PartialEq)]
+#[derive(Drop)]
 pub enum TermTree {
     Field { var: Named, attr: Named },
     Constant(Const),
 }
 
 /// What a rule concludes.
-#[derive(Debug, Drop, PartialEq)]
+#[derive(Drop)]
 pub enum ConclusionTree {
     /// `false`, which never holds.
     Never,

@@ -6,10 +6,10 @@ use Rattle.currency_base.specs.declared.ids.RowId.{RowId}
 use Rattle.currency_base.specs.declared.value.Value.{Value}
 use Rattle.refutation_log.specs.declared.statement.Statement.{Statement}
 use Rattle.refutation_log.specs.declared.statement.Statement.TheVariants.{Before, Top, Last, Answer}
-use Rattle.log_write.specs.Writable.{AreAnswered}
-use Rattle.literal_laws.proofs.Ascents.{Ascends}
-use Rattle.literal_laws.proofs.Items.{IsIn}
-use Rattle.literal_laws.proofs.Order.{IsBelow}
+use Rattle.refutation_log.specs.Writable.{AreAnswered}
+use Rattle.order_literals.proofs.Ascents.{Ascends}
+use Rattle.order_literals.proofs.Items.{IsIn}
+use Rattle.order_literals.proofs.Order.{IsBelow}
 
 pub answer_less : (a b : ℕ) → IsBelow (Answer a) (Answer b) → a < b
 answer_less a b (inl low) = absurd (omega (arith, low))

@@ -9,8 +9,8 @@ use Rattle.currency_base.specs.declared.ids.RowId.{RowId}
 use Rattle.partial_orders.specs.Pairs.{entity_of}
 use Rattle.spec_model.specs.Facts.{IsRelation, AreRelations}
 use Rattle.spec_model.specs.declared.relation.Relation.{Relation}
-use Rattle.log_write.specs.Writable.{IsPlace}
-use Rattle.literal_laws.proofs.Items.{IsIn}
+use Rattle.refutation_log.specs.Writable.{IsPlace}
+use Rattle.order_literals.proofs.Items.{IsIn}
 use Rattle.order_clauses.proofs.Reading.{all_at}
 use Rattle.order_clauses.proofs.Members.{row_within}
 

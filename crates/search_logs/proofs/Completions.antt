@@ -16,9 +16,9 @@ use Rattle.spec_model.specs.Completion.{Rankings, IsRanking, IsCompletion, lists
 use Rattle.spec_model.specs.Facts.{IsRelation}
 use Rattle.spec_model.specs.Spec.{Spec}
 use Rattle.spec_model.specs.declared.relation.Relation.{Relation}
-use Rattle.log_write.specs.Writable.{AreFew}
-use Rattle.report_write.specs.Writable.{ranked_lists, ranked_attrs, ranked_places, IsWritableCompletion}
-use Rattle.literal_laws.proofs.Items.{IsIn, in_at}
+use Rattle.refutation_log.specs.Writable.{AreFew}
+use Rattle.report_model.specs.Writable.{ranked_lists, ranked_attrs, ranked_places, IsWritableCompletion}
+use Rattle.order_literals.proofs.Items.{IsIn, in_at}
 use Rattle.order_clauses.proofs.Members.{row_within}
 use Rattle.order_clauses.proofs.Reading.{item_at}
 use Rattle.search_logs.specs.SearchLogs.{IsWithin}

@@ -27,9 +27,9 @@ use Rattle.refutation_log.specs.declared.statement.Statement.TheVariants.{Before
 use Rattle.refutation_log.specs.declared.step.Step.{Step}
 use Rattle.log_form.specs.Form.{is_below, rows_of, has_attr, is_known, is_above, is_first_alike, is_canonical, is_row, has_rows, is_one, is_pair, statement_fault, statements_fault, steps_fault, or_else, first_fault}
 use Rattle.log_form.specs.declared.form.FormFault.{FormFault}
-use Rattle.literal_laws.proofs.Ascents.{Ascends, Precedes, precedes_less}
-use Rattle.literal_laws.proofs.Items.{IsIn}
-use Rattle.literal_laws.proofs.Order.{IsBelow}
+use Rattle.order_literals.proofs.Ascents.{Ascends, Precedes, precedes_less}
+use Rattle.order_literals.proofs.Items.{IsIn}
+use Rattle.order_literals.proofs.Order.{IsBelow}
 use Rattle.order_literals.specs.Statements.{key_of, statement_cmp}
 use Rattle.order_clauses.proofs.Members.{row_within}
 use Rattle.search_logs.proofs.Answered.{answer_less}

@@ -15,8 +15,8 @@ use Rattle.spec_model.specs.declared.relation.Relation.{Relation}
 use Rattle.spec_limits.specs.Instances.{is_one_entity, are_of_one_entity, are_sources_of_one, is_copy_instance, copy_partners, copy_pairs, rows_at, copy_instances, instances, too_many_instances}
 use Rattle.order_literals.specs.Axioms.{AreTwo, IsCopyAxiom}
 use Rattle.order_literals.specs.Said.{Said}
-use Rattle.literal_laws.proofs.Items.{in_at, range_in}
-use Rattle.literal_laws.proofs.Rows.{row_is}
+use Rattle.order_literals.proofs.Items.{in_at, range_in}
+use Rattle.order_literals.proofs.RowLaws.{row_is}
 use Rattle.order_clauses.proofs.Members.{row_within}
 use Rattle.search_logs.proofs.Bounds.{one_of_sum}
 

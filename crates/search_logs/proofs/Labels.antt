@@ -12,7 +12,7 @@ use Rattle.spec_model.specs.Spec.{Spec}
 use Rattle.spec_model.specs.declared.relation.Relation.{Relation}
 use Rattle.refutation_log.specs.declared.step.Label.{Label}
 use Rattle.refutation_log.specs.declared.step.Label.TheVariants as label
-use Rattle.log_write.specs.Writable.{IsPlace, AreFew, IsWritableLabel}
+use Rattle.refutation_log.specs.Writable.{IsPlace, AreFew, IsWritableLabel}
 use Rattle.order_literals.specs.Axioms.{IsAxiom}
 use Rattle.order_literals.specs.Said.{Said}
 use Rattle.order_clauses.proofs.GivenPairs.{entity_there}

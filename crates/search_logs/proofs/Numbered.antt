@@ -17,9 +17,9 @@ use Rattle.value_names.proofs.NameFacts.{name_at}
 use Rattle.order_literals.specs.Numbers.{Numbered, is_wanted, value_names_of, numbered, tables_from, numbers_of, IsPairOf, IsRowOf}
 use Rattle.order_literals.specs.Statements.{statements_of}
 use Rattle.order_literals.specs.declared.wanted.Wanted.{Wanted}
-use Rattle.literal_laws.proofs.Items.{IsIn}
-use Rattle.literal_laws.proofs.Members.{IsNameOf, before_in, top_in, last_in, answer_in}
-use Rattle.literal_laws.proofs.Rows.{IsLess}
+use Rattle.order_literals.proofs.Items.{IsIn}
+use Rattle.order_literals.proofs.Members.{IsNameOf, before_in, top_in, last_in, answer_in}
+use Rattle.order_literals.proofs.RowLaws.{IsLess}
 use Rattle.order_clauses.proofs.GivenPairs.{entity_there}
 
 -- ---- what statements are on

@@ -10,7 +10,7 @@ use Rattle.currency_base.specs.Lists.{OnlyOnce}
 use Rattle.currency_base.specs.Literals.{var_of}
 use Rattle.currency_base.specs.declared.ids.RowId.{RowId}
 use Rattle.currency_base.specs.declared.lit.Lit.{Lit}
-use Rattle.literal_laws.proofs.Items.{IsIn, place_of, in_at, contained, from_map}
+use Rattle.order_literals.proofs.Items.{IsIn, place_of, in_at, contained, from_map}
 
 -- ---- items and their places
 

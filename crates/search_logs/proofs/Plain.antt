@@ -16,11 +16,11 @@ use Rattle.refutation_log.specs.declared.step.Step.{Step}
 use Rattle.refutation_log.specs.declared.step.Step.TheVariants.{Axiom, OnDemand, Learn}
 use Rattle.log_form.specs.Form.{first_fault}
 use Rattle.log_trim.specs.Trimmed.{AreInPlace, hints_of}
-use Rattle.log_write.specs.Writable.{IsPlace, AreFew, IsLit, IsWritableLabel, IsWritableStep, IsWritableStatement, AreAnswered, IsWritable}
-use Rattle.text_write.specs.Written.{IsValue}
-use Rattle.literal_laws.proofs.Ascents.{Ascends}
-use Rattle.literal_laws.proofs.Items.{IsIn, in_at}
-use Rattle.literal_laws.proofs.Order.{IsBelow}
+use Rattle.refutation_log.specs.Writable.{IsPlace, AreFew, IsLit, IsWritableLabel, IsWritableStep, IsWritableStatement, AreAnswered, IsWritable}
+use Rattle.currency_base.specs.Values.{IsValue}
+use Rattle.order_literals.proofs.Ascents.{Ascends}
+use Rattle.order_literals.proofs.Items.{IsIn, in_at}
+use Rattle.order_literals.proofs.Order.{IsBelow}
 use Rattle.search_logs.proofs.Bounds.{rel_place, attr_place, row_place}
 use Rattle.search_logs.proofs.Forms.{well_formed}
 use Rattle.search_logs.proofs.Numbered.{IsOnRows}

@@ -16,21 +16,22 @@ use Rattle.refutation_log.specs.declared.statement.Statement.TheVariants as says
 use Rattle.refutation_log.specs.declared.step.Label.{Label}
 use Rattle.refutation_log.specs.declared.step.Step.{Step}
 use Rattle.refutation_log.specs.declared.step.Step.TheVariants.{Axiom, OnDemand, Learn}
-use Rattle.log_checker.specs.Accepted.{IsAcceptedStep, IsAccepted, HasFewHints, IsNumbered}
+use Rattle.log_checker.specs.Accepted.{IsAcceptedStep, IsAccepted}
+use Rattle.refutation_log.specs.Numbered.{HasFewHints, IsNumbered}
 use Rattle.log_axioms.specs.Axioms.{is_axiom}
 use Rattle.log_axioms.specs.Posed.{Posed, posed_by}
 use Rattle.log_trim.specs.Trimmed.{AreInPlace, hints_of}
-use Rattle.log_write.specs.Writable.{AreAnswered, AreFew, IsWritableLabel}
-use Rattle.text_write.specs.Written.{IsValue}
+use Rattle.refutation_log.specs.Writable.{AreAnswered, AreFew, IsWritableLabel}
+use Rattle.currency_base.specs.Values.{IsValue}
 use Rattle.order_limits.specs.Few.{StatementsAreFew}
 use Rattle.order_literals.specs.Numbers.{numbers_of}
 use Rattle.order_literals.specs.declared.wanted.Wanted.{Wanted}
 use Rattle.axiom_agreement.specs.Agreement.{StepsAreAxioms}
-use Rattle.literal_laws.proofs.Ascents.{Ascends}
-use Rattle.literal_laws.proofs.Items.{IsIn, in_at}
-use Rattle.literal_laws.proofs.Members.{in_answer}
-use Rattle.literal_laws.proofs.Order.{IsBelow, statements_ascend}
-use Rattle.literal_laws.proofs.Saying.{says_within}
+use Rattle.order_literals.proofs.Ascents.{Ascends}
+use Rattle.order_literals.proofs.Items.{IsIn, in_at}
+use Rattle.order_literals.proofs.Members.{in_answer}
+use Rattle.order_literals.proofs.Order.{IsBelow, statements_ascend}
+use Rattle.order_literals.proofs.Sayings.{says_within}
 use Rattle.search_logs.specs.SearchLogs.{variables, IsAxiomTaken, IsSearchStep, AreSearchSteps, IsSearchLog, IsWithin, HasFewSteps}
 use Rattle.search_logs.proofs.Answered.{answered}
 use Rattle.search_logs.proofs.Labels.{writable_label}

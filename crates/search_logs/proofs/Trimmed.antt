@@ -20,11 +20,11 @@ use Rattle.log_trim.specs.declared.trimming.Trimmed.{Trimmed}
 use Rattle.log_trim.proofs.NewPlaces.{changed_from, kept_at, kept_from, rank_lt, rank_same, steps_keep}
 use Rattle.log_trim.proofs.Ranks.{behind, rank_le}
 use Rattle.log_trim.proofs.RenumberedLits.{renumbered_same}
-use Rattle.log_write.specs.Writable.{AreFew}
-use Rattle.text_write.specs.Written.{IsValue}
-use Rattle.literal_laws.proofs.Ascents.{Ascends, Precedes}
-use Rattle.literal_laws.proofs.Items.{IsIn, contained, from_map, in_at, in_contained, in_map, place_of}
-use Rattle.literal_laws.proofs.Order.{IsBelow}
+use Rattle.refutation_log.specs.Writable.{AreFew}
+use Rattle.currency_base.specs.Values.{IsValue}
+use Rattle.order_literals.proofs.Ascents.{Ascends, Precedes}
+use Rattle.order_literals.proofs.Items.{IsIn, contained, from_map, in_at, in_contained, in_map, place_of}
+use Rattle.order_literals.proofs.Order.{IsBelow}
 use Rattle.order_clauses.proofs.Reading.{all_at}
 use Rattle.search_logs.proofs.Answered.{answer_less, answered}
 use Rattle.search_logs.proofs.Numbered.{IsOnRows}

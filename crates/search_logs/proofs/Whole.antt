@@ -4,8 +4,8 @@ use Rattle.std.proofs.lemmas.List.Elements.{All-nil}
 use Rattle.log_trim.proofs.StaysInPlace.{stays_in_place}
 use Rattle.currency_base.specs.declared.value.Value.{Value}
 use Rattle.log_axioms.specs.Posed.{Posed}
-use Rattle.literal_laws.proofs.Items.{IsIn, contained, in_at}
-use Rattle.literal_laws.proofs.Members.{in_answer}
+use Rattle.order_literals.proofs.Items.{IsIn, contained, in_at}
+use Rattle.order_literals.proofs.Members.{in_answer}
 use Rattle.order_literals.specs.Numbers.{numbers_of}
 use Rattle.order_literals.specs.declared.wanted.Wanted.{Wanted}
 use Rattle.refutation_log.specs.declared.log.Log.{Log}

@@ -4,12 +4,13 @@ use Rattle.spec_model.specs.Completion.{Rankings, IsCompletion}
 use Rattle.spec_model.specs.Spec.{Spec}
 use Rattle.refutation_log.specs.declared.log.Log.{Log}
 use Rattle.log_axioms.specs.Posed.{Posed}
-use Rattle.log_checker.specs.Accepted.{IsAccepted, IsNumbered}
+use Rattle.log_checker.specs.Accepted.{IsAccepted}
+use Rattle.refutation_log.specs.Numbered.{IsNumbered}
 use Rattle.log_form.specs.Form.{first_fault}
 use Rattle.log_trim.specs.Trimmed.{IsTrimmed, AreInPlace, Reaches}
 use Rattle.log_trim.specs.declared.trimming.Trimmed.{Trimmed}
-use Rattle.log_write.specs.Writable.{IsWritable}
-use Rattle.report_write.specs.Writable.{IsWritableCompletion}
+use Rattle.refutation_log.specs.Writable.{IsWritable}
+use Rattle.report_model.specs.Writable.{IsWritableCompletion}
 use Rattle.order_literals.specs.declared.wanted.Wanted.{Wanted}
 use Rattle.search_logs.specs.SearchLogs.{IsSearchLog, IsWithin, HasFewSteps, variables}
 

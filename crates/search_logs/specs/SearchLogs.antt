@@ -7,7 +7,7 @@ use Rattle.currency_base.specs.declared.lit.Lit.{Lit}
 use Rattle.currency_base.specs.declared.value.Value.{Value}
 use Rattle.log_axioms.specs.Axioms.{is_axiom}
 use Rattle.log_axioms.specs.Posed.{Posed}
-use Rattle.log_write.specs.Writable.{AreFew, IsWritableLabel}
+use Rattle.refutation_log.specs.Writable.{AreFew, IsWritableLabel}
 use Rattle.query_model.specs.Answers.{AreAscending}
 use Rattle.spec_limits.specs.Instances.{too_many_instances}
 use Rattle.spec_limits.specs.Limits.{exceeded, too_many_variables}
@@ -21,7 +21,7 @@ use Rattle.refutation_log.specs.declared.step.Label.{Label}
 use Rattle.refutation_log.specs.declared.step.Label.TheVariants as label
 use Rattle.refutation_log.specs.declared.step.Step.{Step}
 use Rattle.refutation_log.specs.declared.step.Step.TheVariants as step
-use Rattle.text_write.specs.Written.{IsValue}
+use Rattle.currency_base.specs.Values.{IsValue}
 use Rattle.order_literals.specs.Numbers.{numbers_of}
 use Rattle.order_literals.specs.Statements.{statements_of}
 use Rattle.order_literals.specs.declared.wanted.Wanted.{Wanted}

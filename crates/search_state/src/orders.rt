@@ -13,7 +13,7 @@ use search_trail::Trail;
 use watch_propagate::truth;
 
 /// How a clause stands under a trail.
-#[derive(Clone, Copy, Debug, PartialEq, Eq)]
+#[derive(Clone, Copy, PartialEq, Eq)]
 pub(crate) enum Standing {
     /// Its first literal is true, or its first two are open.
     Rests,

@@ -14,7 +14,7 @@ use std::marker::Model;
 /// The literals that are true, in the order in which they came: each was assumed, and so opened a level, or was
 /// implied by a clause. Contracts see the entries, where the levels begin, and how many of them have been gone
 /// through. Only `new` takes memory.
-#[derive(Debug, Drop)]
+#[derive(Drop)]
 pub struct Trail {
     values: Values,
     lits: Vec<Lit>,

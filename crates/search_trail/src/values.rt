@@ -7,7 +7,7 @@ use std::marker::Model;
 
 /// The value of each variable, if it has one. Contracts see the list of them, in the order of the variables. A
 /// variable takes one byte.
-#[derive(Debug, Drop)]
+#[derive(Drop)]
 pub struct Values {
     given: Vec<Option<bool>>,
     // the first variable that has no value, or how many there are

@@ -12,7 +12,7 @@ use std::alloc::Global;
 
 /// Picks the free variable that was seen most in conflicts, late ones more than early ones, with the value that it had
 /// when it was last freed. A variable that it was not fitted for counts as never seen.
-#[derive(Debug, Drop)]
+#[derive(Drop)]
 pub struct Activity {
     // a variable is present from when it is freed until it is met at the root with a value
     tree: CountTree,

@@ -9,7 +9,7 @@ use search_trail::Values;
 use std::alloc::Global;
 
 /// Picks the first free variable, with its value in the first guess at a model. Takes one byte for each variable.
-#[derive(Debug, Drop)]
+#[derive(Drop)]
 pub struct FirstFree {
     start: Vec<bool>,
 }

@@ -11,7 +11,7 @@ use std::alloc::Global;
 
 /// Picks the first free variable, with the value that it had when it was last freed, at first that of the first guess
 /// at a model. Takes one byte for each variable.
-#[derive(Debug, Drop)]
+#[derive(Drop)]
 pub struct KeepPhase {
     phases: Vec<bool>,
 }

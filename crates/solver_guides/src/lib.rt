@@ -15,6 +15,3 @@ pub use guide::Guide;
 pub use keep_phase::KeepPhase;
 pub use ring::Guides;
 pub use seeded::Seeded;
-
-#[cfg(test)]
-mod tests;

@@ -9,7 +9,7 @@ use std::alloc::Global;
 
 /// Picks any variable with any sign, by numbers that follow from a first one: a linear congruential generator with the
 /// multiplier and the increment of Knuth's MMIX. The same number gives the same picks.
-#[derive(Debug, Drop)]
+#[derive(Drop)]
 pub struct Seeded {
     state: u64,
 }
@@ -56,7 +56,7 @@ impl Guide for Seeded {
 }
 
 // The state that follows a state.
-pub(crate) fn next_state(state: u64) -> u64
+fn next_state(state: u64) -> u64
     ensures { result ≡ next_state state }
 {
     state

@@ -13,7 +13,7 @@ use Rattle.spec_names.specs.NameLists.{NameLists}
 use Rattle.spec_names.specs.Names.{place_of, all_names_of}
 use Rattle.spec_syntax.specs.declared.trees.OrderingTree.{OrderingTree}
 use Rattle.order_bind.specs.Orders.{giving_pairs, ordered, ordered_at, ordered_pairs}
-use Rattle.orders_bind.specs.Orders.{IsGivenMore as MorePairs}
+use Rattle.order_bind.specs.TableOrders.{IsGivenMore as MorePairs}
 use Rattle.spec_limits.specs.Limits.{exceeded, rows_together}
 use Rattle.spec_limits.proofs.GivenPairs.{exceeded_given, rows_together_given}
 use Rattle.bound_spec.specs.Growth.{limited, unless_above}

@@ -12,7 +12,7 @@ use Rattle.relation_bind.specs.Relations.{IsDeclared}
 use Rattle.text_grammar.specs.declared.named.Named.{Named}
 use Rattle.copy_functions.specs.Copies.{CopyFunction}
 use Rattle.copy_syntax.specs.declared.trees.CopyTree.{CopyTree}
-use Rattle.orders_bind.specs.Orders.{IsOrdersMade}
+use Rattle.order_bind.specs.TableOrders.{IsOrdersMade}
 use Rattle.copy_bind.specs.Made.{IsCopyMade}
 use Rattle.bound_spec.specs.Growth.{limited, limited_at_last, nothing, relation_names, with_relation, with_copy}
 use Rattle.spec_bind.specs.Bound.{IsMade, IsStep, IsBound, IsSpecBound, with_relations}

@@ -11,7 +11,7 @@ use Rattle.bound_spec.specs.Growth.{limited, relation_names}
 use Rattle.bind_faults.specs.declared.fault.BindFault.TheVariants.{Refused, CopyDiffers, Limit, ReadFault, NoMemory}
 use Rattle.text_grammar.specs.declared.named.Named.{Named}
 use Rattle.order_bind.specs.Orders.{Steps}
-use Rattle.orders_bind.specs.Orders.{IsOrdersMade}
+use Rattle.order_bind.specs.TableOrders.{IsOrdersMade}
 use Rattle.spec_limits.specs.Limits.{exceeded}
 use Rattle.spec_bind.specs.Bound.{IsLimited, IsStep, IsTableMade, with_relations}
 use Rattle.spec_bind.proofs.Given.{IsGivenMore, given_limited}

@@ -13,7 +13,7 @@ use Rattle.rule_syntax.specs.declared.trees.RuleTree.{RuleTree}
 use Rattle.relation_bind.specs.Declarations.{Declared}
 use Rattle.relation_bind.specs.Relations.{IsDeclared, IsTableOf}
 use Rattle.order_bind.specs.Orders.{ordered}
-use Rattle.orders_bind.specs.Orders.{IsOrdersMade, IsOrdersTable}
+use Rattle.order_bind.specs.TableOrders.{IsOrdersMade, IsOrdersTable}
 use Rattle.rule_bind.specs.Ruled.{ruled}
 use Rattle.copy_bind.specs.Made.{IsCopyMade, IsCopyTable}
 use Rattle.bound_spec.specs.Growth.{nothing, relation_names, with_relation, with_rule, with_copy, limited, limited_at_last}

@@ -5,7 +5,7 @@ ghost use Rattle.bind_faults.specs.declared.fault.BindFault.{BindFault};
 ghost use Rattle.spec_bind.specs.Bound.{IsSpecBound};
 
 use copy_bind::one_copy;
-use orders_bind::one_orders;
+use order_bind::tables::one_orders;
 use relation_bind::one_declaration;
 
 /// A law: documents and a tree have one outcome at most.

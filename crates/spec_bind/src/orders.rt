@@ -1,13 +1,13 @@
 ghost use Rattle.std.specs.Prelude.{◌≡◌, ◌≤◌, ℕ, List, IfSome};
 ghost use Rattle.currency_edge.specs.Fault.{Rose};
 ghost use Rattle.bind_faults.specs.Faults.{IsSettled, IsReadFault, IsReadFaultOf};
-ghost use Rattle.orders_bind.specs.Orders.{IsOrdersTable};
+ghost use Rattle.order_bind.specs.TableOrders.{IsOrdersTable};
 ghost use Rattle.spec_bind.specs.Bound.{IsTableMade, IsLimited};
 
 use bind_faults::BindFault;
 use bound_spec::Bound;
 use currency_edge::Shelf;
-use orders_bind::bind_orders;
+use order_bind::tables::bind_orders;
 use std::alloc::Global;
 use text_grammar::Named;
 

@@ -77,34 +77,3 @@ pub fn entity_pairs(alloc: Global, rows: &[Row], entities: usize) -> Result<u64,
     }
     Ok(pairs)
 }
-
-#[cfg(test)]
-mod tests {
-    use super::*;
-    use currency_base::{Name, Tuple};
-    use std::test::Fail;
-
-    fn row(alloc: Global, ent: u32) -> Result<Row, NoMemory>
-        ensures { IfOk result (λ row. row.entity.0 ≡ ent) }
-    {
-        Ok(Row {
-            name: Name::from_bytes(alloc, "r".as_bytes())?,
-            entity: EntId(ent),
-            values: Tuple::new(alloc),
-        })
-    }
-
-    #[test]
-    fn pairs_of_one_entity_are_counted(rt: HostRuntime) -> Result<(), Fail> {
-        let alloc = rt.alloc();
-        let rows = [
-            row(alloc, 0)?,
-            row(alloc, 1)?,
-            row(alloc, 0)?,
-            row(alloc, 0)?,
-        ];
-        assert_eq!(rt; entity_pairs(alloc, &rows, 2)?, 3);
-        assert!(rt; !is_crowded(alloc, &rows, 2)?);
-        Ok(())
-    }
-}

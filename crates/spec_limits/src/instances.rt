@@ -114,17 +114,3 @@ fn left_by_relation(mut left: u32, attrs: u64, entities: &[RowList]) -> Option<u
     }
     Some(left)
 }
-
-#[cfg(test)]
-mod tests {
-    use super::*;
-    use std::test::Fail;
-
-    #[test]
-    fn no_relation_has_no_instances(rt: HostRuntime) -> Result<(), Fail> {
-        let alloc = rt.alloc();
-        let spec = Specification::new(alloc);
-        assert_eq!(rt; limit_of_instances(alloc, &spec)?, None);
-        Ok(())
-    }
-}

@@ -39,17 +39,3 @@ fn has_too_many(alloc: Global, relations: &[Relation]) -> Result<bool, NoMemory>
     }
     Ok(false)
 }
-
-#[cfg(test)]
-mod tests {
-    use super::*;
-    use std::test::Fail;
-
-    #[test]
-    fn no_relation_has_no_variables(rt: HostRuntime) -> Result<(), Fail> {
-        let alloc = rt.alloc();
-        let spec = Specification::new(alloc);
-        assert_eq!(rt; limit_of_variables(alloc, &spec)?, None);
-        Ok(())
-    }
-}

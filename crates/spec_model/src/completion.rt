@@ -16,7 +16,7 @@ pub type RelationRankings = ItemList<AttributeRankings>;
 
 /// An order of each entity's rows, attribute by attribute. Contracts see it as a list per relation, of
 /// a list per attribute, of a list of rows per entity, the oldest first.
-#[derive(Debug, Drop)]
+#[derive(Drop)]
 pub struct Completion {
     alloc: Global,
     rankings: ItemList<RelationRankings>,

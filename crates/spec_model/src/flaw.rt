@@ -2,7 +2,7 @@ use currency_base::{AttrId, CopyId, EntId, Pair, RelId, RowId, RuleId};
 use denial_rules::Binding;
 
 /// What a completion that is not consistent fails.
-#[derive(Debug, Drop, PartialEq)]
+#[derive(Drop)]
 pub enum Flaw {
     /// The list of an attribute and an entity of a relation is no ranking of the entity's rows.
     NotARanking {

@@ -3,7 +3,7 @@ use query_model::Query;
 
 /// A pair of rows that is asked about: is the value of the earlier row the older one, in the pair's
 /// attribute of this relation?
-#[derive(Clone, Copy, Debug, PartialEq, Eq)]
+#[derive(Clone, Copy, PartialEq, Eq)]
 pub struct Asked {
     pub rel: RelId,
     pub pair: Pair,
@@ -16,7 +16,7 @@ pub type AskedList = ItemList<Asked>;
 pub type RelList = ItemList<RelId>;
 
 /// What is asked of a specification.
-#[derive(Debug, Drop, PartialEq)]
+#[derive(Drop)]
 pub enum Question {
     /// Is there a consistent completion?
     Consistent,

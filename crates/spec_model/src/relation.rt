@@ -2,7 +2,7 @@ use currency_base::{ItemList, Kind, Name, NameList, Rows};
 use partial_orders::Pairs;
 
 /// An attribute of a relation: its name, and the kind of its values.
-#[derive(Debug, Drop)]
+#[derive(Drop)]
 pub struct Attr {
     pub name: Name,
     pub kind: Kind,

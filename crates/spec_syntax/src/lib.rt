@@ -7,8 +7,6 @@ mod ordering;
 mod read;
 mod relation;
 mod statement;
-#[cfg(test)]
-mod tests;
 mod trees;
 
 pub use copy_syntax::{CopyTree, Mappings};

@@ -4,13 +4,13 @@ use rule_syntax::RuleTree;
 use text_grammar::{Named, NamedPairList};
 
 /// A specification: its statements, in the order of the text.
-#[derive(Debug, Drop, PartialEq)]
+#[derive(Drop)]
 pub struct SpecTree {
     pub statements: StatementTreeList,
 }
 
 /// A statement of a specification.
-#[derive(Debug, Drop, PartialEq)]
+#[derive(Drop)]
 pub enum StatementTree {
     /// A relation, the document of its rows, the columns of the rows' names, where there is one, and of
     /// the entities' names, and its attributes in order.
@@ -38,7 +38,7 @@ pub enum StatementTree {
 pub type StatementTreeList = ItemList<StatementTree>;
 
 /// An attribute of a relation, and what kind of values it holds.
-#[derive(Debug, Drop, PartialEq)]
+#[derive(Drop)]
 pub struct AttrTree {
     pub name: Named,
     pub kind: Kind,
@@ -48,7 +48,7 @@ pub struct AttrTree {
 pub type AttrTreeList = ItemList<AttrTree>;
 
 /// Pairs of rows of one attribute of a relation, the earlier row first.
-#[derive(Debug, Drop, PartialEq)]
+#[derive(Drop)]
 pub struct OrderingTree {
     pub relation: Named,
     pub attr: Named,

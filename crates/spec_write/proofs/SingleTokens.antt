@@ -26,7 +26,8 @@ use Rattle.rule_syntax.specs.Grammar.{SpellsConst, SpellsVariable, cmp_named}
 use Rattle.spec_syntax.specs.Grammar.{kind_named}
 use Rattle.text_write.specs.Pieces.{Piece, piece_of, symbol_piece, word_piece}
 use Rattle.text_write.specs.Spelling.{name_piece, string_piece, value_piece}
-use Rattle.text_write.specs.Written.{AreWordBytes, HasTokens, IsPiece, IsValue, symbols}
+use Rattle.text_write.specs.Written.{AreWordBytes, HasTokens, IsPiece, symbols}
+use Rattle.currency_base.specs.Values.{IsValue}
 use Rattle.spec_write.specs.Pieces.{cmp_pieces, cmp_text, const_pieces, document_pieces, kind_pieces, kind_text, name_pieces, symbol, variable_pieces, word}
 use Rattle.spec_write.specs.Unlined.{unlined_const, unlined_name}
 use Rattle.spec_write.proofs.Rewritten.{IsKept, IsRewritten}

@@ -9,8 +9,6 @@ mod ordering;
 mod relation;
 mod rule;
 mod statement;
-#[cfg(test)]
-mod tests;
 
 pub use laws::written_is_read;
 pub use statement::write_spec;

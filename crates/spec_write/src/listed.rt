@@ -20,7 +20,7 @@ pub trait Written {
 }
 
 /// What stands between two items of a list.
-#[derive(Clone, Copy, Debug, PartialEq, Eq)]
+#[derive(Clone, Copy, PartialEq, Eq)]
 pub enum Separator {
     Comma,
     /// The word `and`.

@@ -11,8 +11,6 @@ mod names;
 mod read;
 mod refusal;
 mod terms;
-#[cfg(test)]
-mod tests;
 mod text;
 mod tokens_at;
 

@@ -1,7 +1,7 @@
 use currency_base::{ItemList, Name, Value};
 
 /// A name in a text, with the line of its token.
-#[derive(Debug, Drop, PartialEq)]
+#[derive(Drop)]
 pub struct Named {
     pub name: Name,
     pub line: u32,
@@ -11,7 +11,7 @@ pub struct Named {
 pub type NamedList = ItemList<Named>;
 
 /// Two names of one thing, in the order of the text.
-#[derive(Debug, Drop, PartialEq)]
+#[derive(Drop)]
 pub struct NamedPair {
     pub first: Named,
     pub second: Named,
@@ -21,7 +21,7 @@ pub struct NamedPair {
 pub type NamedPairList = ItemList<NamedPair>;
 
 /// A constant in a text, with the line of its token.
-#[derive(Debug, Drop, PartialEq)]
+#[derive(Drop)]
 pub struct Const {
     pub value: Value,
     pub line: u32,

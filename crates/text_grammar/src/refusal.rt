@@ -3,7 +3,7 @@ use text_tokens::Token;
 
 /// Why reading stopped. What is left begins with the refused token, and is empty where the text ends
 /// too early.
-#[derive(Clone, Copy, Debug)]
+#[derive(Clone, Copy)]
 pub enum Refusal<'a> {
     /// No text of the grammar goes on with that token.
     Syntax(&'a [Token<'a>]),

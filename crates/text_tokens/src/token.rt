@@ -1,7 +1,7 @@
 use currency_base::ItemList;
 
 /// What a token is, as the languages' grammars name it.
-#[derive(Clone, Copy, Debug, PartialEq, Eq)]
+#[derive(Clone, Copy, PartialEq, Eq)]
 pub enum TokenKind {
     /// A longest run of ASCII letters, digits and `_`.
     Word,
@@ -17,7 +17,7 @@ pub enum TokenKind {
 
 /// A token of a text: its kind, its bytes, the place of the first of them and the line of that place.
 /// Lines are counted from 1, and the count stops at its last value.
-#[derive(Clone, Copy, Debug)]
+#[derive(Clone, Copy)]
 pub struct Token<'a> {
     pub kind: TokenKind,
     pub text: &'a [u8],

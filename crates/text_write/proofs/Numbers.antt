@@ -11,7 +11,8 @@ use Rattle.std.proofs.lemmas.Str.Parse.{IsNumeralModel, digit_at, numerals_by_va
 use Rattle.currency_base.specs.Number.{int_of, is_numeral}
 use Rattle.currency_base.specs.declared.value.Value.TheVariants as value
 use Rattle.text_tokens.specs.Tokens.{is_word_byte}
-use Rattle.text_write.specs.Written.{AreWordBytes, IsValue}
+use Rattle.text_write.specs.Written.{AreWordBytes}
+use Rattle.currency_base.specs.Values.{IsValue}
 
 -- the digits and their number, in std's words
 own : IsNumeralModel (λ ds. all_ascii_digits ds ≡ true) (digits_value 10)

@@ -12,7 +12,8 @@ use Rattle.text_tokens.specs.declared.token.TokenKind.TheVariants.{Word, Text}
 use Rattle.text_grammar.specs.Words.{as_text, constant, int_value, is_reserved, name_in, named, on_line, quoted, string_in, text_value, value_in, value_on_line}
 use Rattle.text_write.specs.Pieces.{Piece, piece_of}
 use Rattle.text_write.specs.Spelling.{is_plain, name_piece, quote, string_piece, value_piece}
-use Rattle.text_write.specs.Written.{IsPiece, IsValue}
+use Rattle.text_write.specs.Written.{IsPiece}
+use Rattle.currency_base.specs.Values.{IsValue}
 use Rattle.text_write.proofs.Quotes.{undoubled}
 use Rattle.text_write.proofs.Numbers.{decimal_is_word, int_of_negative, int_of_positive, negative_within, positive_within}
 

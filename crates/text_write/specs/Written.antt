@@ -1,8 +1,6 @@
 -- What the tokens of a written text are.
-use Rattle.std.specs.Prelude.{◌≡◌, ◌^◌, ◌<◌, ◌≤ℤ◌, ◌<ℤ◌, ℕ, pos, neg_ℤ, true, List, ◌∷◌, length, map, Contains, IsUtf8, codes, []}
+use Rattle.std.specs.Prelude.{◌≡◌, ◌<◌, ℕ, true, List, ◌∷◌, length, map, Contains, IsUtf8, codes, []}
 use Rattle.std.specs.List.{list_all}
-use Rattle.currency_base.specs.declared.value.Value.{Value}
-use Rattle.currency_base.specs.declared.value.Value.TheVariants as value
 use Rattle.text_tokens.specs.Lexeme.{Lexeme}
 use Rattle.text_tokens.specs.Tokens.{TokensOf, is_word_byte}
 use Rattle.text_tokens.specs.declared.token.TokenKind.{TokenKind}
@@ -50,8 +48,3 @@ pub record HasTokens (pieces : List Piece) : Type 0 where
   pub lexemes : List Lexeme
   pub tokens : TokensOf (text_of pieces) lexemes
   pub same : map piece_of lexemes ≡ pieces
-
--- a value of the program: a text is UTF-8, and an int has 64 signed bits
-abbrev pub IsValue : Value → Type 0
-IsValue (value.Text bytes) = IsUtf8 bytes
-IsValue (value.Int n) = (neg_ℤ (pos (2 ^ 63)) ≤ℤ n) × (n <ℤ pos (2 ^ 63))

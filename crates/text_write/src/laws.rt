@@ -4,7 +4,8 @@ ghost use Rattle.text_tokens.specs.Lexeme.{Lexeme};
 ghost use Rattle.text_grammar.specs.Words.{constant, named, on_line, quoted, value_on_line};
 ghost use Rattle.text_write.specs.Pieces.{Piece, piece_of};
 ghost use Rattle.text_write.specs.Spelling.{name_piece, string_piece, value_piece};
-ghost use Rattle.text_write.specs.Written.{HasTokens, IsPiece, IsValue};
+ghost use Rattle.text_write.specs.Written.{HasTokens, IsPiece};
+ghost use Rattle.currency_base.specs.Values.{IsValue};
 
 /// A law: the tokens of the text of whole pieces are just these pieces.
 pub fn pieces_are_tokens()

@@ -7,8 +7,6 @@
 mod laws;
 mod spacing;
 mod spelling;
-#[cfg(test)]
-mod tests;
 mod writer;
 
 pub use laws::{

@@ -8,8 +8,6 @@ mod cell;
 mod documents;
 mod rows;
 mod table;
-#[cfg(test)]
-mod tests;
 mod text;
 
 pub use documents::{rows_of, trial_documents};

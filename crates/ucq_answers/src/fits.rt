@@ -112,5 +112,27 @@ fn stands_in(atoms: &[Atom], var: u32) -> bool
 fn stands_at(atom: &Atom, var: u32) -> bool
     ensures { IsTrue result ↔ Contains atom.now.terms (Var var) }
 {
-    atom.terms.as_slice().contains(&Term::Var(var))
+    is_among(atom.terms.as_slice(), var)
+}
+
+// Is a variable one of these terms?
+fn is_among(terms: &[Term], var: u32) -> bool
+    ensures { IsTrue result ↔ Contains terms.now (Var var) }
+{
+    for term in terms {
+        if is_variable(term, var) {
+            return true;
+        }
+    }
+    false
+}
+
+// Is a term this variable?
+fn is_variable(term: &Term, var: u32) -> bool
+    ensures { IsTrue result ↔ (term.now ≡ Var var) }
+{
+    match term {
+        Term::Var(other) => *other == var,
+        _ => false,
+    }
 }

@@ -17,6 +17,3 @@ mod search;
 pub use fits::is_query;
 pub use indexed::IndexedInstance;
 pub use laws::laws_of_answers;
-
-#[cfg(test)]
-mod tests;

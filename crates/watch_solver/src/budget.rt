@@ -1,7 +1,7 @@
 ghost use Rattle.std.specs.Prelude.{◌≡◌, ◌+◌, ◌<◌, true, false};
 
 /// How many counted steps may still be added. Contracts see the number.
-#[derive(Debug, Drop)]
+#[derive(Drop)]
 pub struct Budget {
     left: u64,
 }

@@ -6,11 +6,11 @@ ghost use Rattle.watch_solver.specs.Underway.{HasCounted, IsAnswer, IsComplete, 
 
 use crate::goal::goal_level;
 use crate::model::truths_of;
-use crate::restarts::Restarts;
 use crate::search::{Stop, search};
 use crate::{Budget, Found};
 use currency_base::{Lit, NoMemory};
 use refutation_log::Log;
+use search_restarts::Restarts;
 use search_state::State;
 use solver_guides::Guides;
 use std::alloc::Global;

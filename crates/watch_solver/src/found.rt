@@ -1,7 +1,7 @@
 use currency_base::Assignment;
 
 /// What a decision came to.
-#[derive(Debug, Drop)]
+#[derive(Drop)]
 pub enum Found {
     /// A truth for each variable, by which each clause is true and the goal false.
     Model(Assignment),

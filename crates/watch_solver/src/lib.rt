@@ -7,7 +7,6 @@ mod found;
 mod goal;
 mod laws;
 mod model;
-mod restarts;
 mod search;
 mod solver;
 
@@ -15,6 +14,3 @@ pub use budget::Budget;
 pub use found::Found;
 pub use laws::counted_stay_new;
 pub use solver::Solver;
-
-#[cfg(test)]
-mod tests;

@@ -8,7 +8,7 @@ use search_trail::Trail;
 use solver_guides::Guides;
 
 /// Where a search stops.
-#[derive(Debug, Drop)]
+#[derive(Drop)]
 pub(crate) enum Stop {
     /// Each variable has a value.
     Complete,
@@ -19,7 +19,7 @@ pub(crate) enum Stop {
 }
 
 /// What comes next where unit propagation is at rest.
-#[derive(Debug, Drop)]
+#[derive(Drop)]
 pub(crate) enum Next {
     /// Each variable has a value.
     Complete,

@@ -105,7 +105,7 @@ fn budgets_are_spent(rt: HostRuntime) -> Result<(), Fail> {
 fn refusals_are_told(rt: HostRuntime) -> Result<(), Fail> {
     let refused = "words refused\n";
     let budget = |number| ["currency", "ask", "s", "q", "--budget", number];
-    for number in ["0", "10000001", "x", "+5", "007"] {
+    for number in ["0", "10000001", "18446744073709551617", "x", "+5", "007"] {
         expect(&rt, first(), &budget(number), 2, refused)?;
     }
     for words in [
@@ -132,7 +132,13 @@ fn refusals_are_told(rt: HostRuntime) -> Result<(), Fail> {
     ] {
         expect(&rt, with(2, question.as_bytes()), &ASK, 5, refusal)?;
     }
-    expect(&rt, with(2, b"\xFF"), &ASK, 5, "error E01 q 1\n")?;
+    expect(
+        &rt,
+        with(2, b"consistent;\n\n\xC0"),
+        &ASK,
+        5,
+        "error E01 q 3\n",
+    )?;
     expect(
         &rt,
         with(1, b"id,eid,a\nr1,x,9223372036854775808\n"),

@@ -42,10 +42,15 @@ fn each_guide_leads_to_the_verdict(rt: HostRuntime) -> Result<(), Fail> {
     for case in EACH {
         let mut all = four(rt.alloc())?;
         expect_verdict(&rt, case, &["currency", "ask", "s", "q"], &mut all)?;
+        // none of them was dropped
+        assert_eq!(rt; all.len(), 4);
         for guide in ["1", "2", "3", "4"] {
             let mut ring = four(rt.alloc())?;
-            let words = ["currency", "ask", "s", "q", "--guide", guide];
+            let words = [
+                "currency", "ask", "s", "--guide", guide, "q", "--budget", "10000000",
+            ];
             expect_verdict(&rt, case, &words, &mut ring)?;
+            assert_eq!(rt; ring.len(), 1);
         }
     }
     Ok(())

@@ -18,3 +18,5 @@ mod sources;
 mod spelled;
 #[cfg(test)]
 mod stated;
+#[cfg(test)]
+mod written;

@@ -21,7 +21,14 @@ const WIDE: Case<'static> = Case {
     verdict: "consistent",
 };
 
-const ANSWERS: [Question<'static>; 25] = [
+/// Two rows of two entities, of which one has a value twice.
+const TWINS: Case<'static> = Case {
+    spec: "relation R from \"n.csv\" row id entity eid (a: int, b: int);\n",
+    tables: &[("n.csv", b"id,eid,a,b\nr1,x,1,1\nr2,y,1,2\n")],
+    verdict: "consistent",
+};
+
+const ANSWERS: [Question<'static>; 27] = [
     Question {
         case: STAFF,
         question: "answers (d, x, y) where Dept(d, x, _) and Emp(e, _, x, y, _);\n",
@@ -133,6 +140,19 @@ const ANSWERS: [Question<'static>; 25] = [
         kind: "answers",
         verdict: "answers;\nanswer (\"x\");\ncompletion",
     },
+    Question {
+        case: FREE,
+        question: "answers (e) where R(e, x) and -5 < x and x != 9 and x <= 3;\n",
+        kind: "answers",
+        verdict: "answers;\nanswer (\"x\");\ncompletion",
+    },
+    // a variable that stands twice in an atom
+    Question {
+        case: TWINS,
+        question: "answers (e, v) where R(e, v, v);\n",
+        kind: "answers",
+        verdict: "answers;\nanswer (\"x\", 1);\ncompletion",
+    },
     // a variable is another one in another disjunct, and may be of another kind
     Question {
         case: FREE,
@@ -189,8 +209,8 @@ fn answers_are_decided(rt: HostRuntime) -> Result<(), Fail> {
     Ok(())
 }
 
-// A question ends with this status and refusal.
-fn expect_refused(
+/// A question ends with this status and refusal.
+pub(crate) fn expect_refused(
     rt: &(impl Abort + AllocGlobal),
     case: Case<'_>,
     question: &str,

@@ -295,6 +295,27 @@ fn copies_are_refused(rt: HostRuntime) -> Result<(), Fail> {
             text,
         )?;
     }
+    // Numbers are told in their own spelling.
+    for (s, t, text) in [
+        (
+            "id,eid,a\ns1,y,-0\n",
+            "id,eid,b\nt1,x,007\n",
+            "error E13 s 3 7 0\n",
+        ),
+        (
+            "id,eid,a\ns1,y,9223372036854775807\n",
+            "id,eid,b\nt1,x,-9223372036854775808\n",
+            "error E13 s 3 -9223372036854775808 9223372036854775807\n",
+        ),
+    ] {
+        let copied = Copied {
+            statements: "copy c into T (b) from S (a): t1 from s1;\n",
+            s,
+            t,
+            table: "",
+        };
+        expect_end(&rt, copied, "", 5, text)?;
+    }
     Ok(())
 }
 

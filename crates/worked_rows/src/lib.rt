@@ -8,6 +8,10 @@ mod documents;
 #[cfg(test)]
 mod hostile;
 #[cfg(test)]
+mod outside;
+#[cfg(test)]
 mod rules;
+#[cfg(test)]
+mod unread;
 #[cfg(test)]
 mod verify;

@@ -199,6 +199,22 @@ fn documents_are_refused(rt: HostRuntime) -> Result<(), Fail> {
             "error E08 r.csv 2\n",
         ),
         ("id,eid,a\nr1,x,1\nr1,x,2\n", "error E09 r.csv 3\n"),
+        ("\u{feff}", "error E07 r.csv 1\n"),
+        // a record of one field too many after an empty line, and a header with one name twice
+        ("id,eid,a\n\nr1,x,1,1\n", "error E06 r.csv 2\n"),
+        ("id,eid,a,eid\nr1,x,1,y\n", "error E07 r.csv 1\n"),
+        ("id,eid,b\nr1,x\n", "error E06 r.csv 2\n"),
+        // what is no number
+        ("id,eid,a\nr1,x,\nr2,y,+1\n", "error E08 r.csv 2\n"),
+        ("id,eid,a\nr1,x,1\nr2,y,+1\n", "error E08 r.csv 3\n"),
+        ("id,eid,a\nr1,x,-\n", "error E08 r.csv 2\n"),
+        ("id,eid,a\nr1,x,--1\n", "error E08 r.csv 2\n"),
+        ("id,eid,a\nr1,x, 1\n", "error E08 r.csv 2\n"),
+        ("id,eid,a\nr1,x,1a\n", "error E08 r.csv 2\n"),
+        (
+            "id,eid,a\nr1,x,-9223372036854775809\n",
+            "error E08 r.csv 2\n",
+        ),
         ("id,eid,a\nr1,x,1\nr2,y,2\nr3,x,3\n", "error E03 p 4\n"),
     ] {
         let report =
@@ -219,6 +235,12 @@ fn documents_are_refused(rt: HostRuntime) -> Result<(), Fail> {
         5,
         "error E01 q 1\n",
     )?;
+    for (table, text) in [
+        (b"id,eid,a\nr1,\xff,1\n".as_slice(), "error E06 r.csv 2\n"),
+        (b"id,eid,\xff\nr1,x,1\n", "error E06 r.csv 1\n"),
+    ] {
+        expect(&rt, with(1, table), 5, text)?;
+    }
     let twice =
         b"currency report 1;\nverdict consistent;\ncompletion;\nranking R.a of x: r1;\nranking R.a of x: r2;\nend;\n";
     expect(

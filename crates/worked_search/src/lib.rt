@@ -9,3 +9,7 @@ mod guides;
 mod rows;
 #[cfg(test)]
 mod tables;
+#[cfg(test)]
+mod told;
+#[cfg(test)]
+mod turns;

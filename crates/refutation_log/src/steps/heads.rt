@@ -6,7 +6,7 @@ use crate::{LabelRef, StepRef};
 use currency_base::{AttrId, CopyId, EntId, Lit, RelId, RowId, RuleId, Value};
 
 /// A label without its lists.
-#[derive(Clone, Copy, Debug)]
+#[derive(Clone, Copy)]
 pub(crate) enum HeadLabel {
     Given {
         rel: RelId,
@@ -57,7 +57,7 @@ pub(crate) enum HeadLabel {
 }
 
 /// A step without its lists.
-#[derive(Clone, Copy, Debug)]
+#[derive(Clone, Copy)]
 pub(crate) enum Head {
     Axiom(HeadLabel),
     OnDemand(HeadLabel),
@@ -65,7 +65,7 @@ pub(crate) enum Head {
 }
 
 /// A step taken apart: its head, and a list of each kind, empty where the step has none.
-#[derive(Clone, Copy, Debug)]
+#[derive(Clone, Copy)]
 pub(crate) struct Parts<'a> {
     pub(crate) head: Head,
     pub(crate) rows: &'a [RowId],

@@ -9,7 +9,7 @@ use flat_lists::FlatLists;
 use std::alloc::Global;
 
 /// The lists of steps: of each kind one list per step.
-#[derive(Debug, Drop)]
+#[derive(Drop)]
 pub(crate) struct Lists {
     pub(crate) rows: FlatLists<RowId>,
     pub(crate) entities: FlatLists<EntId>,

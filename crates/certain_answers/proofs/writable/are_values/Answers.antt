@@ -1,6 +1,6 @@
 use Rattle.std.proofs.Common.{length, refl}
 use Rattle.std.proofs.lemmas.Option.{slice_get_read}
-use Rattle.text_write.specs.Written.{IsValue}
+use Rattle.currency_base.specs.Values.{IsValue}
 use Rattle.certain_answers.proofs.Fronts.{all_more, all_taken}
 use Rattle.certain_answers.proofs.writable.are_values.Goals as goal
 

@@ -1,5 +1,5 @@
 use Rattle.std.proofs.Common.{All, take}
-use Rattle.text_write.specs.Written.{IsValue}
+use Rattle.currency_base.specs.Values.{IsValue}
 use Rattle.certain_answers.proofs.writable.are_values.Given as goal
 
 abbrev pub invariant-loop-value : goal.invariant-loop-value

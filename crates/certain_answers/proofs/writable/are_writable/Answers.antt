@@ -1,6 +1,6 @@
 use Rattle.std.proofs.Common.{◌≤◌, length, subst, arith}
-use Rattle.log_write.specs.Writable.{AreFew}
-use Rattle.text_write.specs.Written.{IsValue}
+use Rattle.refutation_log.specs.Writable.{AreFew}
+use Rattle.currency_base.specs.Values.{IsValue}
 use Rattle.certain_answers.proofs.Fronts.{all_more, all_taken}
 use Rattle.certain_answers.proofs.writable.are_writable.Goals as goal
 

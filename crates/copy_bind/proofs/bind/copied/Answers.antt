@@ -1,7 +1,7 @@
 -- A pair that is refused, or what comes of the mappings, is due.
 use Rattle.std.specs.Prelude.{option_map}
 use Rattle.std.proofs.lemmas.Result.{err_from_is_err_and}
-use Rattle.copy_head.proofs.NoReads.{due_reads}
+use Rattle.copy_bind.proofs.NoReads.{due_reads}
 use Rattle.copy_bind.specs.Copied.{copied}
 use Rattle.copy_bind.proofs.Copying.{all_within, is_empty, pairs_refused, pairs_there}
 use Rattle.copy_bind.proofs.CopyReads.{copied_reads}

@@ -2,7 +2,7 @@
 use Rattle.std.proofs.Common.{◌≡◌, drop}
 use Rattle.std.specs.Prelude.{option_map}
 use Rattle.bind_faults.specs.Faults.{all_of}
-use Rattle.copy_head.proofs.Walk.{with_front}
+use Rattle.copy_bind.proofs.Walk.{with_front}
 use Rattle.copy_bind.specs.Copied.{mapping_named}
 use Rattle.copy_bind.proofs.mapping.mappings_named.Given as goal
 

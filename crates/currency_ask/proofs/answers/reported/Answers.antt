@@ -3,7 +3,7 @@ use Rattle.answer_candidates.specs.Candidates.{left_of, left_tuples, tuples_at}
 use Rattle.currency_base.specs.declared.value.Value.{Value}
 use Rattle.report_model.specs.declared.verdict.Verdict.TheVariants as verdict
 use Rattle.report_verify.specs.Supported.{IsOneOf, answer_needs}
-use Rattle.report_write.specs.Writable.{IsWritableVerdict}
+use Rattle.report_model.specs.Writable.{IsWritableVerdict}
 use Rattle.spec_model.specs.Spec.{Spec}
 use Rattle.spec_model.specs.declared.question.Question.TheVariants as asked
 use Rattle.currency_ask.specs.Goals.{AreClaims, AreProved, IsGoalOn}

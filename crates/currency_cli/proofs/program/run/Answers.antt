@@ -65,12 +65,12 @@ returns-in-Err-clause-answered g c =
 
 pub returns-in-Ok-clause-verified : goal.returns-in-Ok-clause-verified
 returns-in-Ok-clause-verified g c =
-    verified c.one_read.ensures.specs c.one_read.ensures.questions c.one_read.ensures.reports (g.S.Shelf.texts c.args.shelf.now) _ (map (λ w. string_bytes w) c.args.words.now)
+    verified c.one_read.ensures.specs c.one_read.ensures.questions c.one_judgement.ensures.reports (g.S.Shelf.texts c.args.shelf.now) _ (map (λ w. string_bytes w) c.args.words.now)
     (Ok c.in-Ok.done) _ _ _ _ _ _ c.hand_out.result c.in-Ok.ensures.due c.in-Ok.ensures.read_fault c.hand_out.ensures
 
 pub returns-in-Err-clause-verified : goal.returns-in-Err-clause-verified
 returns-in-Err-clause-verified g c =
-    verified c.one_read.ensures.specs c.one_read.ensures.questions c.one_read.ensures.reports (g.S.Shelf.texts c.args.shelf.now) _ (map (λ w. string_bytes w) c.args.words.now)
+    verified c.one_read.ensures.specs c.one_read.ensures.questions c.one_judgement.ensures.reports (g.S.Shelf.texts c.args.shelf.now) _ (map (λ w. string_bytes w) c.args.words.now)
     (Err c.in-Err.trouble) _ _ _ _ _ _ c.refuse.result c.in-Err.ensures.due c.in-Err.ensures.read_fault c.refuse.ensures
 
 pub returns-in-Ok-clause-listed : goal.returns-in-Ok-clause-listed

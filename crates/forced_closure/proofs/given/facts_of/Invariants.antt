@@ -1,6 +1,6 @@
 use Rattle.std.proofs.Common.{◌<◌, ℕ}
 use Rattle.currency_base.specs.declared.pair.Pair.{Pair}
-use Rattle.forced_pairs.specs.Forced.{IsGiven}
+use Rattle.forced_closure.specs.Forced.{IsGiven}
 use Rattle.forced_closure.specs.Clauses.{AreOfGiven, HasFact}
 use Rattle.forced_closure.proofs.given.facts_of.Given as goal
 

@@ -4,7 +4,7 @@ use Rattle.spec_model.specs.declared.question.Asked.{Asked}
 use Rattle.spec_model.specs.declared.relation.Relation.{Relation}
 use Rattle.text_write.specs.Spacing.{Writing, start, writes_all}
 use Rattle.text_write.proofs.Writings.{text_written}
-use Rattle.forced_pairs.specs.Forced.{HasLoop}
+use Rattle.forced_closure.specs.Forced.{HasLoop}
 use Rattle.forced_write.specs.ForcedText.{forced_pieces}
 use Rattle.forced_write.proofs.write.write_forced.Goals as goal
 

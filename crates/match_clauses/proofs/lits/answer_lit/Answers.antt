@@ -1,9 +1,9 @@
 use Rattle.std.proofs.Common.{false}
 use Rattle.refutation_log.specs.declared.statement.Statement.TheVariants as says
 use Rattle.currency_base.specs.Literals.{literal}
-use Rattle.literal_laws.proofs.Items.{place_of}
-use Rattle.literal_laws.proofs.Members.{in_answer}
-use Rattle.literal_laws.proofs.Saying.{says_at}
+use Rattle.order_literals.proofs.Items.{place_of}
+use Rattle.order_literals.proofs.Members.{in_answer}
+use Rattle.order_literals.proofs.Sayings.{says_at}
 use Rattle.order_literals.specs.Said.{positive}
 use Rattle.order_literals.specs.Statements.{statements_of}
 use Rattle.match_clauses.proofs.lits.answer_lit.Goals as goal

@@ -2,7 +2,7 @@
 use Rattle.std.proofs.Common.{List, subst}
 use Rattle.currency_base.specs.declared.row.Row.{Row}
 use Rattle.bind_faults.specs.Faults.{IsDue}
-use Rattle.orders_bind.specs.Orders as table
+use Rattle.order_bind.specs.TableOrders as table
 use Rattle.question_bind.proofs.Known.{rows_read}
 use Rattle.question_bind.proofs.checked.checked_part.Goals as goal
 

@@ -1,7 +1,7 @@
 use Rattle.std.proofs.Common.{ℕ, List, Option, Ok, Err, IfSome, subst}
 use Rattle.bind_faults.specs.Faults.{IsReadFaultOf}
 use Rattle.spec_model.specs.Spec.{Spec}
-use Rattle.orders_bind.specs.Orders.{IsOrdersTable}
+use Rattle.order_bind.specs.TableOrders.{IsOrdersTable}
 use Rattle.spec_bind.specs.Bound.{IsLimited, IsTableMade}
 use Rattle.spec_bind.proofs.Given.{given_known, table_gives}
 use Rattle.spec_bind.proofs.Steps.{Docs, part_table, table_refused, table_step}

@@ -1,6 +1,6 @@
 use Rattle.std.proofs.Common.{length, ap, arith}
 use Rattle.clause_arena.specs.Slots.{Clauses}
-use Rattle.clause_arena.proofs.Cuts.{length-cut_from}
+use Rattle.flat_lists.proofs.Cuts.{length-cut_from}
 use Rattle.clause_arena.proofs.clause_lits.ClauseLits.get.Goals as goal
 
 pub span-start-requires-clause-within : goal.span-start-requires-clause-within

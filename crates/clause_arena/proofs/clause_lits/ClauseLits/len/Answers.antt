@@ -1,6 +1,6 @@
 use Rattle.std.proofs.Common.{◌∙◌, length, sym, ap}
 use Rattle.clause_arena.specs.Slots.{Clauses}
-use Rattle.clause_arena.proofs.Cuts.{length-cut_from}
+use Rattle.flat_lists.proofs.Cuts.{length-cut_from}
 use Rattle.clause_arena.proofs.clause_lits.ClauseLits.len.Goals as goal
 
 pub returns : goal.returns

@@ -1,6 +1,6 @@
 use Rattle.std.proofs.Common.{◌≡◌, ◌+◌, ◌∷◌, ◌++◌, ◌∙◌, ◌≤◌, [], length, rules, ap, arith}
 use Rattle.clause_arena.specs.Slots.{Clauses}
-use Rattle.clause_arena.proofs.Cuts.{flat_pushed, cut_pushed}
+use Rattle.flat_lists.proofs.Cuts.{flat_pushed, cut_pushed}
 use Rattle.clause_arena.proofs.clause_lits.ClauseLits.push.Goals as goal
 
 pub invariant_of-self : goal.invariant_of-self

@@ -1,6 +1,6 @@
 use Rattle.std.proofs.Common.{sym, subst}
 use Rattle.std.proofs.lemmas.Bool.{false≢true}
-use Rattle.forced_pairs.specs.Forced.{IsForced}
+use Rattle.forced_closure.specs.Forced.{IsForced}
 use Rattle.forced_closure.specs.Derived.{Closed}
 use Rattle.forced_closure.proofs.closure.Closure.has.Goals as goal
 

@@ -1,0 +1,33 @@
+-- What `ask` told, by the status it ended with.
+use Rattle.std.proofs.Common.{◌≡◌, ℕ, Bool, true, false, List, refl, arith}
+use Rattle.ask_command.specs.Asked.{IsAnswerTold, IsAskSpent}
+use Rattle.command_stages.specs.Endings.{ending_of, ending_status}
+use Rattle.command_stages.specs.declared.done.Ending.{Ending}
+use Rattle.command_stages.specs.declared.done.Ending.TheVariants as ending
+use Rattle.program_words.specs.Words.{AskSaid}
+use Rattle.report_model.specs.Verdicts.{is_decided, kind_of}
+use Rattle.told_answers.proofs.Spent.{short}
+
+not_told : (decided : Bool) → ending.Told ≡ ending_of decided → ⊥
+not_told true e = cc
+not_told false e = cc
+
+is_undecided : (decided : Bool) → ending.Undecided ≡ ending_of decided → decided ≡ false
+is_undecided true e = absurd (apart e)
+  where
+    apart : ending.Undecided ≡ ending.Decided → ⊥
+    apart e = cc
+is_undecided false e = refl
+
+pub decided_told : (told : List (List ℕ × List ℕ)) (a : AskSaid) (text : List ℕ) (e : Ending) → ending_status e ≡ 0 → IsAnswerTold told a text e
+    → IsAnswerTold told a text ending.Decided
+decided_told told a text ending.Told zero h = absurd (not_told (is_decided (kind_of h.report.verdict)) h.ended)
+decided_told told a text ending.Decided zero h = h
+decided_told told a text ending.Undecided zero h = absurd (omega (arith, zero))
+
+pub spent_told : (told : List (List ℕ × List ℕ)) (a : AskSaid) (text : List ℕ) (e : Ending) → ending_status e ≡ 3 → IsAnswerTold told a text e
+    → IsAskSpent told a text
+spent_told told a text ending.Told three h = absurd (omega (arith, three))
+spent_told told a text ending.Decided three h = absurd (omega (arith, three))
+spent_told told a text ending.Undecided three h =
+    (h, short h.spec h.question a.budget h.report h.answer (is_undecided (is_decided (kind_of h.report.verdict)) h.ended))

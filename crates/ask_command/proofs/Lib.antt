@@ -1,0 +1,3 @@
+pub mod AskStages
+pub mod Jobs
+pub mod Replies

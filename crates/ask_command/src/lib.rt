@@ -1,0 +1,6 @@
+//! The command `ask`: a report that answers a question about a specification.
+#![tactic(auto)]
+
+mod asking;
+
+pub use asking::ask_documents;

@@ -1,0 +1,4 @@
+pub mod OneRead
+pub mod Outcomes
+pub mod StageLemmas
+pub mod WholeTexts

@@ -1,0 +1,19 @@
+-- What holds of the bytes that were read holds of the document, which they are.
+use Rattle.std.proofs.Common.{◌≡◌, ◌≤◌, ℕ, List, length, Option, Some, None, IfSome, Result, subst, inr}
+use Rattle.currency_edge.specs.Shelf.{document}
+use Rattle.command_stages.specs.Stages.{Within}
+use Rattle.command_stages.specs.declared.trouble.Trouble.{Trouble}
+
+pub of_document : {A : Type 0} (told : Option (List (List ℕ × List ℕ))) (name bytes : List ℕ) (bound : ℕ)
+    (P : List (List ℕ × List ℕ) → List ℕ → Result A Trouble → Type 0) (outcome : Result A Trouble)
+    → IfSome told (λ t. bytes ≡ document t name) → length bytes ≤ bound → IfSome told (λ t. P t bytes outcome)
+    → IfSome told (λ t. Within bound (document t name) (P t (document t name)) outcome)
+of_document None name bytes bound P outcome whole within holds = tt
+of_document (Some t) name bytes bound P outcome whole within holds =
+    inr (subst (λ (b : List ℕ). (length b ≤ bound) × P t b outcome) whole (within, holds))
+
+-- the same of a document with no bound
+pub of_whole_document : (told : Option (List (List ℕ × List ℕ))) (name bytes : List ℕ) (P : List ℕ → Type 0)
+    → IfSome told (λ t. bytes ≡ document t name) → P bytes → IfSome told (λ t. P (document t name))
+of_whole_document None name bytes P whole holds = tt
+of_whole_document (Some t) name bytes P whole holds = subst P whole holds

@@ -1,0 +1,26 @@
+-- How commands end whose job was done.
+use Rattle.std.specs.Prelude.{ℕ, Bool, true, false, List}
+use Rattle.command_stages.specs.declared.done.Done.{Done}
+use Rattle.command_stages.specs.declared.done.Ending.{Ending}
+use Rattle.command_stages.specs.declared.done.Ending.TheVariants.{Told, Decided, Undecided}
+
+-- the status, the text being written
+abbrev pub ending_status : Ending → ℕ
+ending_status Told = 0
+ending_status Decided = 0
+ending_status Undecided = 3
+
+-- a question ends so that is decided, or not
+abbrev pub ending_of : Bool → Ending
+ending_of true = Decided
+ending_of false = Undecided
+
+-- a question ends so
+abbrev pub IsOfQuestion : Ending → Type 0
+IsOfQuestion Told = ⊥
+IsOfQuestion Decided = Unit {0}
+IsOfQuestion Undecided = Unit {0}
+
+-- a text that there is just to tell
+abbrev pub told_text : List ℕ → Done
+told_text text = record { text = text; ending = Told }

@@ -1,0 +1,7 @@
+pub mod Endings
+pub mod Named
+pub mod Texts
+pub mod Outcomes
+pub mod Stages
+pub mod Documents
+pub mod Alike

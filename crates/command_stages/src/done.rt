@@ -1,0 +1,35 @@
+ghost use Rattle.std.specs.Prelude.{◌≡◌};
+ghost use Rattle.command_stages.specs.Endings.{ending_status};
+
+use currency_base::ByteList;
+
+/// How a command ends whose job was done.
+#[derive(Clone, Copy)]
+pub enum Ending {
+    /// There is just this to tell.
+    Told,
+    /// A question is decided, or all that were asked are.
+    Decided,
+    /// The budget was spent without a verdict.
+    Undecided,
+}
+
+impl Ending {
+    /// The exit status, once the text is written.
+    pub fn status(self) -> u8
+        ensures { result ≡ ending_status self }
+    {
+        match self {
+            Ending::Told => 0,
+            Ending::Decided => 0,
+            Ending::Undecided => 3,
+        }
+    }
+}
+
+/// What a command came to whose job was done: the text that is written, and how it ends.
+#[derive(Drop)]
+pub struct Done {
+    pub text: ByteList,
+    pub ending: Ending,
+}

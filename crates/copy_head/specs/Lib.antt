@@ -1,3 +1,0 @@
-pub mod HeadFacts
-pub mod Heads
-pub mod Sides

@@ -1,7 +1,0 @@
-use Rattle.currency_cli.proofs.Accepted.{report_shown}
-use Rattle.currency_cli.proofs.verifying.judge_document.Goals as goal
-
-pub returns-in-Ok-clause-right : goal.returns-in-Ok-clause-right
-returns-in-Ok-clause-right g c =
-    report_shown (g.S.Shelf.texts c.args.shelf.now) c.args.spec.now c.args.question.now c.args.name.now c.in-Ok.read c.judge.result
-    (c.in-Ok.ensures.stage tt) c.judge.ensures.shown c.judge.ensures.kind c.judge.ensures.right

@@ -1,0 +1,2 @@
+pub mod ForcedTexts
+pub mod Replies

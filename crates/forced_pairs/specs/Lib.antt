@@ -1,2 +1,0 @@
-pub mod Forced
-pub mod Laws

@@ -1,4 +1,0 @@
-pub mod Orders
-pub use Rattle.currency_edge.specs.Shelf
-pub use Rattle.currency_edge.specs.Fault
-pub use Rattle.currency_csv.specs.Table

@@ -1,6 +1,0 @@
-mod Likenesses
-mod Names
-mod Claims
-mod Rankings
-mod Completions
-mod Reports

@@ -1,5 +1,0 @@
-use Rattle.report_spelling.proofs.Reports.{spelled}
-use Rattle.report_spelling.proofs.laws.written_is_spelled.Goals as goal
-
-pub returns : goal.returns
-returns c = spelled c.laws_of_literals.ensures.parts
