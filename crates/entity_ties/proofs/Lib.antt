@@ -1,0 +1,13 @@
+mod Items
+mod Numbered
+mod Singles
+mod Joining
+mod Linked
+mod LinkSteps
+mod Naming
+mod TiedCells
+mod Putting
+mod Assembled
+mod Gathering
+mod Rising
+mod Scoped

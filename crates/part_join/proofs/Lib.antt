@@ -1,0 +1,4 @@
+mod Copies
+mod Fitting
+mod Placing
+mod Setting

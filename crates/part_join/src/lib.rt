@@ -1,0 +1,8 @@
+//! Completions of a part, joined with one of the whole.
+#![tactic(auto)]
+
+mod joining;
+mod laws;
+
+pub use joining::joined;
+pub use laws::completions_fit;

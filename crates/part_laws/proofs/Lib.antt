@@ -1,0 +1,13 @@
+pub mod Rows
+pub mod Listed
+pub mod Cuts
+pub mod FactsKept
+pub mod Alike
+pub mod Choices
+pub mod Copied
+pub mod Fitting
+pub mod Narrowed
+pub mod Scoped
+pub mod FromPart
+pub mod Beyond
+pub mod Joined

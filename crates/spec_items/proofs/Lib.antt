@@ -1,0 +1,6 @@
+mod Listed
+mod Members
+mod Places
+mod Among
+mod Fewer
+mod AllKept

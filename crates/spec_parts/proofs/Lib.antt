@@ -1,0 +1,13 @@
+pub mod Searched
+pub mod Pairing
+pub mod Indexing
+pub mod Cuttable
+pub mod PartRelation
+pub mod PartLists
+pub mod Among
+pub mod Adding
+pub mod GivenSteps
+pub mod PartRules
+pub mod CopySteps
+pub mod CopyCuts
+pub mod PartWhole

@@ -1,0 +1,3 @@
+pub mod Index
+pub mod Built
+pub mod Steps
