@@ -22,8 +22,8 @@ ROOT = pathlib.Path(__file__).resolve().parent.parent
 OUT = ROOT / "crates" / "currency" / "out"
 LEFT_OUT = ("out", "must-fail")
 SIGNALS = (signal.SIGINT, signal.SIGTERM, signal.SIGHUP)
-# what a new clone takes on four processors, in seconds
-NEW_CLONE = 15 * 60
+# what a new clone takes on four processors, in seconds (of 2.5 GHz; on faster ones half of that)
+NEW_CLONE = 50 * 60
 SAID = re.compile(r"rt: (\w+)(: its tests are)? (proved|is kept|NOT PROVED)(: .*)?$")
 WAITS = re.compile(r"rt: (\w+): .*; waiting for it$")
 
@@ -217,7 +217,7 @@ def main():
             return 0
         warn()
         what = f"proving and building the program of {len(crates)} crates: in a new clone"
-        tell(f"{what} about a quarter of an hour on four processors, else less")
+        tell(f"{what} up to an hour on four processors, else less")
         return build(crates, begun)
 
 

@@ -1,6 +1,7 @@
 ghost use Rattle.bound_spec.specs.Growth.{IsWithinLimits};
 ghost use Rattle.search_logs.specs.SearchLogs.{IsWithin};
 
+use certain_answers::discard;
 use currency_base::{NoMemory, TupleList};
 use order_search::{Outcome, Search};
 use refutation_log::{LabelRef, Log, StepRef};
@@ -33,25 +34,30 @@ pub fn searched(
     requires { IsWithinLimits spec.now }
 {
     is_within(spec);
-    let mut search = match Search::new(
-        alloc,
-        spec,
-        None,
-        RelList::new(alloc),
-        TupleList::new(alloc),
-        guides,
-    ) {
-        Ok(search) => search,
-        Err(error) => return Err(error),
-    };
+    let none = TupleList::new(alloc);
+    match Search::new(alloc, spec, None, RelList::new(alloc), none, guides) {
+        Ok(search) => found(alloc, search, guides),
+        Err(error) => Err(error),
+    }
+}
+
+// What a search that has begun comes to.
+fn found(
+    alloc: Global,
+    mut search: Search<'_>,
+    guides: &mut Guides,
+) -> Result<Option<Told>, NoMemory> {
     let mut units = Budget::new(BUDGET);
-    match search.decide(alloc, None, &mut units, guides) {
+    let outcome = search.decide(alloc, None, &mut units, guides);
+    let told = counted(search.log());
+    discard(search);
+    match outcome {
         Ok(Outcome::Model { .. }) => Ok(Some(Told {
             completions: 1,
             models: 1,
-            ..counted(search.log())
+            ..told
         })),
-        Ok(Outcome::Empty(_)) => Ok(Some(counted(search.log()))),
+        Ok(Outcome::Empty(_)) => Ok(Some(told)),
         Ok(_) => Ok(None),
         Err(error) => Err(error),
     }

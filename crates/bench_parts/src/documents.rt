@@ -9,7 +9,7 @@ const ENTITY: u32 = 8;
 
 /// The specification. Of two rows of a person the one with the lower salary is older, and an older salary
 /// goes with an older grade. Badges are copied from staff records.
-pub const SPECIFICATION: &str =
+const SPECIFICATION: &str =
     "relation Staff from \"staff.csv\" row id entity who (salary: int, grade: int);
 relation Badge from \"badge.csv\" row id entity who (grade: int);
 rule raise on Staff (s, t): if s.salary < t.salary then s before t in salary;
@@ -17,10 +17,11 @@ rule follow on Staff (s, t): if s before t in salary then s before t in grade;
 copy printed into Badge (grade) from Staff (grade) using \"printed.csv\";
 ";
 
-/// The tables of so many rows in all, half of them staff records and half badges.
-pub fn tables(alloc: Global, rows: u32) -> Result<SteadyShelf, NoMemory> {
+/// The specification, and the tables of so many rows in all, half of them staff records and half badges.
+pub fn documents(alloc: Global, rows: u32) -> Result<SteadyShelf, NoMemory> {
     let half = rows / 2;
     let mut shelf = SteadyShelf::new(alloc);
+    shelf.put("s", SPECIFICATION.as_bytes())?;
     shelf.put("staff.csv", staff(alloc, half)?.as_bytes())?;
     shelf.put("badge.csv", badges(alloc, half)?.as_bytes())?;
     shelf.put("printed.csv", printed(alloc, half)?.as_bytes())?;

@@ -1,16 +1,15 @@
 ghost use Rattle.std.specs.Prelude.{◌≡◌, IfOk};
 ghost use Rattle.bound_spec.specs.Growth.{IsWithinLimits};
 
-use crate::documents::{SPECIFICATION, tables};
+use crate::documents::documents;
+use command_stages::read_specification;
 use completion_build::{Built, rank};
 use currency_base::{Assignment, NoMemory, RelId};
 use entity_ground::instances;
 use order_clauses::clauses;
 use order_limits::number;
 use order_literals::{Numbering, Wanted};
-use spec_bind::bind_spec;
 use spec_model::{RelList, Specification};
-use spec_syntax::read_spec;
 use std::alloc::Global;
 
 /// A part of the way from a specification to clauses and back.
@@ -111,11 +110,8 @@ fn both(alloc: Global) -> Result<Wanted, NoMemory>
 fn specification(alloc: Global, rows: u32) -> Result<Specification, Failed>
     ensures { IfOk result IsWithinLimits }
 {
-    let mut shelf = tables(alloc, rows)?;
-    let Ok(tree) = read_spec(alloc, SPECIFICATION.as_bytes()) else {
-        return Err(Failed::Refused);
-    };
-    match bind_spec(alloc, &tree, &mut shelf) {
+    let mut shelf = documents(alloc, rows)?;
+    match read_specification(alloc, &mut shelf, "s") {
         Ok(spec) => Ok(spec),
         Err(_) => Err(Failed::Refused),
     }

@@ -1,10 +1,10 @@
 -- The relations of a copy function, and the places of their rows, as they are read.
-use Rattle.std.proofs.Common.{◌≡◌, ◌<◌, ◌∙◌, ℕ, List, [], Option, Some, None, IfNone, length, get_or, slice_get, slice_index_or, refl, sym, ap, subst, arith}
+use Rattle.std.proofs.Common.{◌≡◌, ◌<◌, ◌∙◌, ℕ, List, [], Option, Some, None, All, IfNone, length, get_or, slice_get, slice_index_or, refl, sym, ap, subst, arith}
 use Rattle.std.proofs.lemmas.List.{get_or_read}
 use Rattle.std.proofs.lemmas.Option.{same_Some, slice_get_within, slice_get_read}
 use Rattle.currency_base.specs.declared.ids.RowId.{RowId}
-use Rattle.copy_functions.specs.Copies.{CopyFunction}
-use Rattle.spec_model.specs.Facts.{IsCopyAmong}
+use Rattle.copy_functions.specs.Copies.{CopyFunction, IsCopied}
+use Rattle.spec_model.specs.Facts.{IsPlaceBetween, IsCopyAmong}
 use Rattle.spec_model.specs.declared.relation.Relation.{Relation}
 use Rattle.completion_check.specs.Tests.{Places}
 use Rattle.completion_check.specs.CopyBreaks.{NoPlaceBreaks, IsFirstPlaceBreak, NoneBreaksCopy, BreaksCopyFirst, tried_between, copy_tried}
@@ -20,6 +20,17 @@ pub list_at : {A : Type 0} (xs : List (List A)) (n m : ℕ) (x : List A) → m �
 list_at xs n m x same within read =
     let inside : m < length xs = omega arith in
     get_or_read xs m x inside read [] ∙ ap (λ (k : ℕ). slice_index_or xs k []) same
+
+-- the numbers of a copy function's relations are those of relations
+pub target_within : (relations : List Relation) (copy : CopyFunction) (m : ℕ) → IsCopyAmong relations copy → m ≡ copy.target.0
+    → m < length relations
+target_within relations copy m among is =
+    subst (λ (n : ℕ). n < length relations) (sym is) (slice_get_within relations copy.target.0 among.target among.is_target)
+
+pub source_within : (relations : List Relation) (copy : CopyFunction) (m : ℕ) → IsCopyAmong relations copy → m ≡ copy.source.0
+    → m < length relations
+source_within relations copy m among is =
+    subst (λ (n : ℕ). n < length relations) (sym is) (slice_get_within relations copy.source.0 among.source among.is_source)
 
 -- the two relations of a copy function, and the places of their rows
 pub record AreOfCopy (relations : List Relation) (places : List Places) (copy : CopyFunction) (target source : Relation) (target_places source_places : Places) : Type 0 where
@@ -41,6 +52,28 @@ are_read relations places copy m n target source target_places source_places amo
       in_target = list_at places copy.target.0 m target_places is_m target_within read_target_places;
       in_source = list_at places copy.source.0 n source_places is_n source_within read_source_places;
     }
+
+-- the copy function's places are between the two
+pub places_between : (relations : List Relation) (places : List Places) (copy : CopyFunction) (target source : Relation)
+    (target_places source_places : Places)
+    → IsCopyAmong relations copy → AreOfCopy relations places copy target source target_places source_places
+    → All (IsPlaceBetween target source) copy.places
+places_between relations places copy target source target_places source_places among are =
+    let one_target = same_Some among.target target (sym among.is_target ∙ are.is_target) in
+    let one_source = same_Some among.source source (sym among.is_source ∙ are.is_source) in
+    subst (λ (r : Relation). All (IsPlaceBetween target r) copy.places) one_source
+    (subst (λ (r : Relation). All (IsPlaceBetween r among.source) copy.places) one_target among.places)
+
+-- and its mapped rows have the values of their source rows
+pub copied_between : (relations : List Relation) (places : List Places) (copy : CopyFunction) (target source : Relation)
+    (target_places source_places : Places)
+    → IsCopyAmong relations copy → AreOfCopy relations places copy target source target_places source_places
+    → IsCopied copy target.rows source.rows
+copied_between relations places copy target source target_places source_places among are =
+    let one_target = same_Some among.target target (sym among.is_target ∙ are.is_target) in
+    let one_source = same_Some among.source source (sym among.is_source ∙ are.is_source) in
+    subst (λ (r : Relation). IsCopied copy target.rows r.rows) one_source
+    (subst (λ (r : Relation). IsCopied copy r.rows among.source.rows) one_target among.copied)
 
 tried_same : (relations : List Relation) (places : List Places) (copy : CopyFunction) (target source : Relation) (target_places source_places : Places)
     → AreOfCopy relations places copy target source target_places source_places

@@ -13,4 +13,5 @@ mod Places
 mod Ranked
 mod Rooms
 mod RowPlaces
+mod RuleReads
 mod Searched

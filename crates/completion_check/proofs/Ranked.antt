@@ -23,6 +23,34 @@ ranked_more r lists n count same here whole before attr ent below within =
     (λ (apart : attr ≡ n → ⊥). before attr ent (omega arith) within)
     (cases_eq attr n)
 
+-- an attribute that has lists is one of the relation's
+pub attr_within : (r : Relation) (lists : Lists) (n : ℕ) → FitsRelation r lists → n < length lists → n < length r.attrs
+attr_within r lists n shape within = omega (arith, shape.per_attr)
+
+-- and the attributes that have lists are all of them
+pub attr_passed : (r : Relation) (lists : Lists) (n attr : ℕ) → FitsRelation r lists → length lists ≤ n
+    → attr < length r.attrs → attr < n
+attr_passed r lists n attr shape past within = omega (arith, shape.per_attr)
+
+-- the first list of a relation that is no ranking, which was found at an attribute's number
+pub first_unranked_of : (r : Relation) (lists : Lists) (n ent : ℕ) → FitsRelation r lists → n < length lists
+    → ent < length (slice_index_or lists n []) → ((e : ℕ) → e < ent → IsRanking r.rows e (list_of lists n e))
+    → (IsRanking r.rows ent (list_of lists n ent) → ⊥)
+    → ((attr e : ℕ) → attr < n → e < length r.entities → IsRanking r.rows e (list_of lists attr e))
+    → IsFirstUnrankedOf r lists n ent
+first_unranked_of r lists n ent shape within inside here broken before =
+    let is_attr = attr_within r lists n shape within in
+    record {
+      attr_within = is_attr;
+      ent_within = subst (λ (m : ℕ). ent < m) (shape.per_entity n is_attr) inside;
+      broken = broken;
+      earlier = λ attr e is_attr' is_ent stands.
+          ⊎_elim
+          (λ (less : attr < n). before attr e less is_ent)
+          (λ (same : (attr ≡ n) × (e < ent)). rw same.0 (here e same.1))
+          stands;
+    }
+
 -- the lists of one relation of a completion
 pub fits_relation : (rs : List Relation) (c : Rankings) (rel : ℕ) (r : Relation) → HasShape rs c → slice_get rs rel ≡ Some r
     → FitsRelation r (slice_index_or c rel [])

@@ -19,6 +19,7 @@ use Rattle.entity_rows.specs.Members.{members}
 use Rattle.match_premises.specs.Premises.{comparisons_are}
 use Rattle.match_premises.specs.declared.premise.Premise.{Premise}
 use Rattle.partial_orders.specs.Pairs.{entity_of, has_pair}
+use Rattle.query_model.specs.declared.query.Atom.{Atom}
 use Rattle.query_model.specs.declared.query.Disjunct.{Disjunct}
 use Rattle.query_model.specs.declared.query.Query.{Query}
 use Rattle.spec_model.specs.Spec.{Spec}
@@ -119,6 +120,11 @@ top_clause rel attr row r = if is_attr r attr then of (entity_of r.rows row.0) e
     of None = None
     of (Some ent) = Some (top rel attr row ∷ map (λ other. not_before rel attr other row) (others r.rows ent row))
 
+-- the same, where the rows of its entity are these
+abbrev pub top_among : RelId → AttrId → RowId → List RowId → List Signed
+top_among rel attr row members =
+    top rel attr row ∷ map (λ other. not_before rel attr other row) (filter (λ other. not (row.0 == other.0)) members)
+
 -- of a row
 abbrev pub last_clause : RelId → AttrId → RowId → Relation → Option (List Signed)
 last_clause rel attr row r =
@@ -132,10 +138,18 @@ value_clause rel attr row r = if is_attr r attr then of (entity_of r.rows row.0)
     of None = None
     of (Some ent) = Some (not_last rel attr row ∷ map (top rel attr) (alike r.rows attr.0 ent row))
 
+-- the same, where the rows of its entity are these
+abbrev pub value_among : RelId → AttrId → RowId → List Row → List RowId → List Signed
+value_among rel attr row rows members = not_last rel attr row ∷ map (top rel attr) (filter (same_value rows attr.0 row) members)
+
 -- the conclusion of an instance, if it has one
 abbrev pub concluded_clause : RelId → Option Pair → List Signed
 concluded_clause rel None = []
 concluded_clause rel (Some p) = before rel p.attr p.earlier p.later ∷ []
+
+-- the negation of each premise, and the conclusion
+abbrev pub instance_said : RelId → RuleInstance → List Signed
+instance_said rel i = map (λ p. not_before rel p.attr p.earlier p.later) i.premises ++ concluded_clause rel i.conclusion
 
 -- of an instance of a rule: one of its premises does not hold, or its conclusion does
 abbrev pub instance_clause : RelId → Option RuleInstance → Option (List Signed)
@@ -154,6 +168,11 @@ place_clause copy first second first_source second_source None = None
 place_clause copy first second first_source second_source (Some place) =
     Some (not_before copy.source place.source first_source second_source ∷ before copy.target place.target first second ∷ [])
 
+-- the same, for a place by its number
+abbrev pub clause_at : CopyFunction → ℕ → RowId → RowId → RowId → RowId → Option (List Signed)
+clause_at copy place first second first_source second_source =
+    place_clause copy first second first_source second_source (slice_get copy.places place)
+
 -- of two different rows of one entity that are mapped to two different rows of one entity
 abbrev pub copy_clause : CopyFunction → ℕ → RowId → RowId → Relation → Relation → Option (List Signed)
 copy_clause copy place first second target source = of (source_at copy first) (source_at copy second)
@@ -168,6 +187,10 @@ copy_clause copy place first second target source = of (source_at copy first) (s
 abbrev pub claimed_clause : Option ℕ → Option (List Premise) → Option (List Signed)
 claimed_clause (Some place) (Some premises) = Some (answer place ∷ map (λ p. not_last p.rel p.attr p.row) premises)
 claimed_clause place premises = None
+
+-- of a match whose tuple stands at this place
+abbrev pub placed_clause : List Relation → ℕ → List EntId → List Value → List Atom → Option (List Signed)
+placed_clause relations place entities values atoms = claimed_clause (Some place) (match_claims relations values atoms entities)
 
 -- of one entity per atom of a disjunct and one value per variable, for which its comparisons hold
 abbrev pub match_clause : List Relation → List (List Value) → List EntId → List Value → Disjunct → Option (List Signed)

@@ -1,11 +1,13 @@
-ghost use Rattle.std.specs.Prelude.{◌≡◌, ◌==◌, ◌++◌, ◌∷◌, [], IfOk, OnOk, length, map, not, if◌then◌else◌};
+ghost use Rattle.std.specs.Prelude.{◌≡◌, ◌==◌, ◌++◌, ◌∷◌, [], Some, IfOk, OnOk, length, map, not, if◌then◌else◌};
 ghost use Rattle.std.specs.List.{filter};
 ghost use Rattle.entity_rows.specs.Members.{AreEntityRows};
 ghost use Rattle.spec_model.specs.Facts.{IsRelation};
 ghost use Rattle.log_axioms.specs.Axioms.{given_clause, transitive_clause, above_clause, top_clause, last_clause, value_clause, not_before, top, same_value};
+ghost use Rattle.log_axioms.specs.Axioms.{top_among, value_among};
 
 use crate::conditions::{are_two, is_attr, same_entity, same_value};
 use crate::entities::own_members;
+use crate::signed::{begun, some_clause};
 use crate::{Signed, SignedList};
 use currency_base::{AttrId, NoMemory, Pair, RelId, RowId};
 use entity_rows::EntityRows;
@@ -24,9 +26,10 @@ pub(crate) fn given_clause(
     if !relation.given.has(pair) {
         return Ok(None);
     }
-    let mut clause = SignedList::new(alloc);
-    clause.push(Signed::before(rel, pair.attr, pair.earlier, pair.later))?;
-    Ok(Some(clause))
+    some_clause(
+        alloc,
+        &[Signed::before(rel, pair.attr, pair.earlier, pair.later)],
+    )
 }
 
 /// The clause of three different rows of one entity.
@@ -48,11 +51,14 @@ pub(crate) fn transitive_clause(
     if !(is_attr(relation, attr) && are_three) {
         return Ok(None);
     }
-    let mut clause = SignedList::new(alloc);
-    clause.push(Signed::not_before(rel, attr, first, second))?;
-    clause.push(Signed::not_before(rel, attr, second, third))?;
-    clause.push(Signed::before(rel, attr, first, third))?;
-    Ok(Some(clause))
+    some_clause(
+        alloc,
+        &[
+            Signed::not_before(rel, attr, first, second),
+            Signed::not_before(rel, attr, second, third),
+            Signed::before(rel, attr, first, third),
+        ],
+    )
 }
 
 /// The clause of a row and another of its entity, which stands before it if the row stands last.
@@ -69,10 +75,13 @@ pub(crate) fn above_clause(
     if !(is_attr(relation, attr) && are_two(relation.rows.as_slice(), row, other)) {
         return Ok(None);
     }
-    let mut clause = SignedList::new(alloc);
-    clause.push(Signed::not_top(rel, attr, row))?;
-    clause.push(Signed::before(rel, attr, other, row))?;
-    Ok(Some(clause))
+    some_clause(
+        alloc,
+        &[
+            Signed::not_top(rel, attr, row),
+            Signed::before(rel, attr, other, row),
+        ],
+    )
 }
 
 /// The clause of a row that stands last if all others of its entity stand before it.
@@ -92,12 +101,7 @@ pub(crate) fn top_clause(
         return Ok(None);
     }
     match own_members(relation, members, row) {
-        Some(own) => {
-            let mut clause = SignedList::new(alloc);
-            clause.push(Signed::top(rel, attr, row))?;
-            add_not_before(&mut clause, rel, attr, row, own)?;
-            Ok(Some(clause))
-        }
+        Some(own) => top_of(alloc, rel, attr, row, own),
         None => Ok(None),
     }
 }
@@ -115,10 +119,13 @@ pub(crate) fn last_clause(
     if !(is_attr(relation, attr) && same_entity(relation.rows.as_slice(), row, row)) {
         return Ok(None);
     }
-    let mut clause = SignedList::new(alloc);
-    clause.push(Signed::not_top(rel, attr, row))?;
-    clause.push(Signed::last(rel, attr, row))?;
-    Ok(Some(clause))
+    some_clause(
+        alloc,
+        &[
+            Signed::not_top(rel, attr, row),
+            Signed::last(rel, attr, row),
+        ],
+    )
 }
 
 /// The clause of a row whose value is the current one only if a row of its entity with that value stands
@@ -139,14 +146,40 @@ pub(crate) fn value_clause(
         return Ok(None);
     }
     match own_members(relation, members, row) {
-        Some(own) => {
-            let mut clause = SignedList::new(alloc);
-            clause.push(Signed::not_last(rel, attr, row))?;
-            add_alike(&mut clause, rel, attr, row, relation, own)?;
-            Ok(Some(clause))
-        }
+        Some(own) => value_of(alloc, rel, attr, row, relation, own),
         None => Ok(None),
     }
+}
+
+// That the row stands last, or another of these rows does not stand before it.
+fn top_of(
+    alloc: Global,
+    rel: RelId,
+    attr: AttrId,
+    row: RowId,
+    members: &[RowId],
+) -> Result<Option<SignedList>, NoMemory>
+    ensures { IfOk result (λ clause. clause ≡ Some (top_among rel attr row members.now)) }
+{
+    let mut clause = begun(alloc, Signed::top(rel, attr, row))?;
+    add_not_before(&mut clause, rel, attr, row, members)?;
+    Ok(Some(clause))
+}
+
+// That the row's value is not the current one, or one of these rows that have it stands last.
+fn value_of(
+    alloc: Global,
+    rel: RelId,
+    attr: AttrId,
+    row: RowId,
+    relation: &Relation,
+    members: &[RowId],
+) -> Result<Option<SignedList>, NoMemory>
+    ensures { IfOk result (λ clause. clause ≡ Some (value_among rel attr row relation.now.rows members.now)) }
+{
+    let mut clause = begun(alloc, Signed::not_last(rel, attr, row))?;
+    add_alike(&mut clause, rel, attr, row, relation, members)?;
+    Ok(Some(clause))
 }
 
 // Puts into the clause that each of these rows but one does not stand before that one.

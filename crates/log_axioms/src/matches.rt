@@ -1,10 +1,11 @@
 ghost use Rattle.std.specs.Prelude.{◌≡◌, ◌++◌, Some, IfOk, OnOk, length, map, option_map, slice_get};
-ghost use Rattle.log_axioms.specs.Axioms.{claimed_clause, match_clause, not_last};
+ghost use Rattle.log_axioms.specs.Axioms.{claimed_clause, match_clause, not_last, placed_clause};
 ghost use Rattle.log_axioms.specs.Entities.{AreIndexed};
 ghost use Rattle.log_axioms.specs.Matches.{answer_place, atom_claims, match_claims};
 
 use crate::answers::Answers;
 use crate::entities::EntityIndex;
+use crate::signed::begun;
 use crate::{Signed, SignedList};
 use currency_base::{EntId, NoMemory, RelId, Value};
 use match_premises::{Premise, PremiseList, atom_premises, comparisons_hold, head_tuple};
@@ -34,8 +35,25 @@ pub(crate) fn match_clause(
         return Ok(None);
     };
     let atoms = disjunct.atoms.as_slice();
+    placed_clause(alloc, spec, index, place, values, atoms, entities)
+}
+
+// The clause of a match whose tuple stands at a place.
+fn placed_clause(
+    alloc: Global,
+    spec: &Specification,
+    index: &EntityIndex,
+    place: u32,
+    values: &[Value],
+    atoms: &[Atom],
+    entities: &[EntId],
+) -> Result<Option<SignedList>, NoMemory>
+    requires index { AreIndexed spec.now.relations index.now }
+    requires per_atom { length entities.now ≡ length atoms.now }
+    ensures { IfOk result (λ clause. clause ≡ placed_clause spec.now.relations place entities.now values.now atoms.now) }
+{
     match match_claims(alloc, spec, index, values, atoms, entities)? {
-        Some(premises) => Ok(Some(claimed_clause(alloc, place, premises.as_slice())?)),
+        Some(premises) => claimed_clause(alloc, place, premises.as_slice()),
         None => Ok(None),
     }
 }
@@ -130,13 +148,16 @@ fn add_premises(premises: &mut PremiseList, more: &[Premise]) -> Result<(), NoMe
 }
 
 // That the tuple at a place is an answer, or one of the premises does not hold.
-fn claimed_clause(alloc: Global, place: u32, premises: &[Premise]) -> Result<SignedList, NoMemory>
-    ensures { IfOk result (λ clause. Some clause ≡ claimed_clause (Some place) (Some premises.now)) }
+fn claimed_clause(
+    alloc: Global,
+    place: u32,
+    premises: &[Premise],
+) -> Result<Option<SignedList>, NoMemory>
+    ensures { IfOk result (λ clause. clause ≡ claimed_clause (Some place) (Some premises.now)) }
 {
-    let mut clause = SignedList::new(alloc);
-    clause.push(Signed::answer(place))?;
+    let mut clause = begun(alloc, Signed::answer(place))?;
     add_denied(&mut clause, premises)?;
-    Ok(clause)
+    Ok(Some(clause))
 }
 
 // Puts the negation of each premise into the clause.

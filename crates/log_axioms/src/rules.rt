@@ -1,5 +1,5 @@
 ghost use Rattle.std.specs.Prelude.{◌≡◌, ◌≤◌, ◌++◌, IfOk, OnOk, Some, length, map};
-ghost use Rattle.log_axioms.specs.Axioms.{rule_clause, instance_clause, concluded_clause, not_before};
+ghost use Rattle.log_axioms.specs.Axioms.{rule_clause, instance_clause, instance_said, concluded_clause, not_before};
 
 use crate::conditions::of_one_entity;
 use crate::{Signed, SignedList};
@@ -22,7 +22,7 @@ pub(crate) fn rule_clause(
         return Ok(None);
     }
     match rule.instance(alloc, &relation.rows, rows) {
-        Some(instance) => Ok(Some(instance_clause(alloc, rule.relation, &instance)?)),
+        Some(instance) => instance_clause(alloc, rule.relation, &instance),
         None => Ok(None),
     }
 }
@@ -32,13 +32,24 @@ fn instance_clause(
     alloc: Global,
     rel: RelId,
     instance: &RuleInstance,
-) -> Result<SignedList, NoMemory>
-    ensures { IfOk result (λ clause. Some clause ≡ instance_clause rel (Some instance.now)) }
+) -> Result<Option<SignedList>, NoMemory>
+    ensures { IfOk result (λ clause. clause ≡ instance_clause rel (Some instance.now)) }
 {
     let mut clause = SignedList::new(alloc);
-    add_premises(&mut clause, rel, instance.premises.as_slice())?;
-    add_conclusion(&mut clause, rel, instance.conclusion)?;
-    Ok(clause)
+    add_instance(&mut clause, rel, instance)?;
+    Ok(Some(clause))
+}
+
+// Puts them into the clause.
+fn add_instance(
+    clause: &mut SignedList,
+    rel: RelId,
+    instance: &RuleInstance,
+) -> Result<(), NoMemory>
+    ensures { OnOk result (clause.new ≡ clause.old ++ instance_said rel instance.now) }
+{
+    add_premises(clause, rel, instance.premises.as_slice())?;
+    add_conclusion(clause, rel, instance.conclusion)
 }
 
 // Puts into the clause the negation of each premise.

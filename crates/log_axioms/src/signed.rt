@@ -1,8 +1,9 @@
-ghost use Rattle.std.specs.Prelude.{◌≡◌};
+ghost use Rattle.std.specs.Prelude.{◌≡◌, ◌∷◌, ◌++◌, [], Some, IfOk, OnOk};
 ghost use Rattle.log_axioms.specs.Axioms.{answer, before, not_before, top, not_top, last, not_last};
 
-use currency_base::{AttrId, ItemList, RelId, RowId};
+use currency_base::{AttrId, ItemList, NoMemory, RelId, RowId};
 use refutation_log::Statement;
+use std::alloc::Global;
 
 /// A statement, or its negation.
 #[derive(Clone, Copy, PartialEq, Eq)]
@@ -94,4 +95,32 @@ impl Signed {
             negative: false,
         }
     }
+}
+
+/// A clause of these statements.
+pub(crate) fn some_clause(alloc: Global, signed: &[Signed]) -> Result<Option<SignedList>, NoMemory>
+    ensures { IfOk result (λ clause. clause ≡ Some signed.now) }
+{
+    let mut clause = SignedList::new(alloc);
+    push_all(&mut clause, signed)?;
+    Ok(Some(clause))
+}
+
+// Puts statements after the others of a clause.
+fn push_all(clause: &mut SignedList, signed: &[Signed]) -> Result<(), NoMemory>
+    ensures { OnOk result (clause.new ≡ clause.old ++ signed.now) }
+{
+    for one in signed {
+        clause.push(*one)?;
+    }
+    Ok(())
+}
+
+/// A clause of one statement, to which others are added.
+pub(crate) fn begun(alloc: Global, signed: Signed) -> Result<SignedList, NoMemory>
+    ensures { IfOk result (λ clause. clause ≡ signed ∷ []) }
+{
+    let mut clause = SignedList::new(alloc);
+    clause.push(signed)?;
+    Ok(clause)
 }

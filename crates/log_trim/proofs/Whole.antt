@@ -7,9 +7,9 @@ use Rattle.refutation_log.specs.declared.log.Log.{Log}
 use Rattle.refutation_log.specs.declared.statement.Statement.{Statement}
 use Rattle.refutation_log.specs.declared.statement.Statement.TheVariants.{Before, Top, Last, Answer}
 use Rattle.refutation_log.specs.declared.step.Step.{Step}
-use Rattle.log_trim.specs.Trimmed.{Reaches, IsUsedVar, IsUsedAnswer, IsTrimmed, lits_at, kept_of, rank, renumbered_step, renumbered_statement}
+use Rattle.log_trim.specs.Trimmed.{AreInPlace, Reaches, IsUsedVar, IsUsedAnswer, IsTrimmed, lits_at, kept_of, rank, renumbered_step, renumbered_statement}
 use Rattle.log_trim.specs.declared.trimming.Trimmed.{Trimmed}
-use Rattle.log_trim.specs.Marked.{is_marked, vars_at, answers_of, answers_at, IsOfMarked, IsMarkedWhere}
+use Rattle.log_trim.specs.Marked.{is_marked, vars_at, answers_of, answers_at, IsOfMarked, IsMarkedWhere, AreReached, AreUsed, AreNamed}
 use Rattle.log_trim.proofs.Marking.{marked_within, contains_cases, contains_first, contains_later, contains_none}
 
 -- ---- members of a list that is mapped
@@ -63,6 +63,26 @@ pub answers_in : (statements : List Statement) (count : ℕ)
 answers_in statements count inside place k d below =
     inside place _ (named_by statements place _ (Contains-get_or (answers_at statements place) k d below))
 
+-- ---- places in lists of marks that are as long
+
+-- the variables of literals
+pub vars_within : (log : Log) (goals : List ℕ) (marks : List Bool) → AreInPlace log goals → AreUsed log goals marks
+    → (place : ℕ) → All (λ lit. var_of lit < length marks) (lits_at log.steps place)
+vars_within log goals marks at used place =
+    subst (λ (n : ℕ). All (λ lit. var_of lit < n) (lits_at log.steps place)) (sym used.count) (at.vars_in place)
+
+-- the answers that statements name
+pub tuples_within : (log : Log) (goals : List ℕ) (marks : List Bool) → AreInPlace log goals → AreNamed log goals marks
+    → (place : ℕ) → All (λ tuple. tuple < length marks) (answers_at log.statements place)
+tuples_within log goals marks at named place =
+    subst (λ (n : ℕ). All (λ tuple. tuple < n) (answers_at log.statements place)) (sym named.count)
+    (answers_in log.statements (length log.answers) at.tuples_in place)
+
+-- the goals
+pub goals_within : (log : Log) (goals : List ℕ) (marks : List Bool) → AreInPlace log goals → AreReached log goals marks
+    → All (λ goal. goal < length marks) goals
+goals_within log goals marks at reached = subst (λ (n : ℕ). All (λ goal. goal < n) goals) (sym reached.count) at.goals_in
+
 -- ---- what is marked, in the words of the definition
 
 pub used_vars : (steps : List Step) (goals : List ℕ) (reached used : List Bool) → length reached ≡ length steps
@@ -106,34 +126,38 @@ named_answers_are log goals used named count vars_marked answers_marked tuple = 
       }),
 )
 
+pub used_are : (log : Log) (goals : List ℕ) (reached marks numbers : List Bool) → AreReached log goals reached
+    → length marks ≡ length log.statements → IsMarkedWhere marks (IsOfMarked reached (vars_at log.steps) (length log.steps))
+    → numbers ≡ marks → AreUsed log goals numbers
+used_are log goals reached marks numbers steps count marked same =
+    subst (λ (m : List Bool). AreUsed log goals m) (sym same)
+    (record { count = count; marked = used_vars log.steps goals reached marks steps.count steps.marked marked })
+
+pub named_are : (log : Log) (goals : List ℕ) (used marks numbers : List Bool) → AreUsed log goals used
+    → length marks ≡ length log.answers → IsMarkedWhere marks (IsOfMarked used (answers_at log.statements) (length log.statements))
+    → numbers ≡ marks → AreNamed log goals numbers
+named_are log goals used marks numbers vars count marked same =
+    subst (λ (m : List Bool). AreNamed log goals m) (sym same)
+    (record { count = count; marked = named_answers_are log goals used marks vars.count vars.marked marked })
+
 -- ---- the trimmed log
 
-pub trimmed_is : (log : Log) (goals : List ℕ) (reached used named steps statements answers : List Bool) (trimmed : Trimmed)
-    → length reached ≡ length log.steps → length used ≡ length log.statements
-    → IsMarkedWhere reached (Reaches log.steps goals)
-    → IsMarkedWhere used (IsOfMarked reached (vars_at log.steps) (length log.steps))
-    → IsMarkedWhere named (IsOfMarked used (answers_at log.statements) (length log.statements))
-    → steps ≡ reached → statements ≡ used → answers ≡ named
+pub trimmed_is : (log : Log) (goals : List ℕ) (steps statements answers : List Bool) (trimmed : Trimmed)
+    → AreReached log goals steps → AreUsed log goals statements → AreNamed log goals answers
     → trimmed.log.steps ≡ map (renumbered_step (is_marked steps) (is_marked statements)) (kept_of (is_marked steps) log.steps)
     → trimmed.log.statements ≡ map (renumbered_statement (is_marked answers)) (kept_of (is_marked statements) log.statements)
     → trimmed.log.answers ≡ kept_of (is_marked answers) log.answers
     → trimmed.goals ≡ map (rank (is_marked steps)) goals
     → IsTrimmed log goals trimmed
-trimmed_is log goals reached used named steps statements answers trimmed steps_count vars_count steps_marked vars_marked
-    answers_marked
-    same_steps same_statements same_answers new_steps new_statements new_answers new_goals =
-    let vars_used = used_vars log.steps goals reached used steps_count steps_marked vars_marked in
-    record {
-      step_kept = is_marked steps;
-      statement_kept = is_marked statements;
-      answer_kept = is_marked answers;
-      kept_steps = subst (λ (m : List Bool). IsMarkedWhere m (Reaches log.steps goals)) (sym same_steps) steps_marked;
-      kept_statements = subst (λ (m : List Bool). IsMarkedWhere m (IsUsedVar log.steps goals)) (sym same_statements) vars_used;
-      kept_answers =
-          subst (λ (m : List Bool). IsMarkedWhere m (IsUsedAnswer log goals)) (sym same_answers)
-          (named_answers_are log goals used named vars_count vars_used answers_marked);
-      steps = new_steps;
-      statements = new_statements;
-      answers = new_answers;
-      new_goals = new_goals;
-    }
+trimmed_is log goals steps statements answers trimmed reached used named new_steps new_statements new_answers new_goals = record {
+  step_kept = is_marked steps;
+  statement_kept = is_marked statements;
+  answer_kept = is_marked answers;
+  kept_steps = reached.marked;
+  kept_statements = used.marked;
+  kept_answers = named.marked;
+  steps = new_steps;
+  statements = new_statements;
+  answers = new_answers;
+  new_goals = new_goals;
+}

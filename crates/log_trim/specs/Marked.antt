@@ -4,7 +4,8 @@ use Rattle.currency_base.specs.Literals.{var_of}
 use Rattle.refutation_log.specs.declared.statement.Statement.{Statement}
 use Rattle.refutation_log.specs.declared.statement.Statement.TheVariants as statement
 use Rattle.refutation_log.specs.declared.step.Step.{Step}
-use Rattle.log_trim.specs.Trimmed.{lits_at, rank}
+use Rattle.refutation_log.specs.declared.log.Log.{Log}
+use Rattle.log_trim.specs.Trimmed.{Reaches, IsUsedVar, IsUsedAnswer, lits_at, rank}
 
 -- a place is marked
 abbrev pub is_marked : List Bool → ℕ → Bool
@@ -63,3 +64,20 @@ pub record AreRanks (marks : List Bool) (ranks : List ℕ) : Type 0 where
 -- the item, where it is kept
 abbrev pub one_where : {X : Type 0} → Bool → X → List X
 one_where told x = if told then x ∷ [] else []
+
+-- ---- what is kept of a log
+
+-- the steps that goals reach are marked
+pub record AreReached (log : Log) (goals : List ℕ) (marks : List Bool) : Type 0 where
+  pub count : length marks ≡ length log.steps
+  pub marked : IsMarkedWhere marks (Reaches log.steps goals)
+
+-- the statements whose variables stand in such a step are marked
+pub record AreUsed (log : Log) (goals : List ℕ) (marks : List Bool) : Type 0 where
+  pub count : length marks ≡ length log.statements
+  pub marked : IsMarkedWhere marks (IsUsedVar log.steps goals)
+
+-- the answers that such a statement names are marked
+pub record AreNamed (log : Log) (goals : List ℕ) (marks : List Bool) : Type 0 where
+  pub count : length marks ≡ length log.answers
+  pub marked : IsMarkedWhere marks (IsUsedAnswer log goals)

@@ -35,6 +35,13 @@ impl Numbering {
         Ok(Numbering { marks, ranks })
     }
 
+    /// The marks of the places that are kept.
+    pub fn marks(&self) -> &Marks
+        ensures { result.now ≡ self.now }
+    {
+        &self.marks
+    }
+
     /// Is the place kept?
     pub fn is_kept(&self, place: usize) -> bool
         requires { place < length self.now }

@@ -4,16 +4,24 @@ use Rattle.std.proofs.lemmas.List.{take_more}
 use Rattle.std.proofs.lemmas.List.Elements.{Contains-push_cases, Contains-push, Contains-append_left, Contains-get_or}
 use Rattle.std.proofs.lemmas.Option.{slice_get_within, get_or_from_slice_get, same_Some, none-some}
 use Rattle.currency_base.specs.Lists.{OnlyOnce}
+use Rattle.currency_base.specs.Literals.{negation}
 use Rattle.currency_base.specs.declared.lit.Lit.{Lit}
 use Rattle.refutation_log.specs.declared.statement.Statement.{Statement}
 use Rattle.refutation_log.specs.declared.step.Label.{Label}
 use Rattle.refutation_log.specs.declared.step.Step.{Step}
 use Rattle.refutation_log.specs.declared.step.Step.TheVariants as step
 use Rattle.order_literals.specs.Said.{Said, Says}
+use Rattle.order_literals.proofs.Sayings.{opposite, negation_says}
 use Rattle.order_clauses.specs.Clauses.{SaysOneOf, IsSaidByOne, AreLits}
 use Rattle.order_clauses.specs.Added.{Say, IsClauseOf, AreDistinctOf, IsAddedTo, IsStepOf, Adds}
 use Rattle.order_clauses.specs.Subject.{Subject, told}
 use Rattle.order_clauses.proofs.Adding.{adds_one}
+
+-- the negation of a literal says the same with the other sign
+pub says_not : (statements : List Statement) (lit other : Lit) (s : Said) → other ≡ negation lit → Says statements lit s
+    → Says statements other (opposite s)
+says_not statements lit other s is says =
+    subst (λ (l : Lit). Says statements l (opposite s)) (sym is) (negation_says statements lit s says)
 
 -- ---- each literal says a member of the clause, and each member is said
 

@@ -1,13 +1,15 @@
 -- The axioms on the order of three rows.
 use Rattle.std.proofs.Common.{◌≡◌, ◌≢◌, ◌∙◌, ◌⊎◌, ◌<◌, ◌+◌, ℕ, Bool, true, false, not, List, [], ◌∷◌, Contains, Option, Some, None, length, slice_get, refl, sym, ap, subst, inl, inr, ⊎_elim, arith}
+use Rattle.std.proofs.Common.{slice_index_or}
 use Rattle.std.proofs.lemmas.Bool.{cases_order}
 use Rattle.std.proofs.lemmas.List.Elements.{All-nil, All-cons, All-contains}
-use Rattle.std.proofs.lemmas.Option.{same_Some, slice_get_within}
+use Rattle.std.proofs.lemmas.Option.{same_Some, slice_get_within, slice_get-get_or}
 use Rattle.currency_base.specs.Lists.{OnlyOnce}
 use Rattle.currency_base.specs.declared.ids.AttrId.{AttrId}
 use Rattle.currency_base.specs.declared.ids.RelId.{RelId}
 use Rattle.currency_base.specs.declared.ids.RowId.{RowId}
 use Rattle.currency_base.specs.declared.lit.Lit.{Lit}
+use Rattle.currency_base.specs.declared.row.Row.{Row}
 use Rattle.partial_orders.specs.Pairs.{entity_of}
 use Rattle.spec_model.specs.declared.relation.Relation.{Relation}
 use Rattle.refutation_log.specs.declared.statement.Statement.{Statement}
@@ -19,10 +21,10 @@ use Rattle.refutation_log.specs.declared.step.Step.TheVariants as step
 use Rattle.order_literals.specs.Axioms.{AreTwo, IsAxiom}
 use Rattle.order_literals.specs.Said.{Said, Says, turned, before, not_before}
 use Rattle.order_literals.specs.Laws.{OneSaid}
-use Rattle.order_clauses.specs.Added.{Adds, AreStepsOf, IsStepOf, below}
+use Rattle.order_clauses.specs.Added.{Adds, AreStepsOf, IsClauseOf, IsStepOf, below}
 use Rattle.order_clauses.specs.Clauses.{SaysOneOf, IsSaidByOne, AreLits, IsAxiomStep, IsTransitiveStep, StandsAmong, AreTransitive}
 use Rattle.order_clauses.specs.Listing.{members_of, three_label, first_labels, second_labels, third_labels, three_labels}
-use Rattle.order_clauses.specs.Subject.{told, Attribute, IsAttribute}
+use Rattle.order_clauses.specs.Subject.{told, AreThree, Attribute, IsAttribute}
 use Rattle.order_clauses.proofs.LabelsAre.{same_row}
 use Rattle.order_clauses.proofs.Listed.{at_of, in_below, below_in, in_none, once_both, once_none, once_one, once_below, in_one}
 use Rattle.order_clauses.proofs.Members.{member_is, member_there, members_ascend, members_once}
@@ -47,10 +49,59 @@ two_at r ent i j rows a b e below at_a at_b =
 abbrev three_clause : RelId → AttrId → RowId → RowId → RowId → List Said
 three_clause rel attr f s t = not_before rel attr f s ∷ not_before rel attr s t ∷ before rel attr f t ∷ []
 
-pub first_added : (p : Attribute) (rows : List RowId) (third second first : ℕ) (a b c : RowId) (x y : List Step) → slice_get rows first ≡ Some a → slice_get rows second ≡ Some b
-    → slice_get rows third ≡ Some c → Adds p.subject (three_label p (Some a) (Some b) (Some c)) x y → Adds p.subject (first_labels p rows third second first) x y
+-- the row at a place
+abbrev pub row_at : List RowId → ℕ → RowId
+row_at rows i = slice_index_or rows i (record { 0 = 0 })
+
+pub row_there : (rows : List RowId) (i : ℕ) → i < length rows → slice_get rows i ≡ Some (row_at rows i)
+row_there rows i within = slice_get-get_or rows i (record { 0 = 0 }) within
+
+after : (i j k : ℕ) → i < j → j < k → i < k
+after i j k ij jk = omega arith
+
+-- rows of an entity at three places, one after another
+pub three_at_places : (r : Relation) (ent : ℕ) (rows : List RowId) (i j k : ℕ) → rows ≡ members_of r ent → i < j → j < k
+    → k < length rows → AreThree r.rows (row_at rows i) (row_at rows j) (row_at rows k)
+three_at_places r ent rows i j k e ij jk within =
+    let j_within = after j k (length rows) jk within in
+    let at_i = row_there rows i (after i j (length rows) ij j_within) in
+    let at_j = row_there rows j j_within in
+    let at_k = row_there rows k within in
+    record {
+      first_two = two_at r ent i j rows (row_at rows i) (row_at rows j) e ij at_i at_j;
+      last_two = two_at r ent j k rows (row_at rows j) (row_at rows k) e jk at_j at_k;
+      outer_two = two_at r ent i k rows (row_at rows i) (row_at rows k) e (after i j k ij jk) at_i at_k;
+    }
+
+pub first_added : (p : Attribute) (rows : List RowId) (i j k : ℕ) (x y : List Step) → i < j → j < k → k < length rows
+    → Adds p.subject (three_label p (Some (row_at rows i)) (Some (row_at rows j)) (Some (row_at rows k))) x y
+    → Adds p.subject (first_labels p rows k j i) x y
 unfolding first_labels
-first_added p rows third second first a b c x y at_a at_b at_c adds = rw (at_a, at_b, at_c) adds
+first_added p rows i j k x y ij jk within adds =
+    let j_within = after j k (length rows) jk within in
+    rw (row_there rows i (after i j (length rows) ij j_within), row_there rows j j_within, row_there rows k within) adds
+
+two_back : (rows : List Row) (a b : RowId) → AreTwo rows a b → AreTwo rows b a
+two_back rows a b two = record { ent = two.ent; a_of = two.b_of; b_of = two.a_of; differ = λ e. two.differ (sym e) }
+
+-- three rows the other way round
+pub three_back : (rows : List Row) (a b c : RowId) → AreThree rows a b c → AreThree rows c b a
+three_back rows a b c three = record {
+  first_two = two_back rows b c three.last_two;
+  last_two = two_back rows a b three.first_two;
+  outer_two = two_back rows a c three.outer_two;
+}
+
+-- the literals of their clause
+pub three_is_clause : (p : Attribute) (f s t : RowId) (a b c : Lit) → IsAttribute p → AreThree p.relation.rows f s t
+    → Says (told p.subject) a (not_before p.rel p.attr f s) → Says (told p.subject) b (not_before p.rel p.attr s t)
+    → Says (told p.subject) c (before p.rel p.attr f t)
+    → IsClauseOf p.subject (label.Transitive p.rel p.attr f s t) (a ∷ b ∷ c ∷ [])
+three_is_clause p f s t a b c is three x y z = record {
+  clause = three_clause p.rel p.attr f s t;
+  is_axiom = (p.relation, is.is_relation, (is.attr_within, three.first_two, three.last_two, three.outer_two, refl));
+  say = (x, (y, (z, tt)));
+}
 
 -- ---- which labels are listed
 

@@ -25,6 +25,7 @@ use Rattle.order_literals.specs.Said.{Said}
 use Rattle.order_clauses.specs.Added.{IsStepOf, AreStepsOf, Adds}
 use Rattle.order_clauses.specs.Clauses.{IsAsked, IsAskedStep, StandsOverOne, AreAxioms}
 use Rattle.order_clauses.specs.Listing.{given_at, given_labels, rule_at, rule_labels, copy_at, copy_labels, row_labels, wanted_at, wanted_labels, all_labels}
+use Rattle.order_clauses.specs.Listing.{AddsAll}
 use Rattle.order_clauses.specs.Subject.{Subject, told}
 use Rattle.order_clauses.proofs.Adding.{adds_both}
 use Rattle.order_clauses.proofs.GivenPairs.{entity_there}
@@ -252,3 +253,11 @@ all_added s rules copies a b c d e one two three four =
     adds_both s (given_labels s.spec) (rule_labels rules ++ (copy_labels s.spec copies ++ wanted_labels s)) a b e one
     (adds_both s (rule_labels rules) (copy_labels s.spec copies ++ wanted_labels s) b c e two
     (adds_both s (copy_labels s.spec copies) (wanted_labels s) c d e three four))
+
+pub all_put : (s : Subject) (rules : List (List (List RowId))) (copies : List (List CopiedPair)) (a b c d e : List Step)
+    → OnlyOnce (given_labels s.spec) → Adds s (given_labels s.spec) a b → Adds s (rule_labels rules) b c
+    → Adds s (copy_labels s.spec copies) c d → Adds s (wanted_labels s) d e → AddsAll s rules copies a e
+all_put s rules copies a b c d e once one two three four = record {
+  adds = all_added s rules copies a b c d e one two three four;
+  given_once = once;
+}

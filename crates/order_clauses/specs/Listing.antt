@@ -1,6 +1,7 @@
 -- The labels whose axioms are brought in from the start, in their order.
 use Rattle.std.specs.Prelude.{◌==◌, ℕ, Bool, List, [], ◌∷◌, ◌++◌, Option, Some, None, length, slice_get, slice_index_or, if◌then◌else◌}
 use Rattle.std.specs.List.{flat_map}
+use Rattle.currency_base.specs.Lists.{OnlyOnce}
 use Rattle.currency_base.specs.declared.ids.CopyId.{CopyId}
 use Rattle.currency_base.specs.declared.ids.RelId.{RelId}
 use Rattle.currency_base.specs.declared.ids.RowId.{RowId}
@@ -14,9 +15,10 @@ use Rattle.spec_model.specs.declared.relation.Relation.{Relation}
 use Rattle.value_names.specs.Names.{name_of}
 use Rattle.refutation_log.specs.declared.step.Label.{Label}
 use Rattle.refutation_log.specs.declared.step.Label.TheVariants as label
+use Rattle.refutation_log.specs.declared.step.Step.{Step}
 use Rattle.order_literals.specs.Numbers.{is_wanted}
 use Rattle.order_literals.specs.Said.{Said, not_before, top, not_last}
-use Rattle.order_clauses.specs.Added.{below}
+use Rattle.order_clauses.specs.Added.{Adds, below}
 use Rattle.order_clauses.specs.Subject.{Subject, Attribute}
 
 -- ---- given pairs
@@ -139,6 +141,12 @@ value_clause p ent row = not_last p.rel p.attr row ∷ [] ++ flat_map (alike_sai
 unfoldable pub all_labels : Subject → List (List (List RowId)) → List (List CopiedPair) → List Label
 all_labels s rules copies = given_labels s.spec ++ (rule_labels rules ++ (copy_labels s.spec copies ++ wanted_labels s))
 
+-- their axioms are put after the steps; and no given pair has two labels
+pub record AddsAll (s : Subject) (rules : List (List (List RowId))) (copies : List (List CopiedPair)) (old new : List Step)
+    : Type 0 where
+  pub adds : Adds s (all_labels s rules copies) old new
+  pub given_once : OnlyOnce (given_labels s.spec)
+
 -- ---- three rows of an entity, both ways round
 
 abbrev pub three_label : Attribute → Option RowId → Option RowId → Option RowId → List Label
@@ -158,3 +166,7 @@ third_labels p rows third = below (second_labels p rows third) third
 
 unfoldable pub three_labels : Attribute → List RowId → List Label
 three_labels p rows = below (third_labels p rows) (length rows)
+
+-- of the rows of an entity
+abbrev pub three_of : Attribute → ℕ → List Label
+three_of p ent = three_labels p (members_of p.relation ent)

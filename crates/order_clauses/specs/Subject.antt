@@ -4,6 +4,7 @@ use Rattle.currency_base.specs.declared.ids.AttrId.{AttrId}
 use Rattle.currency_base.specs.declared.ids.RelId.{RelId}
 use Rattle.currency_base.specs.declared.ids.RowId.{RowId}
 use Rattle.currency_base.specs.declared.pair.Pair.{Pair}
+use Rattle.currency_base.specs.declared.row.Row.{Row}
 use Rattle.copied_pairs.specs.Copied.{IsCopiedPair}
 use Rattle.copied_pairs.specs.declared.pairs.CopiedPair.{CopiedPair}
 use Rattle.copy_functions.specs.Copies.{CopyFunction}
@@ -55,6 +56,12 @@ pub record IsAttribute (p : Attribute) : Type 0 where
 pub record IsWantedRow (p : Attribute) (row : RowId) : Type 0 where
   pub wanted : is_wanted p.subject.wanted.currents p.rel.0 ≡ true
   pub within : row.0 < length p.relation.rows
+
+-- three different rows of one entity
+pub record AreThree (rows : List Row) (first second third : RowId) : Type 0 where
+  pub first_two : AreTwo rows first second
+  pub last_two : AreTwo rows second third
+  pub outer_two : AreTwo rows first third
 
 -- a ground of one of the rules
 pub record IsGroundOf (s : Spec) (k : ℕ) (rows : List RowId) : Type 0 where

@@ -1,8 +1,9 @@
-ghost use Rattle.std.specs.Prelude.{◌≡◌, [], IfOk};
+ghost use Rattle.std.specs.Prelude.{◌≡◌, IfOk, OnOk};
 ghost use Rattle.entity_ground.specs.Grounds.{AreCopyGrounds, AreRuleGrounds};
 ghost use Rattle.order_literals.specs.Numbers.{numbers_of};
 ghost use Rattle.order_literals.specs.Statements.{statements_of};
 ghost use Rattle.order_clauses.specs.Clauses.{AreAxioms};
+ghost use Rattle.order_clauses.specs.Listing.{AddsAll};
 ghost use Rattle.order_clauses.specs.Subject.{told};
 
 use crate::copied::copied;
@@ -56,7 +57,7 @@ fn over<'a>(
     listed(alloc, &sayings, grounds)
 }
 
-// The axioms, section by section.
+// The axioms, where the literals are at hand.
 fn listed<'a>(alloc: Global, sayings: &'a Sayings<'a>, grounds: &Grounds) -> Result<Steps, NoMemory>
     requires rules { AreRuleGrounds sayings.now.spec grounds.now.rules }
     requires copies { AreCopyGrounds sayings.now.spec grounds.now.copies }
@@ -64,13 +65,42 @@ fn listed<'a>(alloc: Global, sayings: &'a Sayings<'a>, grounds: &Grounds) -> Res
 {
     sayings.facts();
     let mut steps = Steps::new(alloc);
+    put_all(alloc, sayings, &mut steps, grounds)?;
+    Ok(steps)
+}
+
+// Puts the axioms after the steps.
+fn put_all<'a>(
+    alloc: Global,
+    sayings: &'a Sayings<'a>,
+    steps: &mut Steps,
+    grounds: &Grounds,
+) -> Result<(), NoMemory>
+    requires rules { AreRuleGrounds sayings.now.spec grounds.now.rules }
+    requires copies { AreCopyGrounds sayings.now.spec grounds.now.copies }
+    ensures { OnOk result (AddsAll sayings.now grounds.now.rules grounds.now.copies steps.old steps.new) }
+{
     let mut scratch = Scratch {
         lits: Vec::new(alloc),
         distinct: Vec::new(alloc),
     };
-    given(sayings, &mut steps)?;
-    ruled(alloc, sayings, &mut steps, &mut scratch, &grounds.rules)?;
-    copied(sayings, &mut steps, &mut scratch.distinct, &grounds.copies)?;
-    put_wanted(sayings, &mut steps, &mut scratch)?;
-    Ok(steps)
+    put_sections(alloc, sayings, steps, &mut scratch, grounds)
+}
+
+// Puts the axioms after the steps, section by section.
+fn put_sections<'a>(
+    alloc: Global,
+    sayings: &'a Sayings<'a>,
+    steps: &mut Steps,
+    scratch: &mut Scratch,
+    grounds: &Grounds,
+) -> Result<(), NoMemory>
+    requires rules { AreRuleGrounds sayings.now.spec grounds.now.rules }
+    requires copies { AreCopyGrounds sayings.now.spec grounds.now.copies }
+    ensures { OnOk result (AddsAll sayings.now grounds.now.rules grounds.now.copies steps.old steps.new) }
+{
+    given(sayings, steps)?;
+    ruled(alloc, sayings, steps, scratch, &grounds.rules)?;
+    copied(sayings, steps, &mut scratch.distinct, &grounds.copies)?;
+    put_wanted(sayings, steps, scratch)
 }

@@ -1,13 +1,12 @@
 ghost use Rattle.std.specs.Prelude.{◌≡◌, ◌<◌, ◌∷◌, [], Some, length, slice_get, IfOk, OnOk};
 ghost use Rattle.spec_model.specs.declared.relation.Relation.{Relation};
 ghost use Rattle.refutation_log.specs.declared.step.Label.TheVariants as label;
-ghost use Rattle.order_literals.specs.Axioms.{AreTwo};
 ghost use Rattle.order_literals.specs.Numbers.{numbers_of};
 ghost use Rattle.order_literals.specs.Statements.{statements_of};
 ghost use Rattle.order_clauses.specs.Added.{Adds};
 ghost use Rattle.order_clauses.specs.Clauses.{AreTransitive};
-ghost use Rattle.order_clauses.specs.Listing.{members_of, second_labels, third_labels, three_label, three_labels};
-ghost use Rattle.order_clauses.specs.Subject.{told};
+ghost use Rattle.order_clauses.specs.Listing.{members_of, second_labels, third_labels, three_label, three_labels, three_of};
+ghost use Rattle.order_clauses.specs.Subject.{told, AreThree};
 
 use crate::column::Column;
 use crate::pushing::push_axiom;
@@ -92,10 +91,22 @@ fn of_members(alloc: Global, column: &Column<'_>, ent: EntId) -> Result<Steps, N
     column.facts();
     one_literal();
     let mut steps = Steps::new(alloc);
-    let mut distinct = Vec::new(alloc);
-    let members = column.members(ent);
-    of_rows(column, &mut steps, &mut distinct, ent, members)?;
+    put_members(alloc, column, &mut steps, ent)?;
     Ok(steps)
+}
+
+// Puts them after the steps.
+fn put_members(
+    alloc: Global,
+    column: &Column<'_>,
+    steps: &mut Steps,
+    ent: EntId,
+) -> Result<(), NoMemory>
+    requires { ent.0 < length column.now.relation.entities }
+    ensures { OnOk result (Adds column.now.subject (three_of column.now ent.0) steps.old steps.new) }
+{
+    let mut distinct = Vec::new(alloc);
+    of_rows(column, steps, &mut distinct, ent, column.members(ent))
 }
 
 // Those of its rows.
@@ -166,9 +177,7 @@ fn both_ways(
     second: RowId,
     third: RowId,
 ) -> Result<(), NoMemory>
-    requires first { AreTwo column.now.relation.rows first second }
-    requires second { AreTwo column.now.relation.rows second third }
-    requires both { AreTwo column.now.relation.rows first third }
+    requires { AreThree column.now.relation.rows first second third }
     ensures { OnOk result (Adds column.now.subject (three_label column.now (Some first) (Some second) (Some third)) steps.old steps.new) }
 {
     one_way(column, steps, distinct, first, second, third)?;
@@ -184,9 +193,7 @@ fn one_way(
     second: RowId,
     third: RowId,
 ) -> Result<(), NoMemory>
-    requires first { AreTwo column.now.relation.rows first second }
-    requires second { AreTwo column.now.relation.rows second third }
-    requires both { AreTwo column.now.relation.rows first third }
+    requires { AreThree column.now.relation.rows first second third }
     ensures { OnOk result (Adds column.now.subject (label.Transitive column.now.rel column.now.attr first second third ∷ []) steps.old steps.new) }
 {
     column.facts();

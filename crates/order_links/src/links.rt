@@ -65,12 +65,7 @@ impl<'a> Links<'a> {
     {
         let mut near = ListIdList::new(self.alloc);
         near.push(list)?;
-        for place in 0..most {
-            let Some(next) = near.as_slice().get(place).copied() else {
-                break;
-            };
-            near_linked(&self.ways, &self.marks, &mut near, next, most)?;
-        }
+        near_all(&self.ways, &self.marks, &mut near, most)?;
         Ok(near)
     }
 
@@ -86,14 +81,20 @@ impl<'a> Links<'a> {
 // The ways between the columns of a specification.
 fn ways_of(alloc: Global, spec: &Specification) -> Result<Ways, NoMemory> {
     let mut ways = Ways::new(alloc);
+    add_ways(alloc, &mut ways, spec)?;
+    ways.order();
+    Ok(ways)
+}
+
+// Adds them.
+fn add_ways(alloc: Global, ways: &mut Ways, spec: &Specification) -> Result<(), NoMemory> {
     for rule in spec.rules() {
         ways.add_rule(rule)?;
     }
     for copy in spec.copies() {
         ways.add_copy(alloc, copy, spec.relations())?;
     }
-    ways.order();
-    Ok(ways)
+    Ok(())
 }
 
 // Meets a list and those that are linked with it, over any number of links; without those that were met before.
@@ -106,14 +107,27 @@ fn meet_all(
     ensures { marks.new ≡ marks.old }
 {
     let mut met = Vec::new(alloc);
-    meet(marks, &mut met, list)?;
+    meet_from(ways, marks, &mut met, list)?;
+    Ok(met)
+}
+
+// Puts them after those that were met.
+fn meet_from(
+    ways: &Ways,
+    marks: &mut Marks<'_>,
+    met: &mut Vec<ListId>,
+    list: ListId,
+) -> Result<(), NoMemory>
+    ensures { marks.new ≡ marks.old }
+{
+    meet(marks, met, list)?;
     for place in 0..usize::MAX {
         let Some(next) = met.as_slice().get(place).copied() else {
             break;
         };
-        meet_linked(ways, marks, &mut met, next)?;
+        meet_linked(ways, marks, met, next)?;
     }
-    Ok(met)
+    Ok(())
 }
 
 // Meets the lists that a list is linked with.
@@ -179,6 +193,25 @@ fn tell_all(alloc: Global, marks: &mut Marks<'_>, met: &[ListId]) -> Result<List
         }
     }
     Ok(lists)
+}
+
+// Puts the lists that those near are linked with after them, over any number of links, up to so many.
+fn near_all(
+    ways: &Ways,
+    marks: &Marks<'_>,
+    near: &mut ListIdList,
+    most: usize,
+) -> Result<(), NoMemory>
+    requires { All (IsListOf marks.now) near.old }
+    ensures { OnOk result (All (IsListOf marks.now) near.new) }
+{
+    for place in 0..most {
+        let Some(next) = near.as_slice().get(place).copied() else {
+            break;
+        };
+        near_linked(ways, marks, near, next, most)?;
+    }
+    Ok(())
 }
 
 // Puts the lists that a list is linked with after those that are near, up to so many.

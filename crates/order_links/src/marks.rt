@@ -1,8 +1,8 @@
 ghost use Rattle.std.specs.Prelude.{◌≡◌, true, IfOk, IfSome};
-ghost use Rattle.order_links.specs.Lists.{IsListOf};
+ghost use Rattle.order_links.specs.Lists.{IsListIn, IsListOf};
 
 use crate::list::ListId;
-use currency_base::NoMemory;
+use currency_base::{AttrId, EntId, NoMemory};
 use spec_model::Relation;
 use std::alloc::Global;
 use std::marker::Model;
@@ -40,20 +40,8 @@ impl<'a> Marks<'a> {
         ensures { IfOk result (λ marks. marks ≡ relations.now) }
     {
         let mut firsts = Vec::with_capacity(alloc, relations.len())?;
-        let mut count: usize = 0;
-        for relation in relations {
-            firsts.push(count)?;
-            let Some(next) = after_lists(count, relation) else {
-                return Err(NoMemory);
-            };
-            count = next;
-        }
-        let mut marks = Vec::new(alloc);
-        let mark = Mark {
-            met: false,
-            told: false,
-        };
-        marks.resize(count, mark)?;
+        let count = put_firsts(&mut firsts, relations)?;
+        let marks = blank_marks(alloc, count)?;
         Ok(Marks {
             relations,
             firsts,
@@ -67,13 +55,9 @@ impl<'a> Marks<'a> {
     {
         let rel = list.rel.0 as usize;
         let relation = self.relations.get(rel)?;
+        let place = place_among(relation, list.attr, list.ent)?;
         let first = *self.firsts.as_slice().get(rel)?;
-        let (attr, ent) = (list.attr.0 as usize, list.ent.0 as usize);
-        if attr >= relation.attrs.len() || ent >= relation.entities.len() {
-            return None;
-        }
-        let column = attr.checked_mul(relation.entities.len())?;
-        first.checked_add(column)?.checked_add(ent)
+        first.checked_add(place)
     }
 
     /// Is there such a list?
@@ -110,6 +94,41 @@ impl<'a> Marks<'a> {
         };
         !mem::replace(&mut mark.told, true)
     }
+}
+
+// The place of the list of an attribute and an entity among those of a relation, if it has both.
+fn place_among(relation: &Relation, attr: AttrId, ent: EntId) -> Option<usize>
+    ensures { IfSome result (λ place. IsListIn relation.now attr ent) }
+{
+    let (attr, ent) = (attr.0 as usize, ent.0 as usize);
+    if attr >= relation.attrs.len() || ent >= relation.entities.len() {
+        return None;
+    }
+    attr.checked_mul(relation.entities.len())?.checked_add(ent)
+}
+
+// Puts the number of each relation's first list after the others, and answers how many lists there are.
+fn put_firsts(firsts: &mut Vec<usize>, relations: &[Relation]) -> Result<usize, NoMemory> {
+    let mut count: usize = 0;
+    for relation in relations {
+        firsts.push(count)?;
+        let Some(next) = after_lists(count, relation) else {
+            return Err(NoMemory);
+        };
+        count = next;
+    }
+    Ok(count)
+}
+
+// Marks of so many lists, of which none was met and none was told.
+fn blank_marks(alloc: Global, count: usize) -> Result<Vec<Mark>, NoMemory> {
+    let mut marks = Vec::new(alloc);
+    let mark = Mark {
+        met: false,
+        told: false,
+    };
+    marks.resize(count, mark)?;
+    Ok(marks)
 }
 
 // How many lists there are up to the end of a relation's, where so many go before; `None` where they are too many to

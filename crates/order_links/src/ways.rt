@@ -106,25 +106,28 @@ impl Ways {
         copy: &CopyMap,
         relations: &[Relation],
     ) -> Result<(), NoMemory> {
-        let (target, source) = (copy.target(), copy.source());
-        let Some(target_rows) = rows_of(relations, target) else {
+        let Some(target_rows) = rows_of(relations, copy.target()) else {
             return Ok(());
         };
-        let Some(source_rows) = rows_of(relations, source) else {
+        let Some(source_rows) = rows_of(relations, copy.source()) else {
             return Ok(());
         };
         let forth = self.ties.len();
-        let back = forth + 1;
         let (there, here) = ties_of(alloc, copy, target_rows, source_rows)?;
-        self.ties.push(there)?;
-        self.ties.push(here)?;
+        push_both(&mut self.ties, there, here)?;
+        self.add_places(copy, forth)
+    }
+
+    // Adds ways between the attributes at each place of a copy function, over the ties of this number and back over the next.
+    fn add_places(&mut self, copy: &CopyMap, forth: usize) -> Result<(), NoMemory> {
+        let back = forth.saturating_add(1);
         for place in copy.places().as_slice() {
             let from = Column {
-                rel: target,
+                rel: copy.target(),
                 attr: place.target,
             };
             let to = Column {
-                rel: source,
+                rel: copy.source(),
                 attr: place.source,
             };
             self.add_both(from, to, Some(forth), Some(back))?;
@@ -165,15 +168,34 @@ fn ties_of(
 ) -> Result<(Ties, Ties), NoMemory> {
     let mut there = Ties::new(alloc);
     let mut here = Ties::new(alloc);
+    add_ties(&mut there, &mut here, copy, target, source)?;
+    there.order();
+    here.order();
+    Ok((there, here))
+}
+
+// Adds them.
+fn add_ties(
+    there: &mut Ties,
+    here: &mut Ties,
+    copy: &CopyMap,
+    target: &[Row],
+    source: &[Row],
+) -> Result<(), NoMemory> {
     for (number, row) in (0..u32::MAX).zip(target) {
         if let Some(from) = source_entity(copy, source, RowId(number)) {
             there.add(row.entity, from)?;
             here.add(from, row.entity)?;
         }
     }
-    there.order();
-    here.order();
-    Ok((there, here))
+    Ok(())
+}
+
+// Puts ties that lead from entities and those that lead back after the others.
+fn push_both(ties: &mut Vec<Ties>, there: Ties, here: Ties) -> Result<(), NoMemory> {
+    ties.push(there)?;
+    ties.push(here)?;
+    Ok(())
 }
 
 // The entity of the row that a row was copied from, if it was.

@@ -1,4 +1,4 @@
-ghost use Rattle.std.specs.Prelude.{◌≡◌, ◌+◌, ◌<◌, true, [], is_ok, length, IfOk, OnOk};
+ghost use Rattle.std.specs.Prelude.{◌≡◌, ◌+◌, ◌<◌, true, is_ok, length, IfOk, OnOk};
 ghost use Rattle.copy_functions.specs.Copies.{IsCopied};
 ghost use Rattle.part_laws.specs.Parts.{rows_in, IsCopyPart};
 ghost use Rattle.spec_model.specs.Facts.{AreCopies};
@@ -6,9 +6,10 @@ ghost use Rattle.spec_parts.specs.Steps.{ArePartsSoFar, AreCuttable, AreClosedCo
 
 use crate::laws::is_specification;
 use crate::place::place_of_row;
-use copy_functions::{CopyFault, CopyMap, PlaceList};
+use copy_functions::{CopyFault, CopyMap};
 use currency_base::{NoMemory, RowId, Rows};
 use part_places::Places;
+use spec_duplicates::unmapped;
 use spec_model::Specification;
 use std::alloc::Global;
 
@@ -87,26 +88,6 @@ fn copy_part(
         )?;
     }
     Ok(new)
-}
-
-/// The copy function with no row mapped.
-fn unmapped(alloc: Global, copy: &CopyMap) -> Result<CopyMap, NoMemory>
-    ensures { IfOk result (λ new. new ≡ record copy.now { sources = [] }) }
-{
-    let name = copy.name().duplicate(alloc)?;
-    let places = copied_places(alloc, copy.places())?;
-    Ok(CopyMap::new(alloc, name, copy.target(), copy.source(), places))
-}
-
-/// The places, copied.
-fn copied_places(alloc: Global, places: &PlaceList) -> Result<PlaceList, NoMemory>
-    ensures { IfOk result (λ copy. copy ≡ places.now) }
-{
-    let mut list = PlaceList::new(alloc);
-    for place in places.as_slice() {
-        list.push(*place)?;
-    }
-    Ok(list)
 }
 
 /// Maps a row of the part to the row that it is mapped to in the whole, if it is.

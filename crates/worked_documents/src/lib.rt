@@ -1,11 +1,15 @@
 //! Documents in memory, and a run of the program over them: what the crates of rows share.
 #![tactic(auto)]
 
+mod spelling;
+mod transcript;
+
 use currency_base::NoMemory;
 use currency_cli::run;
 use currency_edge::{MemoryShelf, MemorySink, Shelf, Sink};
 use solver_guides::Guides;
 use std::alloc::Global;
+pub use transcript::played;
 
 /// A specification of one relation.
 pub const S: &str = "relation R from \"r.csv\" row id entity eid (a: int);\n";
@@ -66,6 +70,15 @@ pub fn words_of(alloc: Global, words: &[&str]) -> Result<Vec<String>, NoMemory> 
     Ok(all)
 }
 
+/// The words of a line as the program gets them, behind its name.
+pub fn words_of_line(alloc: Global, line: &str) -> Result<Vec<String>, NoMemory> {
+    let mut all = words_of(alloc, &["currency"])?;
+    for word in line.split(' ') {
+        all.push(String::from_str(alloc, word)?)?;
+    }
+    Ok(all)
+}
+
 /// The status and the sink of these words over these documents, with no guide.
 pub fn asked(
     alloc: Global,
@@ -116,34 +129,4 @@ pub fn with(place: usize, text: &[u8]) -> Documents<'_> {
             ..documents
         },
     }
-}
-
-/// The text with a line more.
-pub fn with_line(alloc: Global, text: &[u8], line: &str) -> Result<Vec<u8>, NoMemory> {
-    let mut all = Vec::from_slice(alloc, text)?;
-    all.extend_from_slice(line.as_bytes())?;
-    Ok(all)
-}
-
-/// A stretch of numbers, both ends in it.
-#[derive(Clone, Copy)]
-pub struct Numbers {
-    pub first: u32,
-    pub last: u32,
-}
-
-/// The text with one piece more for each number, which stands between `before` and `after`.
-pub fn with_each(
-    alloc: Global,
-    text: &str,
-    numbers: Numbers,
-    before: &str,
-    after: &str,
-) -> Result<String, NoMemory> {
-    let mut all = String::from_str(alloc, text)?;
-    for number in numbers.first..=numbers.last {
-        let piece = format!(in alloc; "{before}{number}{after}")?;
-        all.push_str(piece.as_str())?;
-    }
-    Ok(all)
 }

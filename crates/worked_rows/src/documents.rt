@@ -1,6 +1,6 @@
 use std::process::Abort;
 use std::test::Fail;
-use worked_documents::{Documents, verified};
+use worked_documents::{Documents, played, verified};
 
 /// The documents end with this status and text.
 pub fn expect(
@@ -12,5 +12,11 @@ pub fn expect(
     let (ended, sink) = verified(rt.alloc(), documents)?;
     assert_eq!(rt; sink.written(), text.as_bytes(), "{text}");
     assert_eq!(rt; ended, status, "{text}");
+    Ok(())
+}
+
+/// Each run of a transcript ends as it says.
+pub fn expect_played(rt: &(impl Abort + AllocGlobal), transcript: &str) -> Result<(), Fail> {
+    assert_eq!(rt; played(rt.alloc(), transcript)?, None);
     Ok(())
 }

@@ -1,17 +1,62 @@
-//! Rows that cross the crates: documents and words, and the status and text that they end with.
+//! Rows over whole documents: what the program says of specifications, questions and reports, and what it refuses.
+//!
+//! Most are transcripts; what needs more than text is a function. They are one crate, since a crate of tests begins with a hundred
+//! processor seconds of reading what it stands on.
 #![tactic(auto)]
 
+#[cfg(test)]
+mod answers;
+#[cfg(test)]
+mod asked;
+#[cfg(test)]
+mod briefs;
+#[cfg(test)]
+mod budgets;
+#[cfg(test)]
+mod bytes;
+#[cfg(test)]
+mod claims;
 #[cfg(test)]
 mod copies;
 #[cfg(test)]
 mod documents;
 #[cfg(test)]
+mod faults;
+#[cfg(test)]
+mod forced;
+#[cfg(test)]
+mod forged;
+#[cfg(test)]
+mod hints;
+#[cfg(test)]
 mod hostile;
+#[cfg(test)]
+mod labels;
+#[cfg(test)]
+mod limits;
+#[cfg(test)]
+mod logs;
 #[cfg(test)]
 mod outside;
 #[cfg(test)]
+mod queries;
+#[cfg(test)]
+mod questions;
+#[cfg(test)]
+mod refused;
+#[cfg(test)]
+mod rings;
+#[cfg(test)]
 mod rules;
 #[cfg(test)]
+mod told;
+#[cfg(test)]
+mod trials;
+#[cfg(test)]
 mod unread;
+#[cfg(test)]
+mod values;
+#[cfg(test)]
+mod verdicts;
 #[cfg(test)]
 mod verify;

@@ -1,0 +1,5 @@
+mod Lists
+mod Headless
+mod Instances
+mod Tellings
+mod Spending

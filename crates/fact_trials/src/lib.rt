@@ -1,0 +1,7 @@
+//! Does the fact that a question asks for hold in every consistent completion, or in which does it fail?
+#![tactic(auto)]
+
+mod failing;
+mod trial;
+
+pub use trial::{Trial, try_fact};

@@ -1,0 +1,10 @@
+mod Places
+mod Filtered
+mod Appended
+mod Rows
+mod Fits
+mod Counted
+mod Segments
+mod Same
+mod Putting
+mod OneLaw

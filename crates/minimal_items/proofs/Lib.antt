@@ -1,0 +1,7 @@
+mod Same
+mod Marks
+mod Once
+mod Tables
+mod Parts
+mod Order
+mod Settled

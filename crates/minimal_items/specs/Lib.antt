@@ -1,0 +1,4 @@
+pub mod Among
+pub mod Explanations
+pub mod Reduced
+pub mod Trials

@@ -1,0 +1,11 @@
+//! The items that a fact needs: an explanation of it, found by leaving out one item after the other.
+#![tactic(auto)]
+
+mod laws;
+mod leaving;
+mod needed;
+mod reducing;
+mod trying;
+
+pub use needed::{Needed, NeededList};
+pub use reducing::{Reduced, Spent, reduce};

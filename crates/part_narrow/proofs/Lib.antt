@@ -1,0 +1,2 @@
+pub mod MadeRankings
+pub mod NarrowMade

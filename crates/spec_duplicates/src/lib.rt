@@ -1,0 +1,10 @@
+//! Copies of what a specification holds: attributes, rows, names, rules, and copy functions.
+#![tactic(auto)]
+
+mod copies;
+mod relation;
+mod rule;
+
+pub use copies::unmapped;
+pub use relation::{copied_attrs, copied_names, copied_rows};
+pub use rule::copied_rule;

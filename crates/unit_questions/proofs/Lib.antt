@@ -1,0 +1,9 @@
+mod Lists
+mod Numbers
+mod Heads
+mod Walks
+mod Substituting
+mod ValueKinds
+mod Posed
+mod ValueLaw
+mod ClaimsLaw
