@@ -1,0 +1,5 @@
+mod Claims
+mod Completions
+mod Everything
+mod Reports
+mod Units
