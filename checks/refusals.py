@@ -3,11 +3,13 @@
 
 A small library, built of `refusals.c` and preloaded, counts the program's allocations, reads, opens and writes and refuses one of
 them: each allocation once, and it and each later one; each read, open and write; and each read and write is cut to one byte. So it is
-done over a handful of specifications and questions, `verify` of their reports, `forced`, and the generated documents.
+done over a handful of specifications and questions, `verify` of their reports, `forced`, `explain`, `conflicts`, and the generated
+documents.
 
-Right is: the status and the text without a refusal; or another report that `verify` accepts, where a guide was refused memory and is not asked
-any more; or what the table of causes in docs/DEFINITIONS.md says (9 for memory, 7 for a read or an open, 8 for a write), with a
-prefix of a right text, a read fault's text being that of the document that was read. A refusal's own status stays where the sink fails.
+Right is: the status and the text without a refusal; or, where a guide was refused memory and is not asked any more, another report
+that `verify` accepts, or the same explanation with other completions (these cases have one each); or what the table of causes in
+docs/DEFINITIONS.md says (9 for memory, 7 for a read or an open, 8 for a write), with a prefix of a right text, a read fault's text being
+that of the document that was read. A refusal's own status stays where the sink fails.
 
 Prints a line for each kind of refusal over each case, and a summary. The exit status is 1 where an outcome is wrong."""
 import concurrent.futures
@@ -86,6 +88,15 @@ CASES = [
     ("eight clauses", EIGHT_CLAUSES, ASK),
     ("forced, staff", STAFF, ["forced", "s"]),
     ("forced, circle", CIRCLE, ["forced", "s"]),
+    ("explain, circle", CIRCLE, ["explain", "s", "q", "1"]),
+    ("explain, staff", STAFF, ["explain", "s", "q", "3"]),
+    ("explain, department", DEPARTMENT, ["explain", "s", "q", "1"]),
+    ("explain, either", EITHER, ["explain", "s", "q", "1"]),
+    ("explain, no unit", STAFF, ["explain", "s", "q", "4"]),
+    ("explain, budget 1", EIGHT_CLAUSES, ["explain", "s", "q", "1", "--budget", "1"]),
+    ("conflicts, circle", CIRCLE, ["conflicts", "s"]),
+    ("conflicts, department", DEPARTMENT, ["conflicts", "s"]),
+    ("conflicts, eight clauses", EIGHT_CLAUSES, ["conflicts", "s"]),
     ("trial 2", {}, ["trial", "2"]),
     ("refused words", CIRCLE, ["ask", "s"]),
     ("refused document", {**CIRCLE, "q": "consistent"}, ASK),
@@ -135,13 +146,20 @@ class Case:
             done = subprocess.run([PROGRAM, *words], cwd=self.folder, capture_output=True, timeout=600)
         return done.returncode == 0
 
+    def is_explained(self, text):
+        """Is this the explanation, with other completions?"""
+        heads = (b"explains ", b"item ")
+        lines, wanted = ([it for it in said.split(b"\n") if it.startswith(heads)] for said in (text, self.text))
+        return self.words[0] == "explain" and self.status == 0 and lines == wanted and text.endswith(b"\nend;\n")
+
     def is_right(self, kind, how, status, text):
         if (status, text) == (self.status, self.text):
             return True
         if how == "short":
             return False
         if kind == "memory":
-            return status == 9 and self.text.startswith(text) or status == self.status and self.is_accepted(text)
+            is_other = status == self.status and (self.is_accepted(text) or self.is_explained(text))
+            return status == 9 and self.text.startswith(text) or is_other
         if kind in ("read", "open"):
             return status == 7 and text.startswith(b"read fault ") and text.count(b"\n") == 1
         return self.text.startswith(text) and status == (8 if self.status in (0, 3) else self.status)

@@ -10,32 +10,42 @@ length_push : {A : Type 0} (xs : List A) (y : A) → length (xs ++ y ∷ []) ≡
 length_push [] y = refl
 length_push (x ∷ xs) y = omega (arith, length_push xs y)
 
-get_push : {A : Type 0} (xs : List A) (y z : A) (k : ℕ) → slice_get (xs ++ y ∷ []) k ≡ Some z → (slice_get xs k ≡ Some z) ⊎ ((k ≡ length xs) × (y ≡ z))
+get_push : {A : Type 0} (xs : List A) (y z : A) (k : ℕ) → slice_get (xs ++ y ∷ []) k ≡ Some z →
+    (slice_get xs k ≡ Some z) ⊎ ((k ≡ length xs) × (y ≡ z))
 get_push [] y z zero at = inr (refl, same_Some y z at)
 get_push [] y z (suc k) at = absurd (none-some z at)
 get_push (x ∷ xs) y z zero at = inl at
 get_push {A} (x ∷ xs) y z (suc k) at = by (get_push xs y z k at)
   where
-    by : (slice_get xs k ≡ Some z) ⊎ ((k ≡ length xs) × (y ≡ z)) → (slice_get xs k ≡ Some z) ⊎ ((suc k ≡ suc (length xs)) × (y ≡ z))
+    by : (slice_get xs k ≡ Some z) ⊎ ((k ≡ length xs) × (y ≡ z)) → (slice_get xs k ≡ Some z) ⊎
+        ((suc k ≡ suc (length xs)) × (y ≡ z))
     by (inl is) = inl is
     by (inr (last, same)) = inr (ap (λ n. suc n) last, same)
 
 pub marks_none : (indexed : IndexedQuery) (tuples : List (List Value)) (old : List Bool) → AreMarks indexed tuples old 0 [] false
-marks_none indexed tuples old = record { as_many = refl; each = λ place tuple was is a b at. absurd (none-some is at); none = λ closed. refl }
+marks_none indexed tuples old = record {
+  as_many = refl;
+  each = λ place tuple was is a b at. absurd
+      (none-some is at);
+  none = λ closed. refl;
+}
 
 -- a mark that is no new one is what it was
-same_mark : (indexed : IndexedQuery) (tuple : List Value) (was mark : Bool) → IsMark indexed tuple was mark → (mark ≡ true → was ≡ true) → mark ≡ was
+same_mark : (indexed : IndexedQuery) (tuple : List Value) (was mark : Bool) → IsMark indexed tuple was mark →
+    (mark ≡ true → was ≡ true) → mark ≡ was
 same_mark indexed tuple was true is old = sym (old refl)
 same_mark indexed tuple was false is old = sym is.0
 
-marks_more : (indexed : IndexedQuery) (tuples : List (List Value)) (old : List Bool) (count : ℕ) (marks now : List Bool) (more next : Bool)
+marks_more : (indexed : IndexedQuery) (tuples : List (List Value)) (old : List Bool) (count : ℕ)
+    (marks now : List Bool) (more next : Bool)
     (tuple : List Value) (was mark : Bool) → length old ≡ length tuples → count < length tuples
     → AreMarks indexed tuples old count marks more → tuple ≡ get_or tuples count tuple
     → slice_get old count ≡ Some was → IsMark indexed tuple was mark → now ≡ marks ++ mark ∷ []
     → (next ≡ false → (more ≡ false) × (mark ≡ true → was ≡ true))
     → AreMarks indexed tuples old (count + 1) now next
 marks_more indexed tuples old count marks now more next tuple was mark lengths below are tuple_is of_was is after closes =
-    subst (λ m. AreMarks indexed tuples old (count + 1) m next) (sym after) (record { as_many = as_many; each = each; none = none })
+    subst (λ m. AreMarks indexed tuples old (count + 1) m next) (sym after)
+    (record { as_many = as_many; each = each; none = none })
   where
     of_tuple : slice_get tuples count ≡ Some tuple
     of_tuple = slice_get_read tuples (length tuples) count tuple refl below tuple_is
@@ -53,7 +63,8 @@ marks_more indexed tuples old count marks now more next tuple was mark lengths b
             let here : place ≡ count = last ∙ are.as_many in
             let t_is : tuple ≡ t = same_Some tuple t (sym of_tuple ∙ ap (slice_get tuples) (sym here) ∙ at_t) in
             let w_is : was ≡ w = same_Some was w (sym of_was ∙ ap (slice_get old) (sym here) ∙ at_w) in
-            subst (λ b. IsMark indexed t w b) same (subst (λ b. IsMark indexed t b mark) w_is (subst (λ u. IsMark indexed u was mark) t_is is))
+            subst (λ b. IsMark indexed t w b) same (subst (λ b. IsMark indexed t b mark) w_is
+            (subst (λ u. IsMark indexed u was mark) t_is is))
 
     none : next ≡ false → marks ++ mark ∷ [] ≡ take (count + 1) old
     none closed =
@@ -63,7 +74,8 @@ marks_more indexed tuples old count marks now more next tuple was mark lengths b
         ∙ sym (take_more old count was (omega (arith, below, lengths)))
 
 -- the mark of the tuple that comes next, where what it was is read at any default
-pub marks_next : (indexed : IndexedQuery) (tuples : List (List Value)) (old : List Bool) (count : ℕ) (marks now : List Bool) (more next : Bool)
+pub marks_next : (indexed : IndexedQuery) (tuples : List (List Value)) (old : List Bool) (count : ℕ)
+    (marks now : List Bool) (more next : Bool)
     (tuple : List Value) (d mark : Bool) → length old ≡ length tuples → count < length tuples
     → AreMarks indexed tuples old count marks more → tuple ≡ get_or tuples count tuple
     → IsMark indexed tuple (get_or old count d) mark → now ≡ marks ++ mark ∷ []

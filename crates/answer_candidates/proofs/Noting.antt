@@ -31,7 +31,8 @@ all_at : {A : Type 0} (P : A → Type 0) (xs : List A) (i : ℕ) (x : A) → All
 all_at P xs i x all at = subst P (get_or_from_slice_get xs i x x at) (all i x (slice_get_within xs i x at))
 
 all_front : {A : Type 0} (P : A → Type 0) (xs : List A) (y : A) → All P (xs ++ y ∷ []) → All P xs
-all_front P xs y all i d below = all_at P (xs ++ y ∷ []) i (get_or xs i d) all (get_front xs y i below ∙ slice_get-get_or xs i d below)
+all_front P xs y all i d below = all_at P (xs ++ y ∷ []) i (get_or xs i d) all
+    (get_front xs y i below ∙ slice_get-get_or xs i d below)
 
 all_last : {A : Type 0} (P : A → Type 0) (xs : List A) (y : A) → All P (xs ++ y ∷ []) → P y
 all_last P xs y all = all_at P (xs ++ y ∷ []) (length xs) y all (get_end xs y)
@@ -49,35 +50,49 @@ of_replicate (suc n) (suc k) b g at = of_replicate n k b g at
 
 -- ---- a completion and its instance
 
-answer_of : InstancesAreOne → (relations : List Relation) (query : Query) (c : Rankings) (indexed : IndexedQuery) (tuple : List Value)
+answer_of : InstancesAreOne → (relations : List Relation) (query : Query) (c : Rankings) (indexed : IndexedQuery)
+    (tuple : List Value)
     → IsOver relations query c indexed → IsAnswerIn relations query tuple c → IsAnswer indexed.query indexed.instance tuple
 answer_of one relations query c indexed tuple over answer =
-    let same : answer.instance ≡ indexed.instance = one relations c answer.instance indexed.instance answer.is_current over.is_current in
+    let same : answer.instance ≡ indexed.instance = one relations c answer.instance indexed.instance
+    answer.is_current over.is_current in
     let here : IsAnswer query indexed.instance tuple = subst (λ i. IsAnswer query i tuple) same answer.is_answer in
     subst (λ q. IsAnswer q indexed.instance tuple) (sym over.of_query) here
 
 answer_in : (relations : List Relation) (query : Query) (c : Rankings) (indexed : IndexedQuery) (tuple : List Value)
     → IsOver relations query c indexed → IsAnswer indexed.query indexed.instance tuple → IsAnswerIn relations query tuple c
 answer_in relations query c indexed tuple over is =
-    record { instance = indexed.instance; is_current = over.is_current; is_answer = subst (λ q. IsAnswer q indexed.instance tuple) over.of_query is }
+    record {
+      instance = indexed.instance;
+      is_current = over.is_current;
+      is_answer =
+          subst (λ q. IsAnswer q indexed.instance tuple) over.of_query is;
+    }
 
 -- ---- one more is looked at
 
-marked_more : InstancesAreOne → (relations : List Relation) (query : Query) (completions : List Rankings) (c : Rankings) (indexed : IndexedQuery)
-    → IsOver relations query c indexed → (tuple : List Value) (was is : Bool) → IsMarked relations query completions tuple was → IsMark indexed tuple was is
+marked_more : InstancesAreOne → (relations : List Relation) (query : Query) (completions : List Rankings)
+    (c : Rankings) (indexed : IndexedQuery)
+    → IsOver relations query c indexed → (tuple : List Value) (was is : Bool) → IsMarked relations query completions
+    tuple was → IsMark indexed tuple was is
     → IsMarked relations query (completions ++ c ∷ []) tuple is
 marked_more one relations query completions c indexed over tuple was true before mark = by mark
   where
-    by : (was ≡ true) ⊎ (IsAnswer indexed.query indexed.instance tuple → ⊥) → IsCommon relations query (completions ++ c ∷ []) tuple → ⊥
+    by : (was ≡ true) ⊎ (IsAnswer indexed.query indexed.instance tuple → ⊥) → IsCommon relations query
+        (completions ++ c ∷ []) tuple → ⊥
     by (inl gone) common =
-        subst (λ b. IsMarked relations query completions tuple b) gone before (all_front (IsAnswerIn relations query tuple) completions c common)
+        subst (λ b. IsMarked relations query completions tuple b) gone before
+        (all_front (IsAnswerIn relations query tuple) completions c common)
     by (inr never) common =
-        never (answer_of one relations query c indexed tuple over (all_last (IsAnswerIn relations query tuple) completions c common))
+        never (answer_of one relations query c indexed tuple over
+        (all_last (IsAnswerIn relations query tuple) completions c common))
 marked_more one relations query completions c indexed over tuple was false before mark =
-    All-push (IsAnswerIn relations query tuple) completions c (subst (λ b. IsMarked relations query completions tuple b) mark.0 before)
+    All-push (IsAnswerIn relations query tuple) completions c
+    (subst (λ b. IsMarked relations query completions tuple b) mark.0 before)
     (answer_in relations query c indexed tuple over mark.1)
 
-pub candidates_more : InstancesAreOne → (s : Spec) (query : Query) (old : Standing) (c : Rankings) (indexed : IndexedQuery) → AreCandidates s query old
+pub candidates_more : InstancesAreOne → (s : Spec) (query : Query) (old : Standing) (c : Rankings)
+    (indexed : IndexedQuery) → AreCandidates s query old
     → IsConsistent s c → IsOver s.relations query c indexed → (gone : List Bool) (more : Bool)
     → AreMarks indexed old.tuples old.gone (length old.tuples) gone more
     → AreCandidates s query (record { tuples = old.tuples; completions = old.completions ++ c ∷ []; gone = gone })
@@ -89,23 +104,27 @@ candidates_more one s query old c indexed are is over gone more marks =
       ascending = are.ascending;
       all = λ tuple common. are.all tuple (all_front (IsAnswerIn s.relations query tuple) old.completions c common);
       marked = λ place tuple now at at_now.
-          let was = slice_get-get_or old.gone place true (omega (arith, slice_get_within old.tuples place tuple at, are.per_tuple)) in
+          let was = slice_get-get_or old.gone place true
+          (omega (arith, slice_get_within old.tuples place tuple at, are.per_tuple)) in
           marked_more one s.relations query old.completions c indexed over tuple (get_or old.gone place true) now
           (are.marked place tuple _ at was) (marks.each place tuple _ now at was at_now);
     }
 
 -- the same, of lists that are these
-pub candidates_as : (s : Spec) (query : Query) (tuples own : List (List Value)) (completions listed : List Rankings) (gone : List Bool) → tuples ≡ own
+pub candidates_as : (s : Spec) (query : Query) (tuples own : List (List Value)) (completions listed : List Rankings)
+    (gone : List Bool) → tuples ≡ own
     → completions ≡ listed → AreCandidates s query (record { tuples = own; completions = listed; gone = gone })
     → AreCandidates s query (record { tuples = tuples; completions = completions; gone = gone })
 candidates_as s query tuples own completions listed gone same_tuples same_completions are =
     subst (λ l. AreCandidates s query (record { tuples = tuples; completions = l; gone = gone })) (sym same_completions)
     (subst (λ t. AreCandidates s query (record { tuples = t; completions = listed; gone = gone })) (sym same_tuples) are)
 
-pub marks_as : (indexed : IndexedQuery) (tuples own : List (List Value)) (gone kept new : List Bool) (more : Bool) → tuples ≡ own → gone ≡ kept
+pub marks_as : (indexed : IndexedQuery) (tuples own : List (List Value)) (gone kept new : List Bool) (more : Bool)
+    → tuples ≡ own → gone ≡ kept
     → AreMarks indexed tuples gone (length tuples) new more → AreMarks indexed own kept (length own) new more
 marks_as indexed tuples own gone kept new more same_tuples same_gone marks =
-    subst (λ t. AreMarks indexed t kept (length t) new more) same_tuples (subst (λ g. AreMarks indexed tuples g (length tuples) new more) same_gone marks)
+    subst (λ t. AreMarks indexed t kept (length t) new more) same_tuples
+    (subst (λ g. AreMarks indexed tuples g (length tuples) new more) same_gone marks)
 
 pub on_ok_holds : {T E P : Type 0} (r : Result T E) → P → OnOk r P
 on_ok_holds (Ok x) is = is
@@ -113,7 +132,8 @@ on_ok_holds (Err e) is = tt
 
 -- a tuple that is no answer over an instance is gone, once this is looked at
 pub noted_gone : (indexed : IndexedQuery) (tuples : List (List Value)) (old new : List Bool) (more : Bool)
-    → AreMarks indexed tuples old (length tuples) new more → length old ≡ length tuples → (place : ℕ) (tuple : List Value) → slice_get tuples place ≡ Some tuple
+    → AreMarks indexed tuples old (length tuples) new more → length old ≡ length tuples →
+    (place : ℕ) (tuple : List Value) → slice_get tuples place ≡ Some tuple
     → (IsAnswer indexed.query indexed.instance tuple → ⊥) → slice_get new place ≡ Some true
 noted_gone indexed tuples old new more marks lengths place tuple at never =
     let below = slice_get_within tuples place tuple at in
@@ -121,13 +141,15 @@ noted_gone indexed tuples old new more marks lengths place tuple at never =
     let now = slice_get-get_or new place true (omega (arith, below, marks.as_many)) in
     by (get_or new place true) (marks.each place tuple _ _ at was now) now
   where
-    by : (b : Bool) → IsMark indexed tuple (get_or old place true) b → slice_get new place ≡ Some b → slice_get new place ≡ Some true
+    by : (b : Bool) → IsMark indexed tuple (get_or old place true) b → slice_get new place ≡ Some b
+        → slice_get new place ≡ Some true
     by true mark is = is
     by false mark is = absurd (never mark.1)
 
 -- a tuple that is gone stays so
 pub stays_gone : (indexed : IndexedQuery) (tuples : List (List Value)) (old new : List Bool) (more : Bool)
-    → AreMarks indexed tuples old (length tuples) new more → length old ≡ length tuples → (place : ℕ) → slice_get old place ≡ Some true
+    → AreMarks indexed tuples old (length tuples) new more → length old ≡ length tuples → (place : ℕ)
+    → slice_get old place ≡ Some true
     → slice_get new place ≡ Some true
 stays_gone indexed tuples old new more marks lengths place gone =
     let below : place < length tuples = let b = slice_get_within old place true gone in omega (arith, b, lengths) in
@@ -135,7 +157,8 @@ stays_gone indexed tuples old new more marks lengths place gone =
     let now = slice_get-get_or new place true (omega (arith, below, marks.as_many)) in
     by (get_or new place true) (marks.each place _ true _ at gone now) now
   where
-    by : (b : Bool) → IsMark indexed (get_or tuples place []) true b → slice_get new place ≡ Some b → slice_get new place ≡ Some true
+    by : (b : Bool) → IsMark indexed (get_or tuples place []) true b → slice_get new place ≡ Some b
+        → slice_get new place ≡ Some true
     by true mark is = is
     by false mark is = absurd (true≢false mark.0)
 
@@ -152,7 +175,8 @@ candidates_begun one s query c tuples is answers =
       ascending = answers.are.ascending;
       all = λ tuple common.
           let answer = all_last (IsAnswerIn s.relations query tuple) [] c common in
-          let same : answer.instance ≡ answers.instance = one s.relations c answer.instance answers.instance answer.is_current answers.is_current in
+          let same : answer.instance ≡ answers.instance = one s.relations c answer.instance answers.instance
+          answer.is_current answers.is_current in
           answers.are.all tuple (subst (λ i. IsAnswer query i tuple) same answer.is_answer);
       marked = λ place tuple gone at at_gone.
           let own : IsAnswerIn s.relations query tuple c =

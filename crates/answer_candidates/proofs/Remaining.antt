@@ -27,12 +27,14 @@ kept_in p (y ∷ ys) zero x at passes =
     (zero, rw test (ap (λ z. Some z) same))
 kept_in {A} p (y ∷ ys) (suc k) x at passes = by (p y) refl (kept_in p ys k x at passes)
   where
-    by : (b : Bool) → p y ≡ b → (j : ℕ) × (slice_get (filter p ys) j ≡ Some x) → (j : ℕ) × (slice_get (filter p (y ∷ ys)) j ≡ Some x)
+    by : (b : Bool) → p y ≡ b → (j : ℕ) × (slice_get (filter p ys) j ≡ Some x) →
+        (j : ℕ) × (slice_get (filter p (y ∷ ys)) j ≡ Some x)
     by true test r = (suc r.0, rw test r.1)
     by false test r = (r.0, rw test r.1)
 
 -- what stands in a list of values of a function is one of an item
-of_map : {A B : Type 0} (f : A → B) (xs : List A) (i : ℕ) (y : B) → slice_get (map f xs) i ≡ Some y → (x : A) × (slice_get xs i ≡ Some x) × (f x ≡ y)
+of_map : {A B : Type 0} (f : A → B) (xs : List A) (i : ℕ) (y : B) → slice_get (map f xs) i ≡ Some y →
+    (x : A) × (slice_get xs i ≡ Some x) × (f x ≡ y)
 of_map f [] i y at = absurd (none-some y at)
 of_map f (x ∷ xs) zero y at = (x, refl, same_Some (f x) y at)
 of_map f (x ∷ xs) (suc i) y at = of_map f xs i y at
@@ -78,10 +80,12 @@ left_places gone i d below =
     (inside, slice_get-get_or gone _ true inside ∙ ap (λ b. Some b) stays)
 
 -- the place of a tuple that is not gone is left
-left_there : (gone : List Bool) (place : ℕ) → slice_get gone place ≡ Some false → (j : ℕ) × (slice_get (left_of gone) j ≡ Some place)
+left_there : (gone : List Bool) (place : ℕ) → slice_get gone place ≡ Some false →
+    (j : ℕ) × (slice_get (left_of gone) j ≡ Some place)
 left_there gone place at =
     let passes : is_left gone place ≡ true = ap not (get_or_from_slice_get gone place false true at) in
-    kept_in (is_left gone) (range_with_len 0 (length gone)) place place (range_at (length gone) place (slice_get_within gone place false at)) passes
+    kept_in (is_left gone) (range_with_len 0 (length gone)) place place
+    (range_at (length gone) place (slice_get_within gone place false at)) passes
 
 -- ---- the law
 
@@ -111,15 +115,23 @@ left_common s query c are = record { each = each; all = all; ascending = ascendi
         let mark = not_gone s.relations query c.completions t _ common (are.marked there.0 t _ at marked) in
         let left = left_there c.gone there.0 (marked ∙ ap (λ b. Some b) mark) in
         is_in (left_tuples c) left.0 t
-        (slice_get-map tuple (left_of c.gone) left.0 ∙ ap (option_map tuple) left.1 ∙ ap (λ x. Some x) (get_or_from_slice_get c.tuples there.0 t [] at))
+        (slice_get-map tuple (left_of c.gone) left.0 ∙ ap (option_map tuple) left.1 ∙ ap (λ x. Some x)
+        (get_or_from_slice_get c.tuples there.0 t [] at))
 
     ascending : AreAscending (left_tuples c)
     ascending i j a b order first second =
         let p = of_map tuple (left_of c.gone) i a first in
         let q = of_map tuple (left_of c.gone) j b second in
-        let pairs = AllPairs-filter (λ x y. x < y) (is_left c.gone) (range_with_len 0 (length c.gone)) (range_ascends (length c.gone)) i j 0 order
+        let pairs = AllPairs-filter (λ x y. x < y) (is_left c.gone) (range_with_len 0 (length c.gone))
+        (range_ascends (length c.gone)) i j 0 order
         (slice_get_within (left_of c.gone) j q.0 q.1) in
-        let less : p.0 < q.0 = omega (arith, pairs, get_or_from_slice_get (left_of c.gone) i p.0 0 p.1, get_or_from_slice_get (left_of c.gone) j q.0 0 q.1) in
+        let less : p.0 < q.0 = omega (
+          arith,
+          pairs,
+          get_or_from_slice_get (left_of c.gone) i p.0 0 p.1,
+          get_or_from_slice_get (left_of c.gone) j q.0 0 q.1,
+        ) in
         let places = left_places c.gone in
-        are.ascending p.0 q.0 a b less (tuple_at p.0 (all_at (IsLeftAt c.gone) (left_of c.gone) i p.0 places p.1) ∙ ap (λ x. Some x) p.2)
+        are.ascending p.0 q.0 a b less (tuple_at p.0 (all_at (IsLeftAt c.gone) (left_of c.gone) i p.0 places p.1)
+        ∙ ap (λ x. Some x) p.2)
         (tuple_at q.0 (all_at (IsLeftAt c.gone) (left_of c.gone) j q.0 places q.1) ∙ ap (λ x. Some x) q.2)

@@ -27,15 +27,16 @@ abbrev pub IsMarked : List Relation → Query → List Rankings → List Value �
 IsMarked relations query completions tuple false = IsCommon relations query completions tuple
 IsMarked relations query completions tuple true = IsCommon relations query completions tuple → ⊥
 
--- consistent completions, at least one; the tuples ascend, each common answer is one of them, and those that are no common answers are
--- gone
+-- consistent completions, at least one; the tuples ascend, each common answer is one of them, and those that are no
+-- common answers are gone
 pub record AreCandidates (s : Spec) (query : Query) (c : Standing) : Type 0 where
   pub per_tuple : length c.gone ≡ length c.tuples
   pub consistent : All (IsConsistent s) c.completions
   pub some : c.completions ≢ []
   pub ascending : AreAscending c.tuples
   pub all : (tuple : List Value) → IsCommon s.relations query c.completions tuple → Contains c.tuples tuple
-  pub marked : (place : ℕ) (tuple : List Value) (gone : Bool) → slice_get c.tuples place ≡ Some tuple → slice_get c.gone place ≡ Some gone
+  pub marked : (place : ℕ) (tuple : List Value) (gone : Bool) → slice_get c.tuples place ≡ Some tuple
+      → slice_get c.gone place ≡ Some gone
       → IsMarked s.relations query c.completions tuple gone
 
 -- an instance that is indexed for a query is the current one of a completion
@@ -63,9 +64,11 @@ IsMark indexed tuple was true = (was ≡ true) ⊎ (IsAnswer indexed.query index
 IsMark indexed tuple was false = (was ≡ false) × IsAnswer indexed.query indexed.instance tuple
 
 -- the marks of so many first tuples; without more of them, they are what they were
-pub record AreMarks (indexed : IndexedQuery) (tuples : List (List Value)) (old : List Bool) (count : ℕ) (new : List Bool) (more : Bool) : Type 0 where
+pub record AreMarks (indexed : IndexedQuery) (tuples : List (List Value)) (old : List Bool) (count : ℕ)
+    (new : List Bool) (more : Bool) : Type 0 where
   pub as_many : length new ≡ count
-  pub each : (place : ℕ) (tuple : List Value) (was is : Bool) → slice_get tuples place ≡ Some tuple → slice_get old place ≡ Some was
+  pub each : (place : ℕ) (tuple : List Value) (was is : Bool) → slice_get tuples place ≡ Some tuple
+      → slice_get old place ≡ Some was
       → slice_get new place ≡ Some is → IsMark indexed tuple was is
   pub none : more ≡ false → new ≡ take count old
 

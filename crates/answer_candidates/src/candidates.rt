@@ -65,7 +65,8 @@ impl Candidates {
         ensures over { IfOk result (λ c. AreAnswersIn spec.now.relations query.now completion c.tuples) }
         ensures few { IfOk result (λ c. length c.tuples ≤ 1000000) }
         ensures listed { IfOk result (λ c. c.completions ≡ completion ∷ []) }
-        ensures too_many { (c : Rankings) → result ≡ Err (fault.TooMany c) → (c ≡ completion) × IsTooMany spec.now.relations query.now 1000000 c }
+        ensures too_many { (c : Rankings) → result ≡ Err (fault.TooMany c) → (c ≡ completion) × IsTooMany
+            spec.now.relations query.now 1000000 c }
     {
         instances_exist();
         match answers_over(alloc, spec, query, &completion) {
@@ -108,8 +109,8 @@ impl Candidates {
         self.gone[place]
     }
 
-    /// Notes which tuples are no answers over one more consistent completion, whose current instance is indexed. It is listed, if there
-    /// is such a tuple.
+    /// Notes which tuples are no answers over one more consistent completion, whose current instance is indexed. It is
+    /// listed, if there is such a tuple.
     pub fn note(
         &mut self,
         alloc: Global,
@@ -121,9 +122,11 @@ impl Candidates {
         ensures per_tuple { length self.new.gone ≡ length self.old.gone }
         ensures held { (s : Spec) (query : Queries) → AreCandidates s query self.old → IsConsistent s completion
             → IsOver s.relations query completion indexed.now → OnOk result (AreCandidates s query self.new) }
-        ensures stays { (place : ℕ) → slice_get self.old.gone place ≡ Some true → OnOk result (slice_get self.new.gone place ≡ Some true) }
+        ensures stays { (place : ℕ) → slice_get self.old.gone place ≡ Some true → OnOk result
+            (slice_get self.new.gone place ≡ Some true) }
         ensures noted { (place : ℕ) (tuple : List Value) → slice_get self.old.tuples place ≡ Some tuple
-            → (IsAnswer indexed.now.query indexed.now.instance tuple → ⊥) → OnOk result (slice_get self.new.gone place ≡ Some true) }
+            → (IsAnswer indexed.now.query indexed.now.instance tuple → ⊥) → OnOk result
+            (slice_get self.new.gone place ≡ Some true) }
     {
         instances_exist();
         match marked(alloc, self.tuples.as_slice(), indexed, self.gone.as_slice()) {
@@ -191,7 +194,12 @@ fn answers_over(
 
 // Candidates of which none is gone.
 fn begun(alloc: Global, tuples: TupleList, completion: Completion) -> Result<Candidates, NoMemory>
-    ensures { IfOk result (λ c. c ≡ record { tuples = tuples; completions = completion ∷ []; gone = replicate (length tuples) false }) }
+    ensures { IfOk result (λ c. c ≡ record {
+      tuples = tuples;
+      completions = completion ∷ [];
+      gone = replicate
+          (length tuples) false;
+    }) }
 {
     let gone = match Vec::from_elem(alloc, false, tuples.len()) {
         Ok(gone) => gone,

@@ -86,7 +86,8 @@ joined : {A : Type 0} → List (List A) → List A
 joined [] = []
 joined (xs ∷ lists) = xs ++ joined lists
 
-in_joined : {A : Type 0} (lists : List (List A)) (i : ℕ) (x : A) → Contains (slice_index_or lists i []) x → Contains (joined lists) x
+in_joined : {A : Type 0} (lists : List (List A)) (i : ℕ) (x : A) → Contains (slice_index_or lists i []) x
+    → Contains (joined lists) x
 unfolding joined
 in_joined [] i x is = is
 in_joined (xs ∷ lists) zero x is = Contains-append_left xs (joined lists) x is

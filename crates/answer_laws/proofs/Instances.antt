@@ -53,20 +53,24 @@ row_within (r ∷ rows) zero ent e = omega arith
 row_within (r ∷ rows) (suc row) ent e = omega (arith, row_within rows row ent e)
 
 -- each row has a value of each attribute
-some_field : (r : Relation) (at : ℕ) (row : Row) (attr : ℕ) → IsRelation r → slice_get r.rows at ≡ Some row → attr < length r.attrs
+some_field : (r : Relation) (at : ℕ) (row : Row) (attr : ℕ) → IsRelation r → slice_get r.rows at ≡ Some row
+    → attr < length r.attrs
     → (v : Value) × (slice_get row.values attr ≡ Some v)
 some_field r at row attr is is_row below =
-    let kinds : map kind_of row.values ≡ kinds_of r = all_at (λ q. map kind_of q.values ≡ kinds_of r) r.rows at row is.values is_row in
+    let kinds : map kind_of row.values ≡ kinds_of r = all_at (λ q. map kind_of q.values ≡ kinds_of r) r.rows at row
+    is.values is_row in
     let many : length row.values ≡ length r.attrs =
     sym (length-map row.values kind_of) ∙ ap length kinds ∙ length-map r.attrs (λ a. a.kind) in
     item_at row.values attr (omega (arith, below, many))
 
-field_read : (rows : List Row) (o : Option RowId) (id : RowId) (row : Row) (attr : ℕ) (v : Value) → o ≡ Some id → slice_get rows id.0 ≡ Some row
+field_read : (rows : List Row) (o : Option RowId) (id : RowId) (row : Row) (attr : ℕ) (v : Value) → o ≡ Some id
+    → slice_get rows id.0 ≡ Some row
     → slice_get row.values attr ≡ Some v → field_value rows o attr ≡ Some v
 field_read rows o id row attr v is at value = ap (λ p. field_value rows p attr) is ∙ ap (λ p. value_in p attr) at ∙ value
 
 -- each attribute of each entity has a current value
-some_value : (relations : List Relation) (c : Rankings) → IsCompletion relations c → (rel : ℕ) (r : Relation) → slice_get relations rel ≡ Some r
+some_value : (relations : List Relation) (c : Rankings) → IsCompletion relations c → (rel : ℕ) (r : Relation)
+    → slice_get relations rel ≡ Some r
     → IsRelation r → (ent : ℕ) → ent < length r.entities → (attr : ℕ) → attr < length r.attrs
     → (v : Value) × (current_value c rel r.rows attr ent ≡ Some v)
 some_value relations c completion rel r at is ent in_entities attr in_attrs =
@@ -82,7 +86,8 @@ some_value relations c completion rel r at is ent in_entities attr in_attrs =
 
 -- ---- an instance
 
-some_tuple : (relations : List Relation) (c : Rankings) → IsCompletion relations c → (rel : ℕ) (r : Relation) → slice_get relations rel ≡ Some r
+some_tuple : (relations : List Relation) (c : Rankings) → IsCompletion relations c → (rel : ℕ) (r : Relation)
+    → slice_get relations rel ≡ Some r
     → IsRelation r → (ent : ℕ) → ent < length r.entities → (tuple : List Value) × IsCurrentTuple c rel r ent tuple
 some_tuple relations c completion rel r at is ent in_entities =
     let name = item_at r.entities ent in_entities in
@@ -102,7 +107,8 @@ some_tuple relations c completion rel r at is ent in_entities =
       },
     )
 
-some_tuples : (relations : List Relation) (c : Rankings) → IsCompletion relations c → (rel : ℕ) (r : Relation) → slice_get relations rel ≡ Some r
+some_tuples : (relations : List Relation) (c : Rankings) → IsCompletion relations c → (rel : ℕ) (r : Relation)
+    → slice_get relations rel ≡ Some r
     → IsRelation r → (tuples : List (List Value)) × AreCurrentTuples c rel r tuples
 some_tuples relations c completion rel r at is =
     let tuples = made (length r.entities) (IsCurrentTuple c rel r) (some_tuple relations c completion rel r at is) in

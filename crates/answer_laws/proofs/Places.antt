@@ -11,7 +11,8 @@ item_at (x ∷ xs) (suc i) below = item_at xs i (omega arith)
 pub all_at : {A : Type 0} (P : A → Type 0) (xs : List A) (i : ℕ) (x : A) → All P xs → slice_get xs i ≡ Some x → P x
 all_at P xs i x all at = subst P (get_or_from_slice_get xs i x x at) (all i x (slice_get_within xs i x at))
 
-pub at_place : {A : Type 0} (P : A → Type 0) (xs : List A) (i : ℕ) (d x : A) → slice_get xs i ≡ Some x → P x → P (slice_index_or xs i d)
+pub at_place : {A : Type 0} (P : A → Type 0) (xs : List A) (i : ℕ) (d x : A) → slice_get xs i ≡ Some x → P x
+    → P (slice_index_or xs i d)
 at_place P xs i d x at holds = subst P (sym (get_or_from_slice_get xs i x d at)) holds
 
 -- what stands at a place is in the list

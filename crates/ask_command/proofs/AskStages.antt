@@ -24,7 +24,8 @@ pub answered : (s : Spec) (a : AskSaid) (q : Question) (r : Report) (outcome : R
 answered s a q r (Ok d) answer told memory settled = inl (r, answer, ap Ok told)
 answered s a q r (Err e) answer told memory settled = absurd (subst IsDetermined memory settled)
 
-pub not_answered : (s : Spec) (a : AskSaid) (q : Question) (e : Trouble) → (IsDetermined e → (c : Rankings) × HasTooMany s q c × (e ≡ trouble.Limit 3))
+pub not_answered : (s : Spec) (a : AskSaid) (q : Question) (e : Trouble) →
+    (IsDetermined e → (c : Rankings) × HasTooMany s q c × (e ≡ trouble.Limit 3))
     → IsDetermined e → IsAnswered s a q (Err e)
 not_answered s a q e told determined =
     let h : (c : Rankings) × HasTooMany s q c × (e ≡ trouble.Limit 3) = told determined in
@@ -42,26 +43,34 @@ answer_told told a s q r spec question answer = record {
   answer = answer;
   is_text = refl;
   ended = refl;
-  verified = λ name. (Ok (record { report = r; lines = answer.lines }), inl (record { report = r; lines = answer.lines }, answer.reread, refl), inl (answer.shown, refl));
+  verified = λ name. (
+    Ok (record { report = r; lines = answer.lines }),
+    inl (record { report = r; lines = answer.lines }, answer.reread, refl),
+    inl (answer.shown, refl),
+  );
 }
 
 told_answer : (told : List (List ℕ × List ℕ)) (a : AskSaid) (s : Spec) (q : Question) (d : Done) → IsSpecRead told a.spec (Ok s)
     → IsQuestionRead told s.relations a.question (Ok q) → IsAnswered s a q (Ok d) → IsAnswerTold told a d.text d.ending
 told_answer told a s q d spec question (inl h) =
-    subst (λ (d : Done). IsAnswerTold told a d.text d.ending) (sym (same_done d _ h.2)) (answer_told told a s q h.0 spec question h.1)
+    subst (λ (d : Done). IsAnswerTold told a d.text d.ending) (sym (same_done d _ h.2))
+    (answer_told told a s q h.0 spec question h.1)
 told_answer told a s q d spec question (inr h) = absurd (done_apart d (trouble.Limit 3) h.2)
 
 -- the stages together
 pub ask_told : (texts : Option (List (List ℕ × List ℕ))) (a : AskSaid) (s : Spec) (q : Question) (outcome : Result Done Trouble)
-    → IfSome texts (λ told. IsSpecRead told a.spec (Ok s)) → IfSome texts (λ told. IsQuestionRead told s.relations a.question (Ok q))
-    → (IsSettled outcome → IsAnswered s a q outcome) → IfOk outcome (λ d. IfSome texts (λ told. IsAnswerTold told a d.text d.ending))
+    → IfSome texts (λ told. IsSpecRead told a.spec (Ok s)) → IfSome texts
+    (λ told. IsQuestionRead told s.relations a.question (Ok q))
+    → (IsSettled outcome → IsAnswered s a q outcome) → IfOk outcome
+    (λ d. IfSome texts (λ told. IsAnswerTold told a d.text d.ending))
 ask_told None a s q (Ok d) spec question job = tt
 ask_told (Some told) a s q (Ok d) spec question job = told_answer told a s q d spec question (job tt)
 ask_told texts a s q (Err e) spec question job = tt
 
 -- an answer is due
 pub ask_due : (texts : Option (List (List ℕ × List ℕ))) (a : AskSaid) (s : Spec) (q : Question) (outcome : Result Done Trouble)
-    → IfSome texts (λ told. IsSpecRead told a.spec (Ok s)) → IfSome texts (λ told. IsQuestionRead told s.relations a.question (Ok q))
+    → IfSome texts (λ told. IsSpecRead told a.spec (Ok s)) → IfSome texts
+    (λ told. IsQuestionRead told s.relations a.question (Ok q))
     → (IsSettled outcome → IsAnswered s a q outcome) → IsSettled outcome → IfSome texts (λ told. IsAskDue told a outcome)
 ask_due None a s q outcome spec question job settled = tt
 ask_due (Some told) a s q outcome spec question job settled = (Ok s, spec, (Ok q, question, job settled))

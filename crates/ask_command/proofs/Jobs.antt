@@ -19,13 +19,15 @@ is_undecided true e = absurd (apart e)
     apart e = cc
 is_undecided false e = refl
 
-pub decided_told : (told : List (List ℕ × List ℕ)) (a : AskSaid) (text : List ℕ) (e : Ending) → ending_status e ≡ 0 → IsAnswerTold told a text e
+pub decided_told : (told : List (List ℕ × List ℕ)) (a : AskSaid) (text : List ℕ) (e : Ending) → ending_status e ≡ 0
+    → IsAnswerTold told a text e
     → IsAnswerTold told a text ending.Decided
 decided_told told a text ending.Told zero h = absurd (not_told (is_decided (kind_of h.report.verdict)) h.ended)
 decided_told told a text ending.Decided zero h = h
 decided_told told a text ending.Undecided zero h = absurd (omega (arith, zero))
 
-pub spent_told : (told : List (List ℕ × List ℕ)) (a : AskSaid) (text : List ℕ) (e : Ending) → ending_status e ≡ 3 → IsAnswerTold told a text e
+pub spent_told : (told : List (List ℕ × List ℕ)) (a : AskSaid) (text : List ℕ) (e : Ending) → ending_status e ≡ 3
+    → IsAnswerTold told a text e
     → IsAskSpent told a text
 spent_told told a text ending.Told three h = absurd (omega (arith, three))
 spent_told told a text ending.Decided three h = absurd (omega (arith, three))

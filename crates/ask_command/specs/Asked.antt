@@ -25,7 +25,8 @@ use Rattle.report_stages.specs.Judged.{IsReportSaid, IsJudged}
 abbrev pub ask_said : Ask → AskSaid
 ask_said a = record { spec = a.spec.now; question = a.question.now; budget = a.budget; brief = a.brief; guide = a.guide }
 
--- the job: a report that answers the question is told; or a query has more answers over a consistent completion than are gone through
+-- the job: a report that answers the question is told; or a query has more answers over a consistent completion than
+-- are gone through
 abbrev pub IsAnswered : Spec → AskSaid → Question → Result Done Trouble → Type 0
 IsAnswered s a question outcome =
     ((r : Report) × IsAnswer s question a.budget r

@@ -43,7 +43,8 @@ pub fn ask_documents<S: Shelf>(
     requires budget { asked.budget ≤ 10000000 }
     ensures later { S.faults shelf.old ≤ S.faults shelf.new }
     ensures due { IsSettled result → IfSome (S.texts shelf.old) (λ told. IsAskDue told (ask_said asked.entry) result) }
-    ensures told { IfOk result (λ done. IfSome (S.texts shelf.old) (λ told. IsAnswerTold told (ask_said asked.entry) done.text done.ending)) }
+    ensures told { IfOk result (λ done. IfSome (S.texts shelf.old) (λ told. IsAnswerTold told (ask_said asked.entry)
+        done.text done.ending)) }
     ensures read_fault { IsReadFault result → Rose (S.faults shelf.old) (S.faults shelf.new) }
     ensures unread { (n : List ℕ) → IsReadFaultOf result n
         → IfSome (S.texts shelf.old) (λ told. IsAskDocumentDue told (ask_said asked.entry) n) }

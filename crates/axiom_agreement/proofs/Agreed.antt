@@ -24,7 +24,8 @@ use Rattle.axiom_agreement.proofs.Wanted.{row_in, top_made, top_has, last_made, 
 
 made_is_judged : (s : Spec) → IsSpecification s → (l : Label) (clause : List Said) → IsAxiom s l clause → IsJudged s l clause
 made_is_judged s is (label.Given rel attr earlier later) clause x = given_made s rel attr earlier later clause x
-made_is_judged s is (label.Transitive rel attr first second third) clause x = transitive_made s rel attr first second third clause x
+made_is_judged s is (label.Transitive rel attr first second third) clause x = transitive_made s rel attr first second
+    third clause x
 made_is_judged s is (label.Rule k rows) clause x = rule_made s k rows clause is.rules x
 made_is_judged s is (label.Copy k place first second) clause x = copy_made s k place first second clause x
 made_is_judged s is (label.Above rel attr row other) clause x = above_made s rel attr row other clause x
@@ -57,7 +58,8 @@ one_judge s posed (label.Last rel attr row) of = refl
 one_judge s posed (label.Value rel attr row) of = refl
 one_judge s posed (label.Match disjunct entities values) of = absurd of
 
-lits_are_axiom : (s : Spec) (posed : Posed) (statements : List Statement) (l : Label) (lits : List Lit) (clause : List Said) → IsNoMatch l → IsJudged s l clause
+lits_are_axiom : (s : Spec) (posed : Posed) (statements : List Statement) (l : Label) (lits : List Lit)
+    (clause : List Said) → IsNoMatch l → IsJudged s l clause
     → AreLits statements clause lits → is_axiom s posed statements l lits ≡ true
 lits_are_axiom s posed statements l lits clause of judged are =
     let is = one_judge s posed l of ∙ judged.is in
@@ -65,7 +67,8 @@ lits_are_axiom s posed statements l lits clause of judged are =
 
 pub steps_are_axioms : StepsAreAxioms
 steps_are_axioms s posed wanted l lits taken is step =
-    lits_are_axiom s posed (statements_of (numbers_of s.relations wanted)) l lits step.clause (made_no_match s l step.clause step.is_axiom)
+    lits_are_axiom s posed (statements_of (numbers_of s.relations wanted)) l lits step.clause
+    (made_no_match s l step.clause step.is_axiom)
     (made_is_judged s is l step.clause step.is_axiom) step.are_lits
 
 judged_has : (s : Spec) (l : Label) (clause : List Signed) → IsNoMatch l → judged_of s l ≡ Some clause → HasAxiom s l
@@ -105,8 +108,10 @@ axioms_are_whole s currents statements steps is are posed (label.Match disjunct 
 -- ---- literals
 
 pub orders_agree : OrdersAgree
-orders_agree relations statements lit rel attr earlier later says = order_agrees relations rel attr earlier later false statements lit says
+orders_agree relations statements lit rel attr earlier later says = order_agrees relations rel attr earlier later
+    false statements lit says
 
 pub values_agree : ValuesAgree
 values_agree s statements lit rel attr row r is at attr_in row_within says =
-    last_agrees s.relations rel attr row false r (row_in s.relations rel attr row r is.relations at attr_in row_within) statements lit says
+    last_agrees s.relations rel attr row false r (row_in s.relations rel attr row r is.relations at attr_in
+    row_within) statements lit says

@@ -24,9 +24,11 @@ signed_of said = record { statement = said.statement; negative = said.negative }
 
 -- a literal that says the one says the other for the judge
 abbrev pub Agrees : List Relation → Said → Signed → Type 0
-Agrees relations said signed = (statements : List Statement) (lit : Lit) → Says statements lit said → lit_says relations statements signed lit ≡ true
+Agrees relations said signed = (statements : List Statement) (lit : Lit) → Says statements lit said
+    → lit_says relations statements signed lit ≡ true
 
-told_means : (statements : List Statement) (lit : Lit) (said : Said) → told_by statements lit ≡ Some said → meaning statements lit ≡ Some (signed_of said)
+told_means : (statements : List Statement) (lit : Lit) (said : Said) → told_by statements lit ≡ Some said
+    → meaning statements lit ≡ Some (signed_of said)
 told_means statements lit said e = by (slice_get statements (var_of lit)) e
   where
     told : Statement → Said
@@ -42,7 +44,8 @@ pub agrees_if : (relations : List Relation) (said : Said) (signed : Signed) → 
 agrees_if relations said signed straight turn statements lit says =
     ⊎_elim
     (λ (e : told_by statements lit ≡ Some said). ap (is_said relations signed) (told_means statements lit said e) ∙ straight)
-    (λ (e : told_by statements lit ≡ Some (turned said)). ap (is_said relations signed) (told_means statements lit (turned said) e) ∙ turn)
+    (λ (e : told_by statements lit ≡ Some (turned said)). ap (is_said relations signed)
+    (told_means statements lit (turned said) e) ∙ turn)
     says
 
 -- ---- one after the other
@@ -52,12 +55,14 @@ AllAgree relations [] [] = Unit {0}
 AllAgree relations (x ∷ xs) (y ∷ ys) = Agrees relations x y × AllAgree relations xs ys
 AllAgree relations xs ys = ⊥
 
-pub all_agree_map : {A : Type 0} (relations : List Relation) (f : A → Said) (g : A → Signed) → ((x : A) → Agrees relations (f x) (g x)) → (xs : List A)
+pub all_agree_map : {A : Type 0} (relations : List Relation) (f : A → Said) (g : A → Signed) →
+    ((x : A) → Agrees relations (f x) (g x)) → (xs : List A)
     → AllAgree relations (map f xs) (map g xs)
 all_agree_map relations f g each [] = tt
 all_agree_map relations f g each (x ∷ xs) = (each x, all_agree_map relations f g each xs)
 
-pub all_agree_both : (relations : List Relation) (xs xs' : List Said) (ys ys' : List Signed) → AllAgree relations xs ys → AllAgree relations xs' ys'
+pub all_agree_both : (relations : List Relation) (xs xs' : List Said) (ys ys' : List Signed) → AllAgree relations xs
+    ys → AllAgree relations xs' ys'
     → AllAgree relations (xs ++ xs') (ys ++ ys')
 all_agree_both relations [] xs' [] ys' first second = second
 all_agree_both relations [] xs' (y ∷ ys) ys' first second = absurd first
@@ -69,7 +74,8 @@ signed_for : (relations : List Relation) (xs : List Said) (ys : List Signed) →
 signed_for relations [] ys all x at = absurd at
 signed_for relations (z ∷ xs) [] all x at = absurd all
 signed_for relations (z ∷ xs) (y ∷ ys) all x (inl e) = (y, inl refl, subst (λ (w : Said). Agrees relations w y) e all.0)
-signed_for relations (z ∷ xs) (y ∷ ys) all x (inr at) = let more = signed_for relations xs ys all.1 x at in (more.0, inr more.1, more.2)
+signed_for relations (z ∷ xs) (y ∷ ys) all x (inr at) = let more = signed_for relations xs ys all.1 x
+    at in (more.0, inr more.1, more.2)
 
 said_for : (relations : List Relation) (xs : List Said) (ys : List Signed) → AllAgree relations xs ys → (y : Signed) → IsIn ys y
     → (x : Said) × IsIn xs x × Agrees relations x y
@@ -77,23 +83,27 @@ said_for relations [] [] all y at = absurd at
 said_for relations [] (z ∷ ys) all y at = absurd all
 said_for relations (x ∷ xs) [] all y at = absurd at
 said_for relations (x ∷ xs) (z ∷ ys) all y (inl e) = (x, inl refl, subst (λ (w : Signed). Agrees relations x w) e all.0)
-said_for relations (x ∷ xs) (z ∷ ys) all y (inr at) = let more = said_for relations xs ys all.1 y at in (more.0, inr more.1, more.2)
+said_for relations (x ∷ xs) (z ∷ ys) all y (inr at) = let more = said_for relations xs ys all.1 y
+    at in (more.0, inr more.1, more.2)
 
 -- ---- literals that are the clause
 
 pub all_pass : {A : Type 0} (test : A → Bool) (xs : List A) → ((x : A) → IsIn xs x → test x ≡ true) → list_all test xs ≡ true
 all_pass test [] each = refl
-all_pass test (x ∷ xs) each = and_from (test x) (list_all test xs) (each x (inl refl)) (all_pass test xs (λ y at. each y (inr at)))
+all_pass test (x ∷ xs) each = and_from (test x) (list_all test xs) (each x (inl refl))
+    (all_pass test xs (λ y at. each y (inr at)))
 
 pub one_passes : {A : Type 0} (test : A → Bool) (xs : List A) (x : A) → IsIn xs x → test x ≡ true → list_any test xs ≡ true
 one_passes test [] x at passes = absurd at
 one_passes test (y ∷ xs) x (inl e) passes = let here : test y ≡ true = ap test e ∙ passes in rw here refl
 one_passes test (y ∷ xs) x (inr at) passes = or_right (test y) (list_any test xs) (one_passes test xs x at passes)
 
-pub lits_are_clause : (relations : List Relation) (statements : List Statement) (lits : List Lit) (clause : List Said) (signed : List Signed)
+pub lits_are_clause : (relations : List Relation) (statements : List Statement) (lits : List Lit)
+    (clause : List Said) (signed : List Signed)
     → AllAgree relations clause signed → AreLits statements clause lits → is_clause relations statements lits signed ≡ true
 lits_are_clause relations statements lits clause signed all are =
-    and_from (list_all says_one lits) (list_all said_by_one signed) (all_pass says_one lits first) (all_pass said_by_one signed second)
+    and_from (list_all says_one lits) (list_all said_by_one signed) (all_pass says_one lits first)
+    (all_pass said_by_one signed second)
   where
     says_one : Lit → Bool
     says_one lit = list_any (λ s. lit_says relations statements s lit) signed
@@ -111,4 +121,5 @@ lits_are_clause relations statements lits clause signed all are =
     second s at =
         let its = said_for relations clause signed all s at in
         let one = All-contains (IsSaidByOne statements lits) clause its.0 are.all (contained clause its.0 its.1) in
-        one_passes (lit_says relations statements s) lits one.lit (in_contained lits one.lit one.is_in) (its.2 statements one.lit one.says)
+        one_passes (lit_says relations statements s) lits one.lit (in_contained lits one.lit one.is_in)
+        (its.2 statements one.lit one.says)

@@ -19,7 +19,8 @@ use Rattle.axiom_agreement.proofs.Tests.{attr_passes, passed_attr, two_pass, pas
 
 -- ---- given pairs
 
-pub given_made : (s : Spec) (rel : RelId) (attr : AttrId) (earlier later : RowId) (clause : List Said) → IsAxiom s (label.Given rel attr earlier later) clause
+pub given_made : (s : Spec) (rel : RelId) (attr : AttrId) (earlier later : RowId) (clause : List Said)
+    → IsAxiom s (label.Given rel attr earlier later) clause
     → IsJudged s (label.Given rel attr earlier later) clause
 given_made s rel attr earlier later clause x =
     let r = x.0 in
@@ -33,7 +34,8 @@ given_made s rel attr earlier later clause x =
     } in
     subst (IsJudged s (label.Given rel attr earlier later)) (sym x.2.1) made
 
-pub given_has : (s : Spec) (rel : RelId) (attr : AttrId) (earlier later : RowId) (clause : List Signed) → judged_of s (label.Given rel attr earlier later) ≡ Some clause
+pub given_has : (s : Spec) (rel : RelId) (attr : AttrId) (earlier later : RowId) (clause : List Signed) → judged_of s
+    (label.Given rel attr earlier later) ≡ Some clause
     → HasAxiom s (label.Given rel attr earlier later)
 given_has s rel attr earlier later clause e =
     let p : Pair = record { attr = attr; earlier = earlier; later = later } in
@@ -43,7 +45,8 @@ given_has s rel attr earlier later clause e =
 
 -- ---- three rows
 
-pub transitive_made : (s : Spec) (rel : RelId) (attr : AttrId) (a b c : RowId) (clause : List Said) → IsAxiom s (label.Transitive rel attr a b c) clause
+pub transitive_made : (s : Spec) (rel : RelId) (attr : AttrId) (a b c : RowId) (clause : List Said)
+    → IsAxiom s (label.Transitive rel attr a b c) clause
     → IsJudged s (label.Transitive rel attr a b c) clause
 transitive_made s rel attr a b c clause x =
     let r = x.0 in
@@ -55,15 +58,23 @@ transitive_made s rel attr a b c clause x =
     (and_from (is_attr r attr) (are_two r.rows a b) (attr_passes r attr x.2.0) (two_pass r.rows a b x.2.1))
     (two_pass r.rows b c x.2.2))
     (two_pass r.rows a c x.2.3) in
-    let made : IsJudged s (label.Transitive rel attr a b c) (not_before rel attr a b ∷ not_before rel attr b c ∷ before rel attr a c ∷ []) = record {
+    let made : IsJudged s (label.Transitive rel attr a b c) (not_before rel attr a b ∷ not_before rel attr b c
+    ∷ before rel attr a c ∷ []) = record {
       signed = here;
       is = in_relation_at s.relations rel r (transitive_clause rel attr a b c) x.1
           ∙ then_given (first && are_two r.rows b c && are_two r.rows a c) (Some here) passes;
-      agree = (order_agrees s.relations rel attr a b true, (order_agrees s.relations rel attr b c true, (order_agrees s.relations rel attr a c false, tt)));
+      agree = (
+        order_agrees s.relations rel attr a b true,
+        (
+          order_agrees s.relations rel attr b c true,
+          (order_agrees s.relations rel attr a c false, tt),
+        ),
+      );
     } in
     subst (IsJudged s (label.Transitive rel attr a b c)) (sym x.2.4) made
 
-pub transitive_has : (s : Spec) (rel : RelId) (attr : AttrId) (a b c : RowId) (clause : List Signed) → judged_of s (label.Transitive rel attr a b c) ≡ Some clause
+pub transitive_has : (s : Spec) (rel : RelId) (attr : AttrId) (a b c : RowId) (clause : List Signed) → judged_of s
+    (label.Transitive rel attr a b c) ≡ Some clause
     → HasAxiom s (label.Transitive rel attr a b c)
 transitive_has s rel attr a b c clause e =
     let found = in_relation_is s.relations rel (transitive_clause rel attr a b c) clause e in
@@ -75,12 +86,23 @@ transitive_has s rel attr a b c clause e =
     let middle = and_parts first (are_two r.rows b c) outer.0 in
     let inner = and_parts (is_attr r attr) (are_two r.rows a b) middle.0 in (
       not_before rel attr a b ∷ not_before rel attr b c ∷ before rel attr a c ∷ [],
-      (r, found.1, (passed_attr r attr inner.0, passed_two r.rows a b inner.1, passed_two r.rows b c middle.1, passed_two r.rows a c outer.1, refl)),
+      (
+        r,
+        found.1,
+        (
+          passed_attr r attr inner.0,
+          passed_two r.rows a b inner.1,
+          passed_two r.rows b c middle.1,
+          passed_two r.rows a c outer.1,
+          refl,
+        ),
+      ),
     )
 
 -- ---- a row that stands last
 
-pub above_made : (s : Spec) (rel : RelId) (attr : AttrId) (row other : RowId) (clause : List Said) → IsAxiom s (label.Above rel attr row other) clause
+pub above_made : (s : Spec) (rel : RelId) (attr : AttrId) (row other : RowId) (clause : List Said)
+    → IsAxiom s (label.Above rel attr row other) clause
     → IsJudged s (label.Above rel attr row other) clause
 above_made s rel attr row other clause x =
     let r = x.0 in
@@ -94,12 +116,15 @@ above_made s rel attr row other clause x =
     } in
     subst (IsJudged s (label.Above rel attr row other)) (sym x.2.2) made
 
-pub above_has : (s : Spec) (rel : RelId) (attr : AttrId) (row other : RowId) (clause : List Signed) → judged_of s (label.Above rel attr row other) ≡ Some clause
+pub above_has : (s : Spec) (rel : RelId) (attr : AttrId) (row other : RowId) (clause : List Signed) → judged_of s
+    (label.Above rel attr row other) ≡ Some clause
     → HasAxiom s (label.Above rel attr row other)
 above_has s rel attr row other clause e =
     let found = in_relation_is s.relations rel (above_clause rel attr row other) clause e in
     let r = found.0 in
     let here : List Signed = judged.not_top rel attr row ∷ judged.before rel attr other row ∷ [] in
     let parts = given_if (is_attr r attr && are_two r.rows row other) (Some here) clause found.2 in
-    let both = and_parts (is_attr r attr) (are_two r.rows row other) parts.0 in
-    (not_top rel attr row ∷ before rel attr other row ∷ [], (r, found.1, (passed_attr r attr both.0, passed_two r.rows row other both.1, refl)))
+    let both = and_parts (is_attr r attr) (are_two r.rows row other) parts.0 in (
+      not_top rel attr row ∷ before rel attr other row ∷ [],
+      (r, found.1, (passed_attr r attr both.0, passed_two r.rows row other both.1, refl)),
+    )

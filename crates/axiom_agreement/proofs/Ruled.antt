@@ -29,7 +29,8 @@ use Rattle.axiom_agreement.proofs.Tests.{choice_passes, passed_choice, given_if,
 abbrev denied : RelId → List Pair → List Signed
 denied rel pairs = map (λ p. judged.not_before rel p.attr p.earlier p.later) pairs
 
-conclusions_agree : (relations : List Relation) (rel : RelId) (o : Option Pair) → AllAgree relations (conclusion_clause rel o) (concluded_clause rel o)
+conclusions_agree : (relations : List Relation) (rel : RelId) (o : Option Pair) → AllAgree relations
+    (conclusion_clause rel o) (concluded_clause rel o)
 conclusions_agree relations rel None = tt
 conclusions_agree relations rel (Some p) = (order_agrees relations rel p.attr p.earlier p.later false, tt)
 
@@ -37,17 +38,21 @@ instances_agree : (relations : List Relation) (rel : RelId) (i : RuleInstance)
     → AllAgree relations (instance_clause rel i) (denied rel i.premises ++ concluded_clause rel i.conclusion)
 instances_agree relations rel i =
     let said : Pair → Said = λ p. not_before rel p.attr p.earlier p.later in
-    all_agree_both relations (map said i.premises) (conclusion_clause rel i.conclusion) (denied rel i.premises) (concluded_clause rel i.conclusion)
-    (all_agree_map relations said (λ p. judged.not_before rel p.attr p.earlier p.later) (λ p. order_agrees relations rel p.attr p.earlier p.later true) i.premises)
+    all_agree_both relations (map said i.premises) (conclusion_clause rel i.conclusion) (denied rel i.premises)
+    (concluded_clause rel i.conclusion)
+    (all_agree_map relations said (λ p. judged.not_before rel p.attr p.earlier p.later)
+    (λ p. order_agrees relations rel p.attr p.earlier p.later true) i.premises)
     (conclusions_agree relations rel i.conclusion)
 
-instance_is : (rel : RelId) (o : Option RuleInstance) (clause : List Signed) → judged.instance_clause rel o ≡ Some clause → (i : RuleInstance) × (o ≡ Some i)
+instance_is : (rel : RelId) (o : Option RuleInstance) (clause : List Signed) → judged.instance_clause rel o ≡ Some
+    clause → (i : RuleInstance) × (o ≡ Some i)
 instance_is rel None clause e = absurd (none-some clause e)
 instance_is rel (Some i) clause e = (i, refl)
 
 -- ---- the clause of a label
 
-pub rule_made : (s : Spec) (k : RuleId) (rows : List RowId) (clause : List Said) → AreRules s.relations s.rules → IsAxiom s (label.Rule k rows) clause
+pub rule_made : (s : Spec) (k : RuleId) (rows : List RowId) (clause : List Said) → AreRules s.relations s.rules
+    → IsAxiom s (label.Rule k rows) clause
     → IsJudged s (label.Rule k rows) clause
 rule_made s k rows clause are x =
     let rule = x.0 in
@@ -62,13 +67,15 @@ rule_made s k rows clause are x =
     let made : IsJudged s (label.Rule k rows) (instance_clause rule.relation i) = record {
       signed = here;
       is = ap (of_rule s rows) x.1 ∙ in_relation_at s.relations rule.relation r (rule_clause rule rows) x.2.1
-          ∙ then_given ((length rows == rule.vars) && of_one_entity r.rows rows) (judged.instance_clause rule.relation (instance_of rule r.rows rows)) fits
+          ∙ then_given ((length rows == rule.vars) && of_one_entity r.rows rows)
+          (judged.instance_clause rule.relation (instance_of rule r.rows rows)) fits
           ∙ ap (judged.instance_clause rule.relation) x.2.2.2;
       agree = instances_agree s.relations rule.relation i;
     } in
     subst (IsJudged s (label.Rule k rows)) (sym x.2.2.3) made
 
-pub rule_has : (s : Spec) (k : RuleId) (rows : List RowId) (clause : List Signed) → judged_of s (label.Rule k rows) ≡ Some clause → HasAxiom s (label.Rule k rows)
+pub rule_has : (s : Spec) (k : RuleId) (rows : List RowId) (clause : List Signed) → judged_of s (label.Rule k rows) ≡
+    Some clause → HasAxiom s (label.Rule k rows)
 rule_has s k rows clause e = by (slice_get s.rules k.0) refl e
   where
     by : (o : Option Rule) → slice_get s.rules k.0 ≡ o → of_rule s rows o ≡ Some clause → HasAxiom s (label.Rule k rows)
@@ -77,7 +84,8 @@ rule_has s k rows clause e = by (slice_get s.rules k.0) refl e
         let found = in_relation_is s.relations rule.relation (rule_clause rule rows) clause e in
         let r = found.0 in
         let parts =
-        given_if ((length rows == rule.vars) && of_one_entity r.rows rows) (judged.instance_clause rule.relation (instance_of rule r.rows rows)) clause found.2 in
+        given_if ((length rows == rule.vars) && of_one_entity r.rows rows)
+        (judged.instance_clause rule.relation (instance_of rule r.rows rows)) clause found.2 in
         let both = and_parts (length rows == rule.vars) (of_one_entity r.rows rows) parts.0 in
         let choice = passed_choice r.rows rule.vars rows (eqb-true (length rows) rule.vars both.0) both.1 in
         let i = instance_is rule.relation (instance_of rule r.rows rows) clause parts.1 in

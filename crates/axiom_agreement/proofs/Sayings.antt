@@ -56,12 +56,14 @@ order_turned relations rel attr a b n =
     let straight = (b.0 == a.0) && (a.0 == b.0) && same_sign (not n) n in
     let turn = (b.0 == b.0) && (a.0 == a.0) && not (same_sign (not n) n) in
     and_from (same_place rel attr rel attr) (straight || turn) (place_itself rel attr)
-    (or_right straight turn (three_from (b.0 == b.0) (a.0 == a.0) (not (same_sign (not n) n)) (itself b.0) (itself a.0) (sign_turned n)))
+    (or_right straight turn (three_from (b.0 == b.0) (a.0 == a.0) (not (same_sign (not n) n)) (itself b.0)
+    (itself a.0) (sign_turned n)))
 
 pub order_agrees : (relations : List Relation) (rel : RelId) (attr : AttrId) (a b : RowId) (n : Bool)
     → Agrees relations (said (says.Before rel attr a b) n) (signed (says.Before rel attr a b) n)
 order_agrees relations rel attr a b n =
-    agrees_if relations (said (says.Before rel attr a b) n) (signed (says.Before rel attr a b) n) (order_itself relations rel attr a b n)
+    agrees_if relations (said (says.Before rel attr a b) n) (signed (says.Before rel attr a b) n)
+    (order_itself relations rel attr a b n)
     (order_turned relations rel attr a b n)
 
 -- ---- that a row stands last
@@ -69,7 +71,8 @@ order_agrees relations rel attr a b n =
 top_itself : (relations : List Relation) (rel : RelId) (attr : AttrId) (row : RowId) (n : Bool)
     → says_same relations (signed (says.Top rel attr row) n) (signed (says.Top rel attr row) n) ≡ true
 top_itself relations rel attr row n =
-    three_from (same_place rel attr rel attr) (row.0 == row.0) (same_sign n n) (place_itself rel attr) (itself row.0) (sign_itself n)
+    three_from (same_place rel attr rel attr) (row.0 == row.0) (same_sign n n) (place_itself rel attr) (itself row.0)
+    (sign_itself n)
 
 pub top_agrees : (relations : List Relation) (rel : RelId) (attr : AttrId) (row : RowId) (n : Bool)
     → Agrees relations (said (says.Top rel attr row) n) (signed (says.Top rel attr row) n)
@@ -86,7 +89,8 @@ pub record IsRowIn (relations : List Relation) (rel : RelId) (attr : AttrId) (ro
   pub attr_in : attr.0 < length r.attrs
   pub row_in : row.0 < length r.rows
 
-last_named : (relations : List Relation) (rel : RelId) (attr : AttrId) (row : RowId) (n : Bool) (r : Relation) → IsRowIn relations rel attr row r
+last_named : (relations : List Relation) (rel : RelId) (attr : AttrId) (row : RowId) (n : Bool) (r : Relation)
+    → IsRowIn relations rel attr row r
     → says_same relations (signed (says.Last rel attr (name_of r.rows attr.0 row)) n) (signed (says.Last rel attr row) n) ≡ true
 last_named relations rel attr row n r is =
     let name = name_of r.rows attr.0 row in
@@ -100,7 +104,8 @@ last_named relations rel attr row n r is =
       there = one.here;
     } in
     let value =
-    (and_parts (is_one_entity (entity_of r.rows name.0) (entity_of r.rows row.0)) (is_compared (field_value r.rows (Some name) attr.0) Eq (field_value r.rows (Some row) attr.0))
+    (and_parts (is_one_entity (entity_of r.rows name.0) (entity_of r.rows row.0))
+    (is_compared (field_value r.rows (Some name) attr.0) Eq (field_value r.rows (Some row) attr.0))
     (have_one_alike r.rows attr.0 name row back)).1 in
     let rows = rows_in (slice_get relations rel.0) in
     let rows_are : rows ≡ r.rows = ap rows_in is.is_relation in
@@ -109,11 +114,13 @@ last_named relations rel attr row n r is =
     (ap (λ (t : List Row). same_entity t name row) rows_are ∙ entity_passes r.rows name row one.ent one.other_entity one.entity))
     (ap (λ (t : List Row). same_value t attr.0 name row) rows_are ∙ value)
 
-pub last_agrees : (relations : List Relation) (rel : RelId) (attr : AttrId) (row : RowId) (n : Bool) (r : Relation) → IsRowIn relations rel attr row r
+pub last_agrees : (relations : List Relation) (rel : RelId) (attr : AttrId) (row : RowId) (n : Bool) (r : Relation)
+    → IsRowIn relations rel attr row r
     → Agrees relations (said (says.Last rel attr (name_of r.rows attr.0 row)) n) (signed (says.Last rel attr row) n)
 last_agrees relations rel attr row n r is =
     let name = name_of r.rows attr.0 row in
-    agrees_if relations (said (says.Last rel attr name) n) (signed (says.Last rel attr row) n) (last_named relations rel attr row n r is)
+    agrees_if relations (said (says.Last rel attr name) n) (signed (says.Last rel attr row) n)
+    (last_named relations rel attr row n r is)
     (last_named relations rel attr row n r is)
 
 -- ---- a label

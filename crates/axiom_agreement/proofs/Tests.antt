@@ -53,10 +53,12 @@ one_is (Some a) (Some b) e = (b, ap Some (eqb-true a b e), refl)
 one_is (Some a) None e = absurd (false≢true e)
 one_is None b e = absurd (false≢true e)
 
-pub entity_passes : (rows : List Row) (a b : RowId) (ent : ℕ) → entity_of rows a.0 ≡ Some ent → entity_of rows b.0 ≡ Some ent → same_entity rows a b ≡ true
+pub entity_passes : (rows : List Row) (a b : RowId) (ent : ℕ) → entity_of rows a.0 ≡ Some ent → entity_of rows b.0 ≡
+    Some ent → same_entity rows a b ≡ true
 entity_passes rows a b ent of_a of_b = rw (of_a, of_b) (itself ent)
 
-pub passed_entity : (rows : List Row) (a b : RowId) → same_entity rows a b ≡ true → (ent : ℕ) × (entity_of rows a.0 ≡ Some ent) × (entity_of rows b.0 ≡ Some ent)
+pub passed_entity : (rows : List Row) (a b : RowId) → same_entity rows a b ≡ true →
+    (ent : ℕ) × (entity_of rows a.0 ≡ Some ent) × (entity_of rows b.0 ≡ Some ent)
 passed_entity rows a b e = one_is (entity_of rows a.0) (entity_of rows b.0) e
 
 pub two_pass : (rows : List Row) (a b : RowId) → AreTwo rows a b → are_two rows a b ≡ true
@@ -91,12 +93,15 @@ kept_alike p q (x ∷ xs) each = rw (each x (inl refl), kept_alike p q xs (λ y 
 
 pub others_are : (rows : List Row) (ent : ℕ) (row : RowId) → judged.others rows ent row ≡ others rows ent row
 others_are rows ent row =
-    kept_alike (λ (other : RowId). not (row.0 == other.0)) (λ (other : RowId). not (other.0 == row.0)) (members rows ent) (λ other at. ap not (turned row.0 other.0))
+    kept_alike (λ (other : RowId). not (row.0 == other.0)) (λ (other : RowId). not (other.0 == row.0))
+    (members rows ent) (λ other at. ap not (turned row.0 other.0))
     ∙ ap (filter (λ (other : RowId). not (other.0 == row.0))) (members_are rows ent)
 
-pub alike_are : (rows : List Row) (attr ent : ℕ) (row : RowId) → entity_of rows row.0 ≡ Some ent → judged.alike rows attr ent row ≡ alike rows attr ent row
+pub alike_are : (rows : List Row) (attr ent : ℕ) (row : RowId) → entity_of rows row.0 ≡ Some ent
+    → judged.alike rows attr ent row ≡ alike rows attr ent row
 alike_are rows attr ent row of =
-    kept_alike (same_value rows attr row) (are_alike rows attr row) (members rows ent) one ∙ ap (filter (are_alike rows attr row)) (members_are rows ent)
+    kept_alike (same_value rows attr row) (are_alike rows attr row) (members rows ent) one
+    ∙ ap (filter (are_alike rows attr row)) (members_are rows ent)
   where
     one : (other : RowId) → IsIn (members rows ent) other → same_value rows attr row other ≡ are_alike rows attr row other
     one other at =
@@ -106,19 +111,23 @@ alike_are rows attr ent row of =
 
 -- ---- choices of rows
 
-pub choice_passes : (table : List Row) (vars : ℕ) (rows : List RowId) → IsChoice table vars rows → 0 < vars → of_one_entity table rows ≡ true
+pub choice_passes : (table : List Row) (vars : ℕ) (rows : List RowId) → IsChoice table vars rows → 0 < vars
+    → of_one_entity table rows ≡ true
 choice_passes table vars [] choice some = absurd (omega (arith, choice.one_each, some))
 choice_passes table vars (first ∷ more) choice some =
     all_pass (same_entity table first) (first ∷ more)
     (λ row at. entity_passes table first row choice.ent (of first (inl refl)) (of row at))
   where
     of : (row : RowId) → IsIn (first ∷ more) row → entity_of table row.0 ≡ Some choice.ent
-    of row at = All-contains (λ (x : RowId). entity_of table x.0 ≡ Some choice.ent) (first ∷ more) row choice.of_entity (contained (first ∷ more) row at)
+    of row at = All-contains (λ (x : RowId). entity_of table x.0 ≡ Some choice.ent) (first ∷ more) row
+        choice.of_entity (contained (first ∷ more) row at)
 
-passes_each : {A : Type 0} (test : A → Bool) (P : A → Type 0) (xs : List A) → ((x : A) → test x ≡ true → P x) → list_all test xs ≡ true → All P xs
+passes_each : {A : Type 0} (test : A → Bool) (P : A → Type 0) (xs : List A) → ((x : A) → test x ≡ true → P x)
+    → list_all test xs ≡ true → All P xs
 passes_each test P xs each e = λ k d below. each (get_or xs k d) (AllPass-from_list_all test xs e k d below)
 
-pub passed_choice : (table : List Row) (vars : ℕ) (rows : List RowId) → length rows ≡ vars → of_one_entity table rows ≡ true → IsChoice table vars rows
+pub passed_choice : (table : List Row) (vars : ℕ) (rows : List RowId) → length rows ≡ vars → of_one_entity table
+    rows ≡ true → IsChoice table vars rows
 passed_choice table vars [] long e = absurd (false≢true e)
 passed_choice table vars (first ∷ more) long e =
     let parts = and_parts (same_entity table first first) (list_all (same_entity table first) more) e in
@@ -126,10 +135,12 @@ passed_choice table vars (first ∷ more) long e =
     record {
       one_each = long;
       ent = own.0;
-      of_entity = passes_each (same_entity table first) (λ (row : RowId). entity_of table row.0 ≡ Some own.0) (first ∷ more) (its own.0 own.1) e;
+      of_entity = passes_each (same_entity table first) (λ (row : RowId). entity_of table row.0 ≡ Some own.0)
+          (first ∷ more) (its own.0 own.1) e;
     }
   where
-    its : (ent : ℕ) → entity_of table first.0 ≡ Some ent → (row : RowId) → same_entity table first row ≡ true → entity_of table row.0 ≡ Some ent
+    its : (ent : ℕ) → entity_of table first.0 ≡ Some ent → (row : RowId) → same_entity table first row ≡ true
+        → entity_of table row.0 ≡ Some ent
     its ent of row same =
         let both = passed_entity table first row same in
         both.2 ∙ (sym both.1 ∙ of)
@@ -156,11 +167,13 @@ then_given b x e = ap (λ t. cond t x None) e
 
 -- ---- relations that are there
 
-pub in_relation_at : (relations : List Relation) (rel : RelId) (r : Relation) (clause : Relation → Option (List Signed)) → slice_get relations rel.0 ≡ Some r
+pub in_relation_at : (relations : List Relation) (rel : RelId) (r : Relation)
+    (clause : Relation → Option (List Signed)) → slice_get relations rel.0 ≡ Some r
     → in_relation relations rel clause ≡ clause r
 in_relation_at relations rel r clause at = rw at refl
 
-pub in_relation_is : (relations : List Relation) (rel : RelId) (clause : Relation → Option (List Signed)) (x : List Signed) → in_relation relations rel clause ≡ Some x
+pub in_relation_is : (relations : List Relation) (rel : RelId) (clause : Relation → Option (List Signed))
+    (x : List Signed) → in_relation relations rel clause ≡ Some x
     → (r : Relation) × (slice_get relations rel.0 ≡ Some r) × (clause r ≡ Some x)
 in_relation_is relations rel clause x e = by (slice_get relations rel.0) refl e
   where

@@ -40,7 +40,8 @@ IsNoMatch other = Unit {0}
 -- such a label that has a clause for the judge has one for those who make axioms
 abbrev pub ClausesAreAxioms : Type 0
 ClausesAreAxioms =
-    (s : Spec) (posed : Posed) (l : Label) (clause : List Signed) → IsSpecification s → IsNoMatch l → axiom_of s posed l ≡ Some clause
+    (s : Spec) (posed : Posed) (l : Label) (clause : List Signed) → IsSpecification s → IsNoMatch l
+    → axiom_of s posed l ≡ Some clause
     → (said : List Said) × IsAxiom s l said
 
 -- a label of a given pair, of a rule or of a copy function
@@ -69,11 +70,14 @@ AxiomsAreWhole =
 abbrev pub OrdersAgree : Type 0
 OrdersAgree =
     (relations : List Relation) (statements : List Statement) (lit : Lit) (rel : RelId) (attr : AttrId) (earlier later : RowId)
-    → Says statements lit (made.before rel attr earlier later) → lit_says relations statements (judged.before rel attr earlier later) lit ≡ true
+    → Says statements lit (made.before rel attr earlier later) → lit_says relations statements
+    (judged.before rel attr earlier later) lit ≡ true
 
 -- and so does one that is made to say that the value of a row is current, by the row that names the value
 abbrev pub ValuesAgree : Type 0
 ValuesAgree =
-    (s : Spec) (statements : List Statement) (lit : Lit) (rel : RelId) (attr : AttrId) (row : RowId) (r : Relation) → IsSpecification s
+    (s : Spec) (statements : List Statement) (lit : Lit) (rel : RelId) (attr : AttrId) (row : RowId) (r : Relation)
+    → IsSpecification s
     → slice_get s.relations rel.0 ≡ Some r → attr.0 < length r.attrs → row.0 < length r.rows
-    → Says statements lit (made.last rel attr (name_of r.rows attr.0 row)) → lit_says s.relations statements (judged.last rel attr row) lit ≡ true
+    → Says statements lit (made.last rel attr (name_of r.rows attr.0 row)) → lit_says s.relations statements
+    (judged.last rel attr row) lit ≡ true

@@ -1,8 +1,8 @@
 ghost use Rattle.axiom_agreement.specs.Agreement.{StepsAreAxioms, ClausesAreAxioms, AxiomsAreWhole, OrdersAgree, ValuesAgree};
 
 /// Laws: a step that is made as the axiom of a label has, for the judge, the clause of that label, whatever is posed; a
-/// label of anything but a match that has a clause for the judge has one for those who make axioms; and the axioms that are brought in from the
-/// start have each that the judge knows of given pairs, rules and copy functions.
+/// label of anything but a match that has a clause for the judge has one for those who make axioms; and the axioms that
+/// are brought in from the start have each that the judge knows of given pairs, rules and copy functions.
 pub fn axioms_agree()
     ensures made { StepsAreAxioms }
     ensures judged { ClausesAreAxioms }

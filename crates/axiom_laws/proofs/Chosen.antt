@@ -58,26 +58,37 @@ mapped_in f (y ∷ xs) x (suc i, below, e) = rest_in (f y) (f x) (map f xs) (map
 
 -- ---- clauses
 
-pub true_first : {relations : List Relation} {c : Rankings} {answers : ℕ → Type 0} {s : Signed} {rest : List Signed} → IsSound relations s
+pub true_first : {relations : List Relation} {c : Rankings} {answers : ℕ → Type 0} {s : Signed} {rest : List Signed}
+    → IsSound relations s
     → HoldsIn relations c answers s → HasTrue relations c answers (s ∷ rest)
-true_first {relations} {c} {answers} {s} {rest} sound holds = record { member = s; is_in = first_in s rest; sound = sound; holds = holds }
+true_first {relations} {c} {answers} {s} {rest} sound holds = record {
+  member = s;
+  is_in = first_in s rest;
+  sound =
+      sound;
+  holds = holds;
+}
 
-pub true_later : {relations : List Relation} {c : Rankings} {answers : ℕ → Type 0} {s : Signed} {rest : List Signed} → HasTrue relations c answers rest
+pub true_later : {relations : List Relation} {c : Rankings} {answers : ℕ → Type 0} {s : Signed} {rest : List Signed}
+    → HasTrue relations c answers rest
     → HasTrue relations c answers (s ∷ rest)
 true_later {relations} {c} {answers} {s} {rest} t =
     record { member = t.member; is_in = rest_in s t.member rest t.is_in; sound = t.sound; holds = t.holds }
 
-pub true_mapped : {A : Type 0} (relations : List Relation) (c : Rankings) (answers : ℕ → Type 0) (f : A → Signed) (xs : List A) (x : A) → Contains xs x
+pub true_mapped : {A : Type 0} (relations : List Relation) (c : Rankings) (answers : ℕ → Type 0) (f : A → Signed)
+    (xs : List A) (x : A) → Contains xs x
     → IsSound relations (f x) → HoldsIn relations c answers (f x) → HasTrue relations c answers (map f xs)
 true_mapped relations c answers f xs x is_in sound holds =
     record { member = f x; is_in = mapped_in f xs x is_in; sound = sound; holds = holds }
 
-pub true_in_front : (relations : List Relation) (c : Rankings) (answers : ℕ → Type 0) (front back : List Signed) → HasTrue relations c answers front
+pub true_in_front : (relations : List Relation) (c : Rankings) (answers : ℕ → Type 0) (front back : List Signed)
+    → HasTrue relations c answers front
     → HasTrue relations c answers (front ++ back)
 true_in_front relations c answers front back t =
     record { member = t.member; is_in = Contains-append_left front back t.member t.is_in; sound = t.sound; holds = t.holds }
 
-pub true_behind : (relations : List Relation) (c : Rankings) (answers : ℕ → Type 0) (front back : List Signed) → HasTrue relations c answers back
+pub true_behind : (relations : List Relation) (c : Rankings) (answers : ℕ → Type 0) (front back : List Signed)
+    → HasTrue relations c answers back
     → HasTrue relations c answers (front ++ back)
 true_behind relations c answers front back t =
     record { member = t.member; is_in = Contains-append_right front back t.member t.is_in; sound = t.sound; holds = t.holds }

@@ -35,42 +35,50 @@ found_in {A} test (y ∷ ys) x e = by (test y) e (found_in test ys x)
     by false e on = rest_in y x ys (on e)
 
 module _ (rel : RelId) (rows : List Row) (ent : ℕ) (values : List Value) where
-  claim_is : (attr : AttrId) (o : Option Value) (p : Premise) → claim_of rel rows (members rows ent) attr o ≡ Some (Some p) → IsOfEntity rel rows ent p
+  claim_is : (attr : AttrId) (o : Option Value) (p : Premise) → claim_of rel rows (members rows ent) attr o ≡ Some
+      (Some p) → IsOfEntity rel rows ent p
   claim_is attr None p e = absurd (none-some (Some p) e)
   claim_is attr (Some v) p e = by (find (has_value rows attr v) (members rows ent)) refl e
     where
       by : (o : Option RowId) → find (has_value rows attr v) (members rows ent) ≡ o
-          → option_map (λ (row : RowId). let q : Premise = record { rel = rel; attr = attr; row = row } in Some q) o ≡ Some (Some p)
+          → option_map (λ (row : RowId). let q : Premise = record { rel = rel; attr = attr; row = row } in Some q)
+          o ≡ Some (Some p)
           → IsOfEntity rel rows ent p
       by None is e = absurd (none-some (Some p) e)
       by (Some row) is e =
           let q : Premise = record { rel = rel; attr = attr; row = row } in
           let same : q ≡ p = same_Some q p (same_Some (Some q) (Some p) e) in
           let place = at_contains (members rows ent) row (found_in (has_value rows attr v) (members rows ent) row is) in
-          subst (IsOfEntity rel rows ent) same (record { of_relation = refl; of_entity = member_of_entity rows ent place.0 row place.1 })
+          subst (IsOfEntity rel rows ent) same
+          (record { of_relation = refl; of_entity = member_of_entity rows ent place.0 row place.1 })
 
-  place_is : (attr : AttrId) (t : Term) (p : Premise) → place_claim rel rows (members rows ent) values attr t ≡ Some (Some p) → IsOfEntity rel rows ent p
+  place_is : (attr : AttrId) (t : Term) (p : Premise) → place_claim rel rows (members rows ent) values attr t ≡ Some
+      (Some p) → IsOfEntity rel rows ent p
   place_is attr (term.Var v) p e = claim_is attr (slice_get values v) p e
   place_is attr term.Any p e = absurd (none-some p (same_Some None (Some p) e))
   place_is attr (term.Constant k) p e = claim_is attr (Some k) p e
 
   claims_are : (so_far premises : List Premise) (attr : ℕ) (terms : List Term) → All (IsOfEntity rel rows ent) so_far
-      → claims_from rel rows (members rows ent) values (Some so_far) attr terms ≡ Some premises → All (IsOfEntity rel rows ent) premises
+      → claims_from rel rows (members rows ent) values (Some so_far) attr terms ≡ Some premises
+      → All (IsOfEntity rel rows ent) premises
   claims_are so_far premises attr [] all e = subst (All (IsOfEntity rel rows ent)) (same_Some so_far premises e) all
   claims_are so_far premises attr (t ∷ more) all e =
-      by (place_claim rel rows (members rows ent) values (record { 0 = attr }) t) refl e (λ front. claims_are front premises (attr + 1) more)
+      by (place_claim rel rows (members rows ent) values (record { 0 = attr }) t) refl e
+      (λ front. claims_are front premises (attr + 1) more)
     where
       by : (o : Option (Option Premise)) → place_claim rel rows (members rows ent) values (record { 0 = attr }) t ≡ o
           → claims_from rel rows (members rows ent) values (with_claim (Some so_far) o) (attr + 1) more ≡ Some premises
           → ((front : List Premise) → All (IsOfEntity rel rows ent) front
-          → claims_from rel rows (members rows ent) values (Some front) (attr + 1) more ≡ Some premises → All (IsOfEntity rel rows ent) premises)
+          → claims_from rel rows (members rows ent) values (Some front) (attr + 1) more ≡ Some premises
+          → All (IsOfEntity rel rows ent) premises)
           → All (IsOfEntity rel rows ent) premises
       by None is e on = absurd (none-some premises (sym (no_claims rel rows (members rows ent) values (attr + 1) more) ∙ e))
       by (Some None) is e on = on so_far all e
       by (Some (Some p)) is e on =
           on (so_far ++ p ∷ []) (All-push (IsOfEntity rel rows ent) so_far p all (place_is (record { 0 = attr }) t p is)) e
 
-pub entity_premises_are : (rel : RelId) (values : List Value) (terms : List Term) (r : Relation) (ent : EntId) (premises : List Premise)
+pub entity_premises_are : (rel : RelId) (values : List Value) (terms : List Term) (r : Relation) (ent : EntId)
+    (premises : List Premise)
     → entity_premises rel values terms r ent ≡ Some premises → All (IsOfEntity rel r.rows ent.0) premises
 entity_premises_are rel values [] r ent premises e = absurd (none-some premises e)
 entity_premises_are rel values (first ∷ more) r ent premises e =

@@ -35,7 +35,8 @@ record AreMappedRows (copy : CopyFunction) (target source : Relation) (first sec
   sources : are_two source.rows s w ≡ true
 
 -- the order of the sources is denied, or kept
-order_kept : (relations : List Relation) (c : Rankings) (answers : ℕ → Type 0) (copy : CopyFunction) (target source : Relation) (at : ℕ)
+order_kept : (relations : List Relation) (c : Rankings) (answers : ℕ → Type 0) (copy : CopyFunction)
+    (target source : Relation) (at : ℕ)
     (place : Place) (first second s w : RowId)
     → IsCopyCase relations c copy target source → slice_get copy.places at ≡ Some place
     → AreMappedRows copy target source first second s w
@@ -70,7 +71,8 @@ order_kept relations c answers copy target source at place first second s w is i
         let both = and_parts (same_entity r.rows a b) (not (a.0 == b.0)) e in
         one_is (entity_of r.rows a.0) (entity_of r.rows b.0) both.0
 
-at_place : (relations : List Relation) (c : Rankings) (answers : ℕ → Type 0) (copy : CopyFunction) (target source : Relation) (at : ℕ)
+at_place : (relations : List Relation) (c : Rankings) (answers : ℕ → Type 0) (copy : CopyFunction)
+    (target source : Relation) (at : ℕ)
     (first second s w : RowId) (clause : List Signed)
     → IsCopyCase relations c copy target source → AreMappedRows copy target source first second s w
     → (o : Option Place) → slice_get copy.places at ≡ o → place_clause copy first second s w o ≡ Some clause
@@ -89,7 +91,8 @@ sources_clause copy place first second target source (Some s) (Some w) =
     (place_clause copy first second s w (slice_get copy.places place)) None
 sources_clause copy place first second target source s w = None
 
-pub copy_true : (relations : List Relation) (c : Rankings) (answers : ℕ → Type 0) (copy : CopyFunction) (place : ℕ) (first second : RowId)
+pub copy_true : (relations : List Relation) (c : Rankings) (answers : ℕ → Type 0) (copy : CopyFunction) (place : ℕ)
+    (first second : RowId)
     (target source : Relation) (clause : List Signed)
     → IsCopyCase relations c copy target source → copy_clause copy place first second target source ≡ Some clause
     → HasTrue relations c answers clause

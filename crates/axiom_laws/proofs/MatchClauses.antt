@@ -70,7 +70,8 @@ one_tuple a b e = by (slice_cmp value_cmp a b) refl e
     by Greater is e = absurd (false≢true e)
 
 -- at the first place of a tuple this tuple stands
-pub first_at : (xs : List (List Value)) (tuple : List Value) (place : ℕ) → first_place xs tuple ≡ Some place → slice_get xs place ≡ Some tuple
+pub first_at : (xs : List (List Value)) (tuple : List Value) (place : ℕ) → first_place xs tuple ≡ Some place
+    → slice_get xs place ≡ Some tuple
 first_at [] tuple place e = absurd (none-some place e)
 first_at (x ∷ xs) tuple place e = by (is_tuple x tuple) refl e (first_place xs tuple) refl (first_at xs tuple)
   where
@@ -92,7 +93,8 @@ abbrev pub IsCurrentRow : List Relation → Rankings → Premise → Type 0
 IsCurrentRow relations c p = IsLast c p.rel.0 p.attr.0 (rows_in (slice_get relations p.rel.0)) p.row
 
 -- so it is the current one of the entity of which it is claimed
-holds_of : (relations : List Relation) (c : Rankings) (rel : RelId) (r : Relation) (ent : EntId) (p : Premise) → slice_get relations rel.0 ≡ Some r
+holds_of : (relations : List Relation) (c : Rankings) (rel : RelId) (r : Relation) (ent : EntId) (p : Premise)
+    → slice_get relations rel.0 ≡ Some r
     → IsOfEntity rel r.rows ent.0 p → IsCurrentRow relations c p → HoldsOf c r ent p
 holds_of relations c rel r ent p at of current =
     let same : rows_in (slice_get relations p.rel.0) ≡ r.rows =
@@ -109,9 +111,11 @@ all_hold relations c rel r ent (p ∷ premises) at of current =
     let of_all = IsOfEntity rel r.rows ent.0 in
     All-cons (HoldsOf c r ent) p premises
     (holds_of relations c rel r ent p at (All-head of_all p premises of) (All-head (IsCurrentRow relations c) p premises current))
-    (all_hold relations c rel r ent premises at (All-tail of_all p premises of) (All-tail (IsCurrentRow relations c) p premises current))
+    (all_hold relations c rel r ent premises at (All-tail of_all p premises of)
+    (All-tail (IsCurrentRow relations c) p premises current))
 
-module _ (relations : List Relation) (c : Rankings) (instance : List (List (List Value))) (is : IsCurrentInstance relations c instance)
+module _ (relations : List Relation) (c : Rankings) (instance : List (List (List Value)))
+    (is : IsCurrentInstance relations c instance)
     (values : List Value) where
   atom_holds : (atom : Atom) (ent : EntId) (premises : List Premise) → atom_claims relations values atom ent ≡ Some premises
       → All (IsCurrentRow relations c) premises → AtomHolds instance values atom
@@ -124,7 +128,8 @@ module _ (relations : List Relation) (c : Rankings) (instance : List (List (List
           let here : entity_premises atom.relation values atom.terms r ent ≡ Some premises = rw at at e in
           let of = entity_premises_are atom.relation values atom.terms r ent premises here in
           let all = all_hold relations c atom.relation r ent premises at of current in
-          let matches : AtomMatches instance values atom ent.0 = premises_make_matches relations c instance is atom r ent values premises at here all in
+          let matches : AtomMatches instance values atom ent.0 = premises_make_matches relations c instance is atom r
+          ent values premises at here all in
           record {
             tuple = matches.tuple;
             is_there = contains_at (slice_index_or instance atom.relation.0 []) ent.0 matches.tuple matches.is_tuple;
@@ -141,13 +146,15 @@ module _ (relations : List Relation) (c : Rankings) (instance : List (List (List
   back_all P [] ys all = all
   back_all P (x ∷ xs) ys all = back_all P xs ys (All-tail P x (xs ++ ys) all)
 
-  pub atoms_hold : (atoms : List Atom) (entities : List EntId) (premises : List Premise) → match_claims relations values atoms entities ≡ Some premises
+  pub atoms_hold : (atoms : List Atom) (entities : List EntId) (premises : List Premise) → match_claims relations
+      values atoms entities ≡ Some premises
       → All (IsCurrentRow relations c) premises → All (AtomHolds instance values) atoms
   atoms_hold [] entities premises e current = All-nil (AtomHolds instance values)
   atoms_hold (atom ∷ atoms) [] premises e current = absurd (none-some premises e)
   atoms_hold (atom ∷ atoms) (ent ∷ entities) premises e current =
       let parts = both_parts (atom_claims relations values atom ent) (match_claims relations values atoms entities) premises e in
-      let all : All (IsCurrentRow relations c) (parts.0 ++ parts.1) = subst (All (IsCurrentRow relations c)) (sym parts.4) current in
+      let all : All (IsCurrentRow relations c) (parts.0 ++ parts.1) = subst (All (IsCurrentRow relations c))
+      (sym parts.4) current in
       All-cons (AtomHolds instance values) atom atoms
       (atom_holds atom ent parts.0 parts.2 (front_all (IsCurrentRow relations c) parts.0 parts.1 all))
       (atoms_hold atoms entities parts.1 parts.3 (back_all (IsCurrentRow relations c) parts.0 parts.1 all))
@@ -155,10 +162,12 @@ module _ (relations : List Relation) (c : Rankings) (instance : List (List (List
 -- ---- the clause of a match
 
 tests_hold : (values : List Value) (tests : List Test) → comparisons_are values tests ≡ true → All (TestHolds values) tests
-tests_hold values tests e = AllPass-from_list_all (λ t. is_compared (value_of values t.left) t.cmp (value_of values t.right)) tests e
+tests_hold values tests e = AllPass-from_list_all (λ t. is_compared (value_of values t.left) t.cmp
+    (value_of values t.right)) tests e
 
 -- the tuple of a head, and its place
-placed : (answers : List (List Value)) (values : List Value) (head : List ℕ) (place : ℕ) → answer_place answers values head ≡ Some place
+placed : (answers : List (List Value)) (values : List Value) (head : List ℕ) (place : ℕ) → answer_place answers
+    values head ≡ Some place
     → (tuple : List Value) × (tuple_from values (Some []) head ≡ Some tuple) × (slice_get answers place ≡ Some tuple)
 placed answers values head place e = by (tuple_from values (Some []) head) refl e
   where
@@ -179,8 +188,10 @@ claimed_parts (Some place) (Some premises) clause e = (place, premises, refl, re
 claimed_parts (Some place) None clause e = absurd (none-some clause e)
 claimed_parts None claims clause e = absurd (none-some clause e)
 
-module _ (relations : List Relation) (c : Rankings) (answers : ℕ → Type 0) (posed : Posed) (over : AreAnswersOver relations posed c answers) where
-  match_true : (q : Query) (entities : List EntId) (values : List Value) (disjunct : ℕ) (d : Disjunct) (clause : List Signed) → posed.query ≡ Some q
+module _ (relations : List Relation) (c : Rankings) (answers : ℕ → Type 0) (posed : Posed)
+    (over : AreAnswersOver relations posed c answers) where
+  match_true : (q : Query) (entities : List EntId) (values : List Value) (disjunct : ℕ) (d : Disjunct)
+      (clause : List Signed) → posed.query ≡ Some q
       → slice_get q.disjuncts disjunct ≡ Some d → match_clause relations posed.answers entities values d ≡ Some clause
       → HasTrue relations c answers clause
   match_true q entities values disjunct d clause asked at e =
@@ -189,7 +200,8 @@ module _ (relations : List Relation) (c : Rankings) (answers : ℕ → Type 0) (
       (claimed_clause (answer_place posed.answers values d.head) (match_claims relations values d.atoms entities)) clause e in
       let tested = and_parts counted (comparisons_are values d.tests) chosen.0 in
       let many = and_parts (length values == d.vars) (length entities == length d.atoms) tested.0 in
-      let parts = claimed_parts (answer_place posed.answers values d.head) (match_claims relations values d.atoms entities) clause chosen.1 in
+      let parts = claimed_parts (answer_place posed.answers values d.head)
+      (match_claims relations values d.atoms entities) clause chosen.1 in
       let tuple = placed posed.answers values d.head parts.0 parts.2 in
       subst (HasTrue relations c answers) parts.4
       (by parts.0 parts.1 tuple.0 tuple.1 tuple.2 (eqb-true (length values) d.vars many.0) tested.1 parts.3
@@ -216,13 +228,16 @@ module _ (relations : List Relation) (c : Rankings) (answers : ℕ → Type 0) (
       by place premises tuple head there long tests claims (inr (p, is_in, n)) =
           true_later (true_mapped relations c answers (λ q. not_last q.rel q.attr q.row) premises p is_in tt n)
 
-  by_disjunct : (q : Query) (entities : List EntId) (values : List Value) (disjunct : ℕ) (clause : List Signed) → posed.query ≡ Some q
-      → (o : Option Disjunct) → slice_get q.disjuncts disjunct ≡ o → of_disjunct relations posed.answers entities values o ≡ Some clause
+  by_disjunct : (q : Query) (entities : List EntId) (values : List Value) (disjunct : ℕ) (clause : List Signed)
+      → posed.query ≡ Some q
+      → (o : Option Disjunct) → slice_get q.disjuncts disjunct ≡ o → of_disjunct relations posed.answers entities
+      values o ≡ Some clause
       → HasTrue relations c answers clause
   by_disjunct q entities values disjunct clause asked None at e = absurd (none-some clause e)
   by_disjunct q entities values disjunct clause asked (Some d) at e = match_true q entities values disjunct d clause asked at e
 
-  pub query_true : (disjunct : ℕ) (entities : List EntId) (values : List Value) (clause : List Signed) → (o : Option Query) → posed.query ≡ o
+  pub query_true : (disjunct : ℕ) (entities : List EntId) (values : List Value) (clause : List Signed) →
+      (o : Option Query) → posed.query ≡ o
       → of_query relations posed.answers disjunct entities values o ≡ Some clause → HasTrue relations c answers clause
   query_true disjunct entities values clause None asked e = absurd (none-some clause e)
   query_true disjunct entities values clause (Some q) asked e =

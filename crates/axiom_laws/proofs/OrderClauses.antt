@@ -16,15 +16,18 @@ use Rattle.axiom_laws.proofs.Chosen.{HasTrue, IsCase, true_first, true_later, so
 use Rattle.axiom_laws.proofs.Decisions.{Decided, before_or}
 use Rattle.axiom_laws.proofs.Standing.{before_next}
 
-pub given_true : (relations : List Relation) (c : Rankings) (answers : ℕ → Type 0) (rel : RelId) (attr : AttrId) (earlier later : RowId) (r : Relation)
+pub given_true : (relations : List Relation) (c : Rankings) (answers : ℕ → Type 0) (rel : RelId) (attr : AttrId)
+    (earlier later : RowId) (r : Relation)
     (clause : List Signed) → KeepsGiven relations c
-    → slice_get relations rel.0 ≡ Some r → given_clause rel attr earlier later r ≡ Some clause → HasTrue relations c answers clause
+    → slice_get relations rel.0 ≡ Some r → given_clause rel attr earlier later r ≡ Some clause → HasTrue relations c
+    answers clause
 given_true relations c answers rel attr earlier later r clause keeps at e =
     let p : Pair = record { attr = attr; earlier = earlier; later = later } in
     let parts = some_if (has_pair r.given p) (before rel attr earlier later ∷ []) clause e in
     subst (HasTrue relations c answers) parts.1 (true_first tt (keeps rel.0 r at p (has_is_contained r.given p parts.0)))
 
-pub transitive_true : (relations : List Relation) (c : Rankings) (answers : ℕ → Type 0) (rel : RelId) (attr : AttrId) (first second third : RowId)
+pub transitive_true : (relations : List Relation) (c : Rankings) (answers : ℕ → Type 0) (rel : RelId) (attr : AttrId)
+    (first second third : RowId)
     (r : Relation) (clause : List Signed) → IsCase relations c
     → slice_get relations rel.0 ≡ Some r → transitive_clause rel attr first second third r ≡ Some clause
     → HasTrue relations c answers clause

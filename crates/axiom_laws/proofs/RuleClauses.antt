@@ -199,9 +199,11 @@ instance_parts rel (Some i) clause e = (i, refl, same_Some (all_of rel i) clause
 instance_parts rel None clause e = absurd (none-some clause e)
 
 -- what a rule concludes stands in the clause, and is true
-concluded_true : (relations : List Relation) (c : Rankings) (answers : ℕ → Type 0) (rel : RelId) (rows : List RowId) (q : Conclusion)
+concluded_true : (relations : List Relation) (c : Rankings) (answers : ℕ → Type 0) (rel : RelId) (rows : List RowId)
+    (q : Conclusion)
     (front : List Signed) → IsCompletion relations c
-    → ConclusionHolds (slice_index_or c rel.0 []) rows q → HasTrue relations c answers (front ++ concluded_clause rel (concluded rows q))
+    → ConclusionHolds (slice_index_or c rel.0 []) rows q → HasTrue relations c answers
+    (front ++ concluded_clause rel (concluded rows q))
 concluded_true relations c answers rel rows conclusion.Never front completion holds = absurd holds
 concluded_true relations c answers rel rows (conclusion.Order atom) front completion holds =
     let x = slice_get rows atom.earlier in
@@ -211,7 +213,8 @@ concluded_true relations c answers rel rows (conclusion.Order atom) front comple
     (true_behind relations c answers front (concluded_clause rel (Some s.pair)) (true_first tt s.stands))
 
 -- a premise that does not hold stands in the clause, denied
-premise_true : (relations : List Relation) (c : Rankings) (answers : ℕ → Type 0) (rel : RelId) (r : Relation) (vars : ℕ) (rows : List RowId)
+premise_true : (relations : List Relation) (c : Rankings) (answers : ℕ → Type 0) (rel : RelId) (r : Relation)
+    (vars : ℕ) (rows : List RowId)
     (qs : List Pair) (end : List Signed) (p : Pair) → IsCase relations c
     → slice_get relations rel.0 ≡ Some r → IsChoice r.rows vars rows → Contains qs p → IsPremise (kinds_of r) rows p
     → (Stands c rel.0 p → ⊥)

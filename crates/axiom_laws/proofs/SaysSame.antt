@@ -88,20 +88,24 @@ last_moves c rel attr ent rows value a b of_a of_b value_a value_b last =
 -- ---- statements
 
 -- of the order of two rows, said the other way round
-turned : (relations : List Relation) (c : Rankings) (answers : ℕ → Type 0) (rel : RelId) (attr : AttrId) (a b : RowId) (p q : Bool)
+turned : (relations : List Relation) (c : Rankings) (answers : ℕ → Type 0) (rel : RelId) (attr : AttrId)
+    (a b : RowId) (p q : Bool)
     → IsCompletion relations c → not (same_sign p q) ≡ true
     → IsSound relations (signed (says.Before rel attr b a) q) → HoldsIn relations c answers (signed (says.Before rel attr b a) q)
     → HoldsIn relations c answers (signed (says.Before rel attr a b) p)
 turned relations c answers rel attr a b true true completion e sound h = absurd (false≢true e)
 turned relations c answers rel attr a b false false completion e sound h = absurd (false≢true e)
-turned relations c answers rel attr a b true false completion e sound h = λ s. not_both_ways relations c rel.0 attr.0 a b completion s h
+turned relations c answers rel attr a b true false completion e sound h = λ s. not_both_ways relations c rel.0 attr.0
+    a b completion s h
 turned relations c answers rel attr a b false true completion e sound h =
     ⊎_elim (λ s. absurd (h s)) (λ s. s) (either_before relations c rel.0 attr.0 b a completion sound)
 
-last_either : (relations : List Relation) (c : Rankings) (answers : ℕ → Type 0) (rel : RelId) (attr : AttrId) (a b : RowId) (negative : Bool)
+last_either : (relations : List Relation) (c : Rankings) (answers : ℕ → Type 0) (rel : RelId) (attr : AttrId)
+    (a b : RowId) (negative : Bool)
     → same_entity (rows_in (slice_get relations rel.0)) a b ≡ true
     → same_value (rows_in (slice_get relations rel.0)) attr.0 a b ≡ true
-    → HoldsIn relations c answers (signed (says.Last rel attr b) negative) → HoldsIn relations c answers (signed (says.Last rel attr a) negative)
+    → HoldsIn relations c answers (signed (says.Last rel attr b) negative) → HoldsIn relations c answers
+    (signed (says.Last rel attr a) negative)
 last_either relations c answers rel attr a b negative entity value h = by negative h
   where
     rows : List Row
@@ -130,11 +134,13 @@ before_is : (rel rel' : RelId) (attr attr' : AttrId) (a a' b b' : RowId) → rel
 before_is rel rel' attr attr' a a' b b' r t e f = cc
 
 -- the order of two rows, said in either way
-orders_agree : (relations : List Relation) (c : Rankings) (answers : ℕ → Type 0) (rel rel' : RelId) (attr attr' : AttrId) (a b a' b' : RowId)
+orders_agree : (relations : List Relation) (c : Rankings) (answers : ℕ → Type 0) (rel rel' : RelId)
+    (attr attr' : AttrId) (a b a' b' : RowId)
     (p q : Bool) → IsCompletion relations c
     → says_same relations (signed (says.Before rel attr a b) p) (signed (says.Before rel' attr' a' b') q) ≡ true
     → IsSound relations (signed (says.Before rel' attr' a' b') q)
-    → HoldsIn relations c answers (signed (says.Before rel' attr' a' b') q) → HoldsIn relations c answers (signed (says.Before rel attr a b) p)
+    → HoldsIn relations c answers (signed (says.Before rel' attr' a' b') q) → HoldsIn relations c answers
+    (signed (says.Before rel attr a b) p)
 orders_agree relations c answers rel rel' attr attr' a b a' b' p q completion e sound h =
     let split = and_parts (same_place rel attr rel' attr')
     (((a.0 == a'.0) && (b.0 == b'.0) && same_sign p q) || ((a.0 == b'.0) && (b.0 == a'.0) && not (same_sign p q))) e in
@@ -164,9 +170,11 @@ orders_agree relations c answers rel rel' attr attr' a b a' b' p q completion e 
         (subst (λ (u : Statement). IsSound relations (signed u q)) (sym same) sound)
         (subst (λ (u : Statement). HoldsIn relations c answers (signed u q)) (sym same) h)
 
-tops_agree : (relations : List Relation) (c : Rankings) (answers : ℕ → Type 0) (rel rel' : RelId) (attr attr' : AttrId) (a b : RowId) (p q : Bool)
+tops_agree : (relations : List Relation) (c : Rankings) (answers : ℕ → Type 0) (rel rel' : RelId)
+    (attr attr' : AttrId) (a b : RowId) (p q : Bool)
     → says_same relations (signed (says.Top rel attr a) p) (signed (says.Top rel' attr' b) q) ≡ true
-    → HoldsIn relations c answers (signed (says.Top rel' attr' b) q) → HoldsIn relations c answers (signed (says.Top rel attr a) p)
+    → HoldsIn relations c answers (signed (says.Top rel' attr' b) q) → HoldsIn relations c answers
+    (signed (says.Top rel attr a) p)
 tops_agree relations c answers rel rel' attr attr' a b p q e h =
     let parts = three_parts (same_place rel attr rel' attr') (a.0 == b.0) (same_sign p q) e in
     let place = place_is rel rel' attr attr' parts.0 in
@@ -176,9 +184,11 @@ tops_agree relations c answers rel rel' attr attr' a b p q e h =
     let same : says.Top rel attr a ≡ says.Top rel' attr' b = cc in
     moves relations c answers (says.Top rel attr a) (says.Top rel' attr' b) p q same (sign_is p q parts.2) h
 
-lasts_agree : (relations : List Relation) (c : Rankings) (answers : ℕ → Type 0) (rel rel' : RelId) (attr attr' : AttrId) (a b : RowId) (p q : Bool)
+lasts_agree : (relations : List Relation) (c : Rankings) (answers : ℕ → Type 0) (rel rel' : RelId)
+    (attr attr' : AttrId) (a b : RowId) (p q : Bool)
     → says_same relations (signed (says.Last rel attr a) p) (signed (says.Last rel' attr' b) q) ≡ true
-    → HoldsIn relations c answers (signed (says.Last rel' attr' b) q) → HoldsIn relations c answers (signed (says.Last rel attr a) p)
+    → HoldsIn relations c answers (signed (says.Last rel' attr' b) q) → HoldsIn relations c answers
+    (signed (says.Last rel attr a) p)
 lasts_agree relations c answers rel rel' attr attr' a b p q e h =
     let rows = rows_in (slice_get relations rel.0) in
     let front = same_place rel attr rel' attr' && same_sign p q && same_entity rows a b in
@@ -209,8 +219,10 @@ agree relations c answers m s completion e sound h = by m.statement s.statement 
         → IsSound relations (signed b q) → HoldsIn relations c answers (signed b q) → HoldsIn relations c answers (signed a p)
     by (says.Before rel attr a b) (says.Before rel' attr' a' b') p q e sound h =
         orders_agree relations c answers rel rel' attr attr' a b a' b' p q completion e sound h
-    by (says.Top rel attr a) (says.Top rel' attr' b) p q e sound h = tops_agree relations c answers rel rel' attr attr' a b p q e h
-    by (says.Last rel attr a) (says.Last rel' attr' b) p q e sound h = lasts_agree relations c answers rel rel' attr attr' a b p q e h
+    by (says.Top rel attr a) (says.Top rel' attr' b) p q e sound h = tops_agree relations c answers rel rel' attr
+        attr' a b p q e h
+    by (says.Last rel attr a) (says.Last rel' attr' b) p q e sound h = lasts_agree relations c answers rel rel' attr
+        attr' a b p q e h
     by (says.Before rel attr a b) (says.Top rel' attr' b') p q e sound h = absurd (false≢true e)
     by (says.Before rel attr a b) (says.Last rel' attr' b') p q e sound h = absurd (false≢true e)
     by (says.Before rel attr a b) (says.Answer tuple) p q e sound h = absurd (false≢true e)

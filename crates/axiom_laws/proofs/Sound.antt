@@ -70,7 +70,8 @@ copy_label s c answers facts consistent is k place first second clause (Some cop
     copy_true s.relations c answers copy place first second target.0 source.0 clause copied source.2
 
 label_true : (s : Spec) (c : Rankings) (answers : ℕ → Type 0) → IsSpecification s → IsConsistent s c → IsCase s.relations c
-    → (posed : Posed) → AreAnswersOver s.relations posed c answers → (l : Label) (clause : List Signed) → axiom_of s posed l ≡ Some clause
+    → (posed : Posed) → AreAnswersOver s.relations posed c answers → (l : Label) (clause : List Signed)
+    → axiom_of s posed l ≡ Some clause
     → HasTrue s.relations c answers clause
 label_true s c answers facts consistent is posed over (label.Given rel attr earlier later) clause e =
     let r = in_relation_is s.relations rel (given_clause rel attr earlier later) clause e in
@@ -107,7 +108,8 @@ found test (x ∷ xs) e =
     (λ later. let more = found test xs later in (more.0, rest_in x more.0 xs more.1, more.2))
     (or_cases (test x) (list_any test xs) e)
 
-said_true : (relations : List Relation) (c : Rankings) (answers : ℕ → Type 0) (statements : List Statement) (s : Signed) (lit : Lit)
+said_true : (relations : List Relation) (c : Rankings) (answers : ℕ → Type 0) (statements : List Statement)
+    (s : Signed) (lit : Lit)
     → IsCompletion relations c → IsSound relations s
     → HoldsIn relations c answers s → lit_says relations statements s lit ≡ true → LitHolds relations c answers statements lit
 said_true relations c answers statements s lit completion sound holds e = by (meaning statements lit) refl e
@@ -119,9 +121,11 @@ said_true relations c answers statements s lit completion sound holds e = by (me
         let said : is_said relations s (Some m) ≡ true = rw is at e in
         rw is (agree relations c answers m s completion said sound holds)
 
-clause_true : (relations : List Relation) (c : Rankings) (answers : ℕ → Type 0) (statements : List Statement) (lits : List Lit) (clause : List Signed)
+clause_true : (relations : List Relation) (c : Rankings) (answers : ℕ → Type 0) (statements : List Statement)
+    (lits : List Lit) (clause : List Signed)
     → IsCompletion relations c
-    → is_clause relations statements lits clause ≡ true → HasTrue relations c answers clause → ClauseHolds relations c answers statements lits
+    → is_clause relations statements lits clause ≡ true → HasTrue relations c answers clause → ClauseHolds relations
+    c answers statements lits
 clause_true relations c answers statements lits clause completion e t =
     let each_is_said = list_all (λ lit. list_any (λ s. lit_says relations statements s lit) clause) lits in
     let parts = and_parts each_is_said (list_all says_it clause) e in
@@ -145,4 +149,5 @@ axiom_true answers s facts c consistent posed over statements l lits e = by (axi
         let here : is_clause s.relations statements lits clause ≡ true = rw is at e in
         let completion = consistent.completion in
         clause_true s.relations c answers statements lits clause completion here
-        (label_true s c answers facts consistent record { facts = facts.relations; completion = completion } posed over l clause is)
+        (label_true s c answers facts consistent record { facts = facts.relations; completion = completion } posed
+        over l clause is)

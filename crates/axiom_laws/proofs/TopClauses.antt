@@ -58,7 +58,8 @@ top_of relations c rel attr ent r z at l =
 
 -- ---- above
 
-pub above_true : (relations : List Relation) (c : Rankings) (answers : ℕ → Type 0) (rel : RelId) (attr : AttrId) (row another : RowId) (r : Relation)
+pub above_true : (relations : List Relation) (c : Rankings) (answers : ℕ → Type 0) (rel : RelId) (attr : AttrId)
+    (row another : RowId) (r : Relation)
     (clause : List Signed) → IsCase relations c
     → slice_get relations rel.0 ≡ Some r → above_clause rel attr row another r ≡ Some clause → HasTrue relations c answers clause
 above_true relations c answers rel attr row another r clause is at e =
@@ -87,7 +88,8 @@ above_true relations c answers rel attr row another r clause is at e =
 top_all : RelId → AttrId → RowId → Relation → ℕ → List Signed
 top_all rel attr row r ent = top rel attr row ∷ map (λ x. not_before rel attr x row) (others r.rows ent row)
 
-top_by : (relations : List Relation) (c : Rankings) (answers : ℕ → Type 0) (rel : RelId) (attr : AttrId) (row : RowId) (r : Relation) (ent : ℕ)
+top_by : (relations : List Relation) (c : Rankings) (answers : ℕ → Type 0) (rel : RelId) (attr : AttrId)
+    (row : RowId) (r : Relation) (ent : ℕ)
     → IsCase relations c
     → slice_get relations rel.0 ≡ Some r → attr.0 < length r.attrs → entity_of r.rows row.0 ≡ Some ent
     → (z : RowId) → IsLastOf r c rel.0 attr.0 ent z → Decided (z ≡ row) → HasTrue relations c answers (top_all rel attr row r ent)
@@ -115,13 +117,15 @@ top_by relations c answers rel attr row r ent is at inside of z l (inr n) =
     true_later (true_mapped relations c answers (λ x. not_before rel attr x row) (others r.rows ent row) z among two
     (last_of_all relations c rel.0 attr.0 (rows_in (slice_get relations rel.0)) z row is.completion here))
 
-pub top_true : (relations : List Relation) (c : Rankings) (answers : ℕ → Type 0) (rel : RelId) (attr : AttrId) (row : RowId) (r : Relation)
+pub top_true : (relations : List Relation) (c : Rankings) (answers : ℕ → Type 0) (rel : RelId) (attr : AttrId)
+    (row : RowId) (r : Relation)
     (clause : List Signed) → IsCase relations c
     → slice_get relations rel.0 ≡ Some r → top_clause rel attr row r ≡ Some clause → HasTrue relations c answers clause
 unfolding top_all
 top_true relations c answers rel attr row r clause is at e = by (entity_of r.rows row.0) refl e
   where
-    by : (o : Option ℕ) → entity_of r.rows row.0 ≡ o → top_clause rel attr row r ≡ Some clause → HasTrue relations c answers clause
+    by : (o : Option ℕ) → entity_of r.rows row.0 ≡ o → top_clause rel attr row r ≡ Some clause → HasTrue relations c
+        answers clause
     by None of e =
         let none : cond (is_attr r attr) None None ≡ Some clause = rw of at e in
         absurd (none-some clause (given_if (is_attr r attr) None clause none).1)
@@ -130,7 +134,8 @@ top_true relations c answers rel attr row r clause is at e = by (entity_of r.row
         let parts = some_if (is_attr r attr) (top_all rel attr row r ent) clause here in
         let inside = attr_in r attr parts.0 in
         let z = last_there relations c rel.0 attr.0 ent r row is at inside of in
-        subst (HasTrue relations c answers) parts.1 (top_by relations c answers rel attr row r ent is at inside of z.0 z.1 (same_or z.0 row))
+        subst (HasTrue relations c answers) parts.1 (top_by relations c answers rel attr row r ent is at inside of
+        z.0 z.1 (same_or z.0 row))
 
 -- ---- values
 
@@ -155,18 +160,21 @@ field_there relations rel r attr ent row are at inside of =
 
 -- ---- last
 
-pub last_true : (relations : List Relation) (c : Rankings) (answers : ℕ → Type 0) (rel : RelId) (attr : AttrId) (row : RowId) (r : Relation)
+pub last_true : (relations : List Relation) (c : Rankings) (answers : ℕ → Type 0) (rel : RelId) (attr : AttrId)
+    (row : RowId) (r : Relation)
     (clause : List Signed) → IsCase relations c
     → slice_get relations rel.0 ≡ Some r → last_clause rel attr row r ≡ Some clause → HasTrue relations c answers clause
 last_true relations c answers rel attr row r clause is at e =
     let parts = some_if (is_attr r attr && same_entity r.rows row row) all clause e in
     let both = and_parts (is_attr r attr) (same_entity r.rows row row) parts.0 in
-    subst (HasTrue relations c answers) parts.1 (by (attr_in r attr both.0) (top_or c rel.0 attr.0 (rows_in (slice_get relations rel.0)) row))
+    subst (HasTrue relations c answers) parts.1
+    (by (attr_in r attr both.0) (top_or c rel.0 attr.0 (rows_in (slice_get relations rel.0)) row))
   where
     all : List Signed
     all = not_top rel attr row ∷ last rel attr row ∷ []
 
-    by : attr.0 < length r.attrs → Decided (IsTrueIn relations c answers (says.Top rel attr row)) → HasTrue relations c answers all
+    by : attr.0 < length r.attrs → Decided (IsTrueIn relations c answers (says.Top rel attr row))
+        → HasTrue relations c answers all
     by inside (inr n) = true_first tt n
     by inside (inl t) =
         let here : IsTop c rel.0 attr.0 r.rows row =
@@ -197,7 +205,8 @@ value_of_last c rel attr ent r row z l of t =
     sym (ap (λ o. field_value r.rows o attr) l.is_last) ∙ (sym (ap (current_value c rel r.rows attr) here) ∙ t.current) in
     ap₂ (λ a b. is_compared a Eq b) t.of_row of_z ∙ value_itself t.value
 
-value_by : (relations : List Relation) (c : Rankings) (answers : ℕ → Type 0) (rel : RelId) (attr : AttrId) (row : RowId) (r : Relation) (ent : ℕ)
+value_by : (relations : List Relation) (c : Rankings) (answers : ℕ → Type 0) (rel : RelId) (attr : AttrId)
+    (row : RowId) (r : Relation) (ent : ℕ)
     → slice_get relations rel.0 ≡ Some r
     → entity_of r.rows row.0 ≡ Some ent → (z : RowId) → IsLastOf r c rel.0 attr.0 ent z
     → Decided (IsTrueIn relations c answers (says.Last rel attr row))
@@ -213,13 +222,15 @@ value_by relations c answers rel attr row r ent at of z l (inl t) =
     let here = top_of relations c rel.0 attr.0 ent r z at l in
     true_later (true_mapped relations c answers (top rel attr) (alike r.rows attr.0 ent row) z among tt here)
 
-pub value_true : (relations : List Relation) (c : Rankings) (answers : ℕ → Type 0) (rel : RelId) (attr : AttrId) (row : RowId) (r : Relation)
+pub value_true : (relations : List Relation) (c : Rankings) (answers : ℕ → Type 0) (rel : RelId) (attr : AttrId)
+    (row : RowId) (r : Relation)
     (clause : List Signed) → IsCase relations c
     → slice_get relations rel.0 ≡ Some r → value_clause rel attr row r ≡ Some clause → HasTrue relations c answers clause
 unfolding value_all
 value_true relations c answers rel attr row r clause is at e = by (entity_of r.rows row.0) refl e
   where
-    by : (o : Option ℕ) → entity_of r.rows row.0 ≡ o → value_clause rel attr row r ≡ Some clause → HasTrue relations c answers clause
+    by : (o : Option ℕ) → entity_of r.rows row.0 ≡ o → value_clause rel attr row r ≡ Some clause
+        → HasTrue relations c answers clause
     by None of e =
         let none : cond (is_attr r attr) None None ≡ Some clause = rw of at e in
         absurd (none-some clause (given_if (is_attr r attr) None clause none).1)
@@ -228,4 +239,5 @@ value_true relations c answers rel attr row r clause is at e = by (entity_of r.r
         let parts = some_if (is_attr r attr) (value_all rel attr row r ent) clause here in
         let z = last_there relations c rel.0 attr.0 ent r row is at (attr_in r attr parts.0) of in
         subst (HasTrue relations c answers) parts.1
-        (value_by relations c answers rel attr row r ent at of z.0 z.1 (last_or c rel.0 attr.0 (rows_in (slice_get relations rel.0)) row))
+        (value_by relations c answers rel attr row r ent at of z.0 z.1
+        (last_or c rel.0 attr.0 (rows_in (slice_get relations rel.0)) row))

@@ -53,7 +53,8 @@ last_or c rel attr rows row = go (entity_of rows row.0) (field_value rows (Some 
         n (ap (current_value c rel rows attr) same ∙ (t.current ∙ (sym t.of_row ∙ f)))))
         (some_value_or (current_value c rel rows attr ent) value)
 
-pub true_or : (relations : List Relation) (c : Rankings) (answers : ℕ → Type 0) → AreDecided answers → (s : Statement) → Decided (IsTrueIn relations c answers s)
+pub true_or : (relations : List Relation) (c : Rankings) (answers : ℕ → Type 0) → AreDecided answers →
+    (s : Statement) → Decided (IsTrueIn relations c answers s)
 true_or relations c answers are (says.Before rel attr earlier later) = before_or (lists_of c rel.0 attr.0) earlier later
 true_or relations c answers are (says.Top rel attr row) = top_or c rel.0 attr.0 (rows_in (slice_get relations rel.0)) row
 true_or relations c answers are (says.Last rel attr row) = last_or c rel.0 attr.0 (rows_in (slice_get relations rel.0)) row
@@ -63,7 +64,8 @@ not_decided : {P : Type 0} → Decided P → Decided (P → ⊥)
 not_decided (inl h) = inr (λ n. n h)
 not_decided (inr n) = inl n
 
-signed_or : (relations : List Relation) (c : Rankings) (answers : ℕ → Type 0) → AreDecided answers → (s : Statement) (negative : Bool)
+signed_or : (relations : List Relation) (c : Rankings) (answers : ℕ → Type 0) → AreDecided answers → (s : Statement)
+    (negative : Bool)
     → Decided (HoldsIn relations c answers (record { statement = s; negative = negative }))
 signed_or relations c answers are s false = true_or relations c answers are s
 signed_or relations c answers are s true = not_decided (true_or relations c answers are s)
@@ -75,7 +77,8 @@ abbrev SaidHolds : List Relation → Rankings → (ℕ → Type 0) → Option St
 SaidHolds relations c answers None negative = negative ≡ true
 SaidHolds relations c answers (Some s) negative = HoldsIn relations c answers (record { statement = s; negative = negative })
 
-said_or : (relations : List Relation) (c : Rankings) (answers : ℕ → Type 0) → AreDecided answers → (s : Option Statement) (negative : Bool)
+said_or : (relations : List Relation) (c : Rankings) (answers : ℕ → Type 0) → AreDecided answers →
+    (s : Option Statement) (negative : Bool)
     → Decided (SaidHolds relations c answers s negative)
 said_or relations c answers are None true = inl refl
 said_or relations c answers are None false = inr false≢true
@@ -88,7 +91,8 @@ never_both relations c answers None false h k = false≢true h
 never_both relations c answers (Some s) true h k = h k
 never_both relations c answers (Some s) false h k = k h
 
-one_holds : (relations : List Relation) (c : Rankings) (answers : ℕ → Type 0) → AreDecided answers → (s : Option Statement) (negative : Bool)
+one_holds : (relations : List Relation) (c : Rankings) (answers : ℕ → Type 0) → AreDecided answers →
+    (s : Option Statement) (negative : Bool)
     → (SaidHolds relations c answers s negative → ⊥) → SaidHolds relations c answers s (not negative)
 one_holds relations c answers are None true n = absurd (n refl)
 one_holds relations c answers are None false n = refl
@@ -97,11 +101,13 @@ one_holds relations c answers are (Some s) true n = ⊎_elim (λ h. h) (λ m. ab
 
 -- a literal is true exactly where what it says is
 lit_is : (relations : List Relation) (c : Rankings) (answers : ℕ → Type 0) (statements : List Statement) (lit : Lit)
-    → LitHolds relations c answers statements lit ≡ SaidHolds relations c answers (slice_get statements (var_of lit)) (is_negative lit)
+    → LitHolds relations c answers statements lit ≡ SaidHolds relations c answers (slice_get statements (var_of lit))
+    (is_negative lit)
 lit_is relations c answers statements lit = go (slice_get statements (var_of lit)) refl
   where
     go : (s : Option Statement) → slice_get statements (var_of lit) ≡ s
-        → LitHolds relations c answers statements lit ≡ SaidHolds relations c answers (slice_get statements (var_of lit)) (is_negative lit)
+        → LitHolds relations c answers statements lit ≡ SaidHolds relations c answers
+        (slice_get statements (var_of lit)) (is_negative lit)
     go None e = rw e refl
     go (Some s) e = rw e refl
 

@@ -13,8 +13,8 @@ use Rattle.log_axioms.specs.Axioms.{is_axiom}
 use Rattle.log_axioms.specs.Posed.{AreAnswersOver, Posed, passing}
 use Rattle.log_axioms.specs.Truth.{LitHolds, ClauseHolds}
 
--- every axiom of a specification, and of what is posed of it, is true in every consistent completion of it, where each tuple is one of the answers that the
--- query has as an answer over the current instance
+-- every axiom of a specification, and of what is posed of it, is true in every consistent completion of it, where each
+-- tuple is one of the answers that the query has as an answer over the current instance
 abbrev pub AxiomsHoldOver : (ℕ → Type 0) → Type 0
 AxiomsHoldOver answers = (s : Spec) → IsSpecification s → (c : Rankings) → IsConsistent s c
     → (posed : Posed) → AreAnswersOver s.relations posed c answers
@@ -36,8 +36,9 @@ abbrev pub LiteralsComplementOver : (ℕ → Type 0) → Type 0
 LiteralsComplementOver answers = (relations : List Relation) (c : Rankings) (statements : List Statement) (lit : Lit)
     → (LitHolds relations c answers statements lit → ⊥) → LitHolds relations c answers statements (negation lit)
 
--- ---- a clause ranges over tests of which tuples are answers; that the laws hold for whatever are answers, if this is decided where it has to be, is said
--- by lemmas: axiom_true of proofs/Sound, and decided, negated and other of proofs/Truths
+-- ---- a clause ranges over tests of which tuples are answers; that the laws hold for whatever are answers, if this is
+-- decided where it has to be, is said by lemmas: axiom_true of proofs/Sound, and decided, negated and other of
+-- proofs/Truths
 
 abbrev pub AxiomsHold : Type 0
 AxiomsHold = (answers : ℕ → Bool) → AxiomsHoldOver (passing answers)

@@ -90,7 +90,8 @@ fn searched(
     requires query { IsQuery query.now }
     requires candidates { AreCandidates spec.now query.now candidates }
     requires few { length candidates.tuples ≤ 1000000 }
-    requires first { (c : Rankings) × (candidates.completions ≡ c ∷ []) × IsConsistent spec.now c × AreAnswersIn spec.now.relations query.now c candidates.tuples }
+    requires first { (c : Rankings) × (candidates.completions ≡ c ∷ []) × IsConsistent spec.now c × AreAnswersIn
+        spec.now.relations query.now c candidates.tuples }
 {
     is_within(spec);
     let mut search = match search_for(alloc, spec, query, &candidates, candidates.first(), guides) {

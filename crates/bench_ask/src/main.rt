@@ -42,8 +42,8 @@ fn put(boxes: &mut Vec<Box<dyn Guide>>, guide: Box<dyn Guide>) -> Result<(), NoM
     }
 }
 
-// What the search over a specification came to, or of a query over it, with one guide of each kind, if memory is not wanting. The boxes
-// are made here and not handed out, so that nothing that is proved hangs on what is in them.
+// What the search over a specification came to, or of a query over it, with one guide of each kind, if memory is not
+// wanting. The boxes are made here and not handed out, so that nothing that is proved hangs on what is in them.
 fn came_to(
     alloc: Global,
     spec: &Specification,

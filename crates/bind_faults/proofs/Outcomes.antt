@@ -19,7 +19,8 @@ same_read_fault A B (Limit k) h = h
 same_read_fault A B (ReadFault name) h = h
 same_read_fault A B NoMemory h = h
 
-pub same_read_fault_of : (A B : Type 0) (fault : BindFault) (table : List ℕ) → IsReadFaultOf {A = A} (Err fault) table → IsReadFaultOf {A = B} (Err fault) table
+pub same_read_fault_of : (A B : Type 0) (fault : BindFault) (table : List ℕ) → IsReadFaultOf {A = A} (Err fault)
+    table → IsReadFaultOf {A = B} (Err fault) table
 same_read_fault_of A B (Refused refusal) table h = h
 same_read_fault_of A B (CopyDiffers document line target source) table h = h
 same_read_fault_of A B (Limit k) table h = h
@@ -56,7 +57,8 @@ due_through first due NoMemory is on = tt
 -- ---- outcomes that are no read fault
 
 -- a fault that is due is no read fault, where nothing that is due is one
-pub due_reads : {A : Type 0} (B : Type 0) (due : Result A BindFault) (fault : BindFault) → (IsReadFault due → ⊥) → IsDue due (Err fault)
+pub due_reads : {A : Type 0} (B : Type 0) (due : Result A BindFault) (fault : BindFault) → (IsReadFault due → ⊥)
+    → IsDue due (Err fault)
     → IsReadFault {A = B} (Err fault) → ⊥
 due_reads B due (Refused refusal) reads is h = h
 due_reads B due (CopyDiffers document line target source) reads is h = h

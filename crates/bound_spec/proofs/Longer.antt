@@ -25,7 +25,8 @@ snoc_at (z ∷ zs) x (suc i) y at = elim (snoc_at zs x i y at) [ inl here ↦ in
 once_more : {A : Type 0} (xs : List A) (x : A) → OnlyOnce xs → (Contains xs x → ⊥) → OnlyOnce (xs ++ x ∷ [])
 once_more {A} xs x once new i j y at_i at_j = cases (snoc_at xs x i y at_i) (snoc_at xs x j y at_j)
   where
-    cases : (slice_get xs i ≡ Some y) ⊎ ((i ≡ length xs) × (x ≡ y)) → (slice_get xs j ≡ Some y) ⊎ ((j ≡ length xs) × (x ≡ y)) → i ≡ j
+    cases : (slice_get xs i ≡ Some y) ⊎ ((i ≡ length xs) × (x ≡ y)) → (slice_get xs j ≡ Some y) ⊎
+        ((j ≡ length xs) × (x ≡ y)) → i ≡ j
     cases (inl a) (inl b) = once i j y a b
     cases (inl a) (inr b) = absurd (new (subst (λ (z : A). Contains xs z) (sym b.1) (contains_at xs i y a)))
     cases (inr a) (inl b) = absurd (new (subst (λ (z : A). Contains xs z) (sym a.1) (contains_at xs j y b)))
@@ -41,19 +42,23 @@ longer_relations done r are is few new = record {
 }
 
 -- the rules with one more, whose name is new
-pub longer_rules : (relations : List Relation) (done : List Rule) (rule : Rule) → AreRules relations done → IsRuleOf relations rule → length done + 2 < 2 ^ 32
+pub longer_rules : (relations : List Relation) (done : List Rule) (rule : Rule) → AreRules relations done
+    → IsRuleOf relations rule → length done + 2 < 2 ^ 32
     → (Contains (map (λ r. r.name) done) rule.name → ⊥) → AreRules relations (done ++ rule ∷ [])
 longer_rules relations done rule are is few new = record {
   few = omega (arith, few, length-append done (rule ∷ []));
-  each = All-append (IsRuleOf relations) done (rule ∷ []) are.each (All-cons (IsRuleOf relations) rule [] is (All-nil (IsRuleOf relations)));
+  each = All-append (IsRuleOf relations) done (rule ∷ []) are.each (All-cons (IsRuleOf relations) rule [] is
+      (All-nil (IsRuleOf relations)));
   names = rw map-append (once_more (map (λ r. r.name) done) rule.name are.names new);
 }
 
 -- the copy functions with one more, whose name is new
-pub longer_copies : (relations : List Relation) (done : List CopyFunction) (copy : CopyFunction) → AreCopies relations done → IsCopyAmong relations copy
+pub longer_copies : (relations : List Relation) (done : List CopyFunction) (copy : CopyFunction)
+    → AreCopies relations done → IsCopyAmong relations copy
     → length done + 2 < 2 ^ 32 → (Contains (map (λ c. c.name) done) copy.name → ⊥) → AreCopies relations (done ++ copy ∷ [])
 longer_copies relations done copy are is few new = record {
   few = omega (arith, few, length-append done (copy ∷ []));
-  each = All-append (IsCopyAmong relations) done (copy ∷ []) are.each (All-cons (IsCopyAmong relations) copy [] is (All-nil (IsCopyAmong relations)));
+  each = All-append (IsCopyAmong relations) done (copy ∷ []) are.each (All-cons (IsCopyAmong relations) copy [] is
+      (All-nil (IsCopyAmong relations)));
   names = rw map-append (once_more (map (λ c. c.name) done) copy.name are.names new);
 }

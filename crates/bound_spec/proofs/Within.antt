@@ -22,7 +22,8 @@ nothing_within : exceeded nothing ≡ None
 unfolding exceeded
 nothing_within = refl
 
-pub nothing_known : (s : Spec) (names : NameLists) → s ≡ nothing → names ≡ record { relations = []; each = []; rules = []; copies = [] } → IsKnown s names 0
+pub nothing_known : (s : Spec) (names : NameLists) → s ≡ nothing
+    → names ≡ record { relations = []; each = []; rules = []; copies = [] } → IsKnown s names 0
 nothing_known s names is are = rw (is, are) (record { names_are = refl; rows_are = refl; within = nothing_within })
 
 pub few_relations : (s : Spec) → exceeded s ≡ None → length s.relations ≤ 64
@@ -51,7 +52,8 @@ short_rule s rule within =
     (ltb-false 4 rule.vars parts.0, ltb-false 16 (length rule.predicates) parts.1)
 
 -- the rows with those of one more relation
-pub rows_more : (s : Spec) (r : Relation) → rows_together (with_relation s r).relations ≡ rows_together s.relations + length r.rows
+pub rows_more : (s : Spec) (r : Relation) → rows_together (with_relation s r).relations ≡ rows_together s.relations +
+    length r.rows
 rows_more s r = sum_by_push (λ (q : Relation). length q.rows) s.relations r
 
 -- there is room for them in the count of rows
@@ -67,11 +69,13 @@ pub relation_follows : (s bound : Spec) (r : Relation) → s ≡ bound → IsSpe
     → (Contains (relation_names bound) r.name → ⊥) → AreRelations (s.relations ++ r ∷ [])
 relation_follows s bound r same spec relation within fresh =
     let few : length s.relations + 2 < 2 ^ 32 = omega (arith, few_relations s within) in
-    let free : Contains (relation_names s) r.name → ⊥ = subst (λ (b : Spec). Contains (relation_names b) r.name → ⊥) (sym same) fresh in
+    let free : Contains (relation_names s) r.name → ⊥ = subst (λ (b : Spec). Contains (relation_names b) r.name → ⊥)
+    (sym same) fresh in
     longer_relations s.relations r spec.relations relation few free
 
 -- and a rule may
-pub rule_follows : (s bound : Spec) (rule : Rule) → s ≡ bound → IsSpecification s → exceeded s ≡ None → exceeded (with_rule bound rule) ≡ None
+pub rule_follows : (s bound : Spec) (rule : Rule) → s ≡ bound → IsSpecification s → exceeded s ≡ None
+    → exceeded (with_rule bound rule) ≡ None
     → (rule.vars ≤ 4 → length rule.predicates ≤ 16 → IsRuleOf bound.relations rule)
     → (Contains (map (λ r. r.name) bound.rules) rule.name → ⊥) → AreRules s.relations (s.rules ++ rule ∷ [])
 rule_follows s bound rule same spec within above fits fresh =
@@ -87,7 +91,8 @@ unfolding exceeded
 few_copies s within = ltb-false 64 (length s.copies) (none_of _ _ _ _ _ _ within).copies
 
 -- and a copy function
-pub copy_follows : (s bound : Spec) (copy : CopyFunction) → s ≡ bound → IsSpecification s → exceeded s ≡ None → IsCopyAmong bound.relations copy
+pub copy_follows : (s bound : Spec) (copy : CopyFunction) → s ≡ bound → IsSpecification s → exceeded s ≡ None
+    → IsCopyAmong bound.relations copy
     → (Contains (map (λ c. c.name) bound.copies) copy.name → ⊥) → AreCopies s.relations (s.copies ++ copy ∷ [])
 copy_follows s bound copy same spec within fits fresh =
     let few : length s.copies + 2 < 2 ^ 32 = omega (arith, few_copies s within) in

@@ -18,7 +18,8 @@ pub all_from : {A : Type 0} (P : A → Type 0) (xs : List A) → ((i : ℕ) (x :
 all_from P xs each i d below = each i (get_or xs i d) (slice_get-get_or xs i d below)
 
 next_taken : {A : Type 0} (xs : List A) (k : ℕ) (x : A) → slice_get xs k ≡ Some x → take (k + 1) xs ≡ take k xs ++ x ∷ []
-next_taken xs k x at = take_more xs k x (slice_get_within xs k x at) ∙ ap (λ y. take k xs ++ y ∷ []) (get_or_from_slice_get xs k x x at)
+next_taken xs k x at = take_more xs k x (slice_get_within xs k x at) ∙ ap (λ y. take k xs ++ y ∷ [])
+    (get_or_from_slice_get xs k x x at)
 
 pub append_none : {A : Type 0} (xs : List A) → xs ++ [] ≡ xs
 append_none [] = refl
@@ -43,7 +44,8 @@ at_push [] y (suc i) x is = let no : ⊥ = cc in absurd no
 at_push (z ∷ xs) y zero x is = inl is
 at_push (z ∷ xs) y (suc i) x is = step (at_push xs y i x is)
   where
-    step : (slice_get xs i ≡ Some x) ⊎ ((i ≡ length xs) × (y ≡ x)) → (slice_get xs i ≡ Some x) ⊎ ((suc i ≡ suc (length xs)) × (y ≡ x))
+    step : (slice_get xs i ≡ Some x) ⊎ ((i ≡ length xs) × (y ≡ x)) → (slice_get xs i ≡ Some x) ⊎
+        ((suc i ≡ suc (length xs)) × (y ≡ x))
     step (inl h) = inl h
     step (inr h) = inr (ap suc h.0, h.1)
 
@@ -54,7 +56,8 @@ map_more f xs k x start old new at was push =
     push ∙ ap (λ ys. ys ++ f x ∷ []) was ∙ append_assoc start (map f (take k xs)) (f x ∷ [])
     ∙ ap (λ ys. start ++ ys) (sym (map-append f (take k xs) (x ∷ []))) ∙ ap (λ ys. start ++ map f ys) (sym (next_taken xs k x at))
 
-pub map_taken : {A B : Type 0} (f : A → B) (xs : List A) (k : ℕ) (start new : List B) → length xs ≤ k → new ≡ start ++ map f (take k xs)
+pub map_taken : {A B : Type 0} (f : A → B) (xs : List A) (k : ℕ) (start new : List B) → length xs ≤ k → new ≡ start
+    ++ map f (take k xs)
     → new ≡ start ++ map f xs
 map_taken f xs k start new past is = is ∙ ap (λ ys. start ++ map f ys) (take_all k xs past)
 
@@ -65,6 +68,7 @@ flat_more f xs k x old new at was push =
     push ∙ ap (λ ys. ys ++ f x) was ∙ ap (λ ys. flat_map f (take k xs) ++ ys) (sym (append_none (f x)))
     ∙ sym (flat_map-append f (take k xs) (x ∷ [])) ∙ ap (flat_map f) (sym (next_taken xs k x at))
 
-pub flat_taken : {A B : Type 0} (f : A → List B) (xs : List A) (k : ℕ) (new : List B) → length xs ≤ k → new ≡ flat_map f (take k xs)
+pub flat_taken : {A B : Type 0} (f : A → List B) (xs : List A) (k : ℕ) (new : List B) → length xs ≤ k
+    → new ≡ flat_map f (take k xs)
     → new ≡ flat_map f xs
 flat_taken f xs k new past is = is ∙ ap (flat_map f) (take_all k xs past)

@@ -26,7 +26,15 @@ at_front (z ∷ xs) ys zero x at = at
 at_front (z ∷ xs) ys (suc i) x at = at_front xs ys i x at
 
 pub gone_none : (search : Search) → HasGone search search
-gone_none search = record { spec = refl; posed = refl; wanted = refl; statements = refl; added = []; steps = sym (append_none search.log.steps) }
+gone_none search = record {
+  spec = refl;
+  posed = refl;
+  wanted = refl;
+  statements = refl;
+  added = [];
+  steps =
+      sym (append_none search.log.steps);
+}
   where
     append_none : (xs : List Step) → xs ++ [] ≡ xs
     append_none [] = refl
@@ -42,18 +50,22 @@ gone_then old middle new one other = record {
   steps = other.steps ∙ ap (λ (ss : List Step). ss ++ other.added) one.steps ∙ append_assoc old.log.steps one.added other.added;
 }
 
-pub for_later : (s : Spec) (query : Query) (old new : Search) → HasGone old new → IsSearchFor s query old → IsSearchFor s query new
+pub for_later : (s : Spec) (query : Query) (old new : Search) → HasGone old new → IsSearchFor s query old
+    → IsSearchFor s query new
 for_later s query old new gone is = record {
   spec = gone.spec ∙ is.spec;
   query_is = ap (λ (p : Posed). p.query) gone.posed ∙ is.query_is;
   currents = ap (λ (w : Wanted). w.currents) gone.wanted ∙ is.currents;
 }
 
-pub place_later : (old new : Search) (place : ℕ) → HasGone old new → place < length old.posed.answers → place < length new.posed.answers
+pub place_later : (old new : Search) (place : ℕ) → HasGone old new → place < length old.posed.answers
+    → place < length new.posed.answers
 place_later old new place gone below = subst (λ (p : Posed). place < length p.answers) (sym gone.posed) below
 
-pub says_later : (old new : Search) (place : ℕ) (lit : Lit) → HasGone old new → SaysAnswer old.log.statements place lit → SaysAnswer new.log.statements place lit
-says_later old new place lit gone told = subst (λ (statements : List Statement). SaysAnswer statements place lit) (sym gone.statements) told
+pub says_later : (old new : Search) (place : ℕ) (lit : Lit) → HasGone old new → SaysAnswer old.log.statements place
+    lit → SaysAnswer new.log.statements place lit
+says_later old new place lit gone told = subst (λ (statements : List Statement). SaysAnswer statements place lit)
+    (sym gone.statements) told
 
 pub proved_later : (old new : Search) (place step : ℕ) → HasGone old new → IsProved old place step → IsProved new place step
 proved_later old new place step gone is = record {
@@ -65,7 +77,8 @@ proved_later old new place step gone is = record {
       ∙ at_front (clauses_of old.log.steps) (clauses_of gone.added) step (is.lit ∷ []) is.is_unit;
 }
 
-pub answers_later : (old new : Search) (tuples : List (List Value)) → HasGone old new → old.posed.answers ≡ tuples → new.posed.answers ≡ tuples
+pub answers_later : (old new : Search) (tuples : List (List Value)) → HasGone old new → old.posed.answers ≡ tuples
+    → new.posed.answers ≡ tuples
 answers_later old new tuples gone are = ap (λ (p : Posed). p.answers) gone.posed ∙ are
 
 -- what a loop keeps that decides the tuple at a place, from one search and units on
@@ -78,34 +91,41 @@ pub record IsKept (s : Spec) (query : Query) (at : ℕ) (old new : Search) (befo
 -- ---- candidates
 
 -- over a completion that refutes the tuple at a place, it is no answer
-pub refuted_at : (s : Spec) (query : Query) (old new : Search) (tuples : List (List Value)) (place : ℕ) (c : Rankings) (tuple : List Value) → HasGone old new
+pub refuted_at : (s : Spec) (query : Query) (old new : Search) (tuples : List (List Value)) (place : ℕ)
+    (c : Rankings) (tuple : List Value) → HasGone old new
     → IsSearchFor s query old → old.posed.answers ≡ tuples → slice_get tuples place ≡ Some tuple → IsRefuted new place c
     → IsAnswerIn s.relations query tuple c → ⊥
 refuted_at s query old new tuples place c tuple gone is are at refuted answer =
     let later : IsSearchFor s query new = for_later s query old new gone is in
-    refuted.fails query tuple later.query_is (ap (λ (ts : List (List Value)). slice_get ts place) (answers_later old new tuples gone are) ∙ at)
+    refuted.fails query tuple later.query_is (ap (λ (ts : List (List Value)). slice_get ts place)
+    (answers_later old new tuples gone are) ∙ at)
     (subst (λ (x : Spec). IsAnswerIn x.relations query tuple c) (sym later.spec) answer)
 
-settled_later : (old new : Search) (before after : Standing) (place step : ℕ) → HasGone old new → StaysGone before after → IsSettled old before place step
+settled_later : (old new : Search) (before after : Standing) (place step : ℕ) → HasGone old new
+    → StaysGone before after → IsSettled old before place step
     → IsSettled new after place step
 settled_later old new before after place step gone stays (inl was) = inl (stays place was)
 settled_later old new before after place step gone stays (inr unit) = inr (proved_later old new place step gone unit)
 
 -- one candidate more is settled
-pub settled_more : (old new : Search) (before after : Standing) (count : ℕ) (steps more : List ℕ) (step : ℕ) → HasGone old new → StaysGone before after
-    → AreSettled old before count steps → IsSettled new after count step → more ≡ steps ++ step ∷ [] → AreSettled new after (count + 1) more
+pub settled_more : (old new : Search) (before after : Standing) (count : ℕ) (steps more : List ℕ) (step : ℕ)
+    → HasGone old new → StaysGone before after
+    → AreSettled old before count steps → IsSettled new after count step → more ≡ steps ++ step ∷ []
+    → AreSettled new after (count + 1) more
 settled_more old new before after count steps more step gone stays are is push = record {
   as_many = ap length push ∙ length-append steps (step ∷ []) ∙ ap (λ n. n + 1) are.as_many;
   each = λ place unit here. pick place unit (at_push steps step place unit (ap (λ us. slice_get us place) (sym push) ∙ here));
 }
   where
-    pick : (place unit : ℕ) → (slice_get steps place ≡ Some unit) ⊎ ((place ≡ length steps) × (step ≡ unit)) → IsSettled new after place unit
+    pick : (place unit : ℕ) → (slice_get steps place ≡ Some unit) ⊎ ((place ≡ length steps) × (step ≡ unit))
+        → IsSettled new after place unit
     pick place unit (inl earlier) = settled_later old new before after place unit gone stays (are.each place unit earlier)
     pick place unit (inr last) =
         subst (λ k. IsSettled new after k unit) (sym (last.0 ∙ are.as_many)) (subst (IsSettled new after count) last.1 is)
 
 -- what the loop keeps that decides each candidate
-pub record AreKept (s : Spec) (query : Query) (old new : Search) (before after : Standing) (from left : ℕ) (count : ℕ) (steps : List ℕ) : Type 0 where
+pub record AreKept (s : Spec) (query : Query) (old new : Search) (before after : Standing) (from left : ℕ)
+    (count : ℕ) (steps : List ℕ) : Type 0 where
   pub gone : HasGone old new
   pub units : counted_steps new.log.steps + left ≡ counted_steps old.log.steps + from
   pub tuples : after.tuples ≡ before.tuples

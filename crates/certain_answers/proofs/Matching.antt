@@ -19,7 +19,8 @@ abbrev pub indexed_of : Query → List (List (List Value)) → IndexedQuery
 indexed_of query instance = record { query = query; instance = instance }
 
 -- what is no answer over the instance is none over the completion
-pub none_in : InstancesAreOne → (relations : List Relation) (c : Rankings) (query : Query) (instance : List (List (List Value))) (indexed : IndexedQuery)
+pub none_in : InstancesAreOne → (relations : List Relation) (c : Rankings) (query : Query)
+    (instance : List (List (List Value))) (indexed : IndexedQuery)
     (tuple : List Value) → IsCurrentInstance relations c instance → indexed ≡ indexed_of query instance
     → (IsAnswer indexed.query indexed.instance tuple → ⊥) → IsAnswerIn relations query tuple c → ⊥
 none_in one relations c query instance indexed tuple current is never answer =
@@ -27,13 +28,15 @@ none_in one relations c query instance indexed tuple current is never answer =
     let here : IsAnswer query instance tuple = subst (λ i. IsAnswer query i tuple) same answer.is_answer in
     never (subst (λ (x : IndexedQuery). IsAnswer x.query x.instance tuple) (sym is) here)
 
-pub none_found : {P Q E : Type 0} (r : Result (Option Match) E) → (P → Q) → IfOk r (λ found. IfNone found P) → IfOk r (λ found. IfNone found Q)
+pub none_found : {P Q E : Type 0} (r : Result (Option Match) E) → (P → Q) → IfOk r (λ found. IfNone found P)
+    → IfOk r (λ found. IfNone found Q)
 none_found (Ok None) f p = f p
 none_found (Ok (Some m)) f p = tt
 none_found (Err e) f p = tt
 
 -- and what is an answer over it is one over the completion
-pub is_in : (relations : List Relation) (c : Rankings) (query : Query) (instance : List (List (List Value))) (indexed : IndexedQuery) (tuple : List Value)
+pub is_in : (relations : List Relation) (c : Rankings) (query : Query) (instance : List (List (List Value)))
+    (indexed : IndexedQuery) (tuple : List Value)
     → IsCurrentInstance relations c instance → indexed ≡ indexed_of query instance → IsAnswer indexed.query indexed.instance tuple
     → IsAnswerIn relations query tuple c
 is_in relations c query instance indexed tuple current is answer = record {
@@ -43,8 +46,10 @@ is_in relations c query instance indexed tuple current is answer = record {
 }
 
 -- the answers over a completion are answers over its instance
-pub answers_over : InstancesAreOne → (relations : List Relation) (c : Rankings) (query : Query) (instance : List (List (List Value))) (indexed : IndexedQuery)
-    (tuples : List (List Value)) → IsCurrentInstance relations c instance → indexed ≡ indexed_of query instance → AreAnswersIn relations query c tuples
+pub answers_over : InstancesAreOne → (relations : List Relation) (c : Rankings) (query : Query)
+    (instance : List (List (List Value))) (indexed : IndexedQuery)
+    (tuples : List (List Value)) → IsCurrentInstance relations c instance → indexed ≡ indexed_of query instance
+    → AreAnswersIn relations query c tuples
     → All (IsAnswer indexed.query indexed.instance) tuples
 answers_over one relations c query instance indexed tuples current is are =
     let same : are.instance ≡ instance = one relations c are.instance instance are.is_current current in
@@ -53,20 +58,25 @@ answers_over one relations c query instance indexed tuples current is are =
 
 -- one match more
 pub matches_more : (indexed : IndexedQuery) (tuples : List (List Value)) (place : ℕ) (old new : List Match) (m : Match)
-    → AreMatchesOver indexed tuples place old → IsMatchOver indexed tuples place m → new ≡ old ++ m ∷ [] → AreMatchesOver indexed tuples (place + 1) new
+    → AreMatchesOver indexed tuples place old → IsMatchOver indexed tuples place m → new ≡ old ++ m ∷ []
+    → AreMatchesOver indexed tuples (place + 1) new
 matches_more indexed tuples place old new m are is push = record {
   as_many = ap length push ∙ length-append old (m ∷ []) ∙ ap (λ n. n + 1) are.as_many;
   each = λ at found here. pick at found (at_push old m at found (ap (λ ms. slice_get ms at) (sym push) ∙ here));
 }
   where
-    pick : (at : ℕ) (found : Match) → (slice_get old at ≡ Some found) ⊎ ((at ≡ length old) × (m ≡ found)) → IsMatchOver indexed tuples at found
+    pick : (at : ℕ) (found : Match) → (slice_get old at ≡ Some found) ⊎ ((at ≡ length old) × (m ≡ found))
+        → IsMatchOver indexed tuples at found
     pick at found (inl before) = are.each at found before
     pick at found (inr last) =
-        subst (λ k. IsMatchOver indexed tuples k found) (sym (last.0 ∙ are.as_many)) (subst (IsMatchOver indexed tuples place) last.1 is)
+        subst (λ k. IsMatchOver indexed tuples k found) (sym (last.0 ∙ are.as_many))
+        (subst (IsMatchOver indexed tuples place) last.1 is)
 
 -- matches over the instance are matches over the completion
-pub matches_in : (relations : List Relation) (c : Rankings) (query : Query) (instance : List (List (List Value))) (indexed : IndexedQuery)
-    (tuples : List (List Value)) (matches : List Match) → IsCurrentInstance relations c instance → indexed ≡ indexed_of query instance
+pub matches_in : (relations : List Relation) (c : Rankings) (query : Query) (instance : List (List (List Value)))
+    (indexed : IndexedQuery)
+    (tuples : List (List Value)) (matches : List Match) → IsCurrentInstance relations c instance
+    → indexed ≡ indexed_of query instance
     → AreMatchesOver indexed tuples (length tuples) matches → AreMatches relations query c tuples matches
 matches_in relations c query instance indexed tuples matches current is are = record {
   as_many = are.as_many;
@@ -77,6 +87,7 @@ matches_in relations c query instance indexed tuples matches current is are = re
   };
 }
 
-pub matches_found : {P Q : List Match → Type 0} {E : Type 0} (r : Result (List Match) E) → ((ms : List Match) → P ms → Q ms) → IfOk r P → IfOk r Q
+pub matches_found : {P Q : List Match → Type 0} {E : Type 0} (r : Result (List Match) E) →
+    ((ms : List Match) → P ms → Q ms) → IfOk r P → IfOk r Q
 matches_found (Ok ms) f p = f ms p
 matches_found (Err e) f p = tt

@@ -28,15 +28,18 @@ use Rattle.certain_answers.proofs.Going.{answers_later, for_later}
 itself : (n : ℕ) → (n == n) ≡ true
 itself n = eq-eqb n n refl
 
-atom_wanted : (atoms : List Atom) (k : ℕ) (atom : Atom) → slice_get atoms k ≡ Some atom → is_wanted (map (λ (a : Atom). a.relation) atoms) atom.relation.0 ≡ true
+atom_wanted : (atoms : List Atom) (k : ℕ) (atom : Atom) → slice_get atoms k ≡ Some atom
+    → is_wanted (map (λ (a : Atom). a.relation) atoms) atom.relation.0 ≡ true
 atom_wanted [] k atom at = let no : ⊥ = cc in absurd no
 atom_wanted (a ∷ atoms) zero atom at =
     or_left (a.relation.0 == atom.relation.0) (is_wanted (map (λ (x : Atom). x.relation) atoms) atom.relation.0)
     (subst (λ (x : Atom). (x.relation.0 == atom.relation.0) ≡ true) (sym (same_Some a atom at)) (itself atom.relation.0))
 atom_wanted (a ∷ atoms) (suc k) atom at =
-    or_right (a.relation.0 == atom.relation.0) (is_wanted (map (λ (x : Atom). x.relation) atoms) atom.relation.0) (atom_wanted atoms k atom at)
+    or_right (a.relation.0 == atom.relation.0) (is_wanted (map (λ (x : Atom). x.relation) atoms) atom.relation.0)
+    (atom_wanted atoms k atom at)
 
-disjunct_wanted : (ds : List Disjunct) (k : ℕ) (d : Disjunct) (rel : ℕ) → slice_get ds k ≡ Some d → is_wanted (relations_in d) rel ≡ true
+disjunct_wanted : (ds : List Disjunct) (k : ℕ) (d : Disjunct) (rel : ℕ) → slice_get ds k ≡ Some d
+    → is_wanted (relations_in d) rel ≡ true
     → is_wanted (flat_map relations_in ds) rel ≡ true
 disjunct_wanted [] k d rel at is = let no : ⊥ = cc in absurd no
 disjunct_wanted (x ∷ ds) zero d rel at is =
@@ -54,8 +57,10 @@ of_wanted query m d at k a below =
 
 -- ---- matches at places
 
-pub match_at : (s : Spec) (query : Query) (search : Search) (c : Rankings) (m : Match) (place : ℕ) (tuple : List Value) → IsSearchFor s query search
-    → IsCompletion s.relations c → slice_get search.posed.answers place ≡ Some tuple → IsMatchIn s.relations c query tuple m → IsMatchAt search c m place
+pub match_at : (s : Spec) (query : Query) (search : Search) (c : Rankings) (m : Match) (place : ℕ)
+    (tuple : List Value) → IsSearchFor s query search
+    → IsCompletion s.relations c → slice_get search.posed.answers place ≡ Some tuple → IsMatchIn s.relations c query
+    tuple m → IsMatchAt search c m place
 match_at s query search c m place tuple is completion at found = record {
   query = query;
   is_query = is.query_is;
@@ -67,8 +72,10 @@ match_at s query search c m place tuple is completion at found = record {
 }
 
 -- the match at a place, where the search has gone on since
-pub match_of : (s : Spec) (query : Query) (old search : Search) (c : Rankings) (matches : List Match) (place : ℕ) (m : Match) → HasGone old search
-    → IsSearchFor s query old → IsCompletion s.relations c → AreMatches s.relations query c old.posed.answers matches → slice_get matches place ≡ Some m
+pub match_of : (s : Spec) (query : Query) (old search : Search) (c : Rankings) (matches : List Match) (place : ℕ)
+    (m : Match) → HasGone old search
+    → IsSearchFor s query old → IsCompletion s.relations c → AreMatches s.relations query c old.posed.answers matches
+    → slice_get matches place ≡ Some m
     → IsMatchAt search c m place
 match_of s query old search c matches place m gone is completion are at =
     let below : place < length old.posed.answers = let b = slice_get_within matches place m at in omega (arith, b, are.as_many) in
@@ -78,9 +85,12 @@ match_of s query old search c matches place m gone is completion are at =
     (are.each place tuple.0 m tuple.1 at)
 
 -- a match over an instance that is the current one of a completion, of the answer that stands at a place of the log
-pub match_over_at : (s : Spec) (query : Query) (search : Search) (c : Rankings) (indexed : IndexedQuery) (place : ℕ) (tuple : List Value) (o : Option Match)
-    (m : Match) → IsSearchFor s query search → IsCompletion s.relations c → IsOver s.relations query c indexed → IsSearch search → (log : Log)
-    → log ≡ search.log → slice_get log.answers place ≡ Some tuple → o ≡ Some m → IfSome o (IsMatch indexed.query indexed.instance tuple)
+pub match_over_at : (s : Spec) (query : Query) (search : Search) (c : Rankings) (indexed : IndexedQuery) (place : ℕ)
+    (tuple : List Value) (o : Option Match)
+    (m : Match) → IsSearchFor s query search → IsCompletion s.relations c → IsOver s.relations query c indexed
+    → IsSearch search → (log : Log)
+    → log ≡ search.log → slice_get log.answers place ≡ Some tuple → o ≡ Some m
+    → IfSome o (IsMatch indexed.query indexed.instance tuple)
     → IsMatchAt search c m place
 match_over_at s query search c indexed place tuple o m is completion over held log log_is at found some =
     match_at s query search c m place tuple is completion

@@ -47,7 +47,8 @@ pub record IsSearchFor (s : Spec) (query : Query) (search : Search) : Type 0 whe
 -- the tuple at a place of the posed answers is no answer over a consistent completion
 pub record IsRefuted (search : Search) (place : ℕ) (c : Rankings) : Type 0 where
   pub consistent : IsConsistent search.spec c
-  pub fails : (query : Query) (tuple : List Value) → search.posed.query ≡ Some query → slice_get search.posed.answers place ≡ Some tuple
+  pub fails : (query : Query) (tuple : List Value) → search.posed.query ≡ Some query → slice_get search.posed.answers
+      place ≡ Some tuple
       → IsAnswerIn search.spec.relations query tuple c → ⊥
 
 -- a step of the log is the unit of a literal that says that it is an answer
@@ -56,8 +57,8 @@ pub record IsProved (search : Search) (place step : ℕ) : Type 0 where
   pub says : SaysAnswer search.log.statements place lit
   pub is_unit : slice_get (clauses_of search.log.steps) step ≡ Some (lit ∷ [])
 
--- what deciding a candidate tells, with so many units left: a consistent completion over which it is no answer; the step that is its
--- unit; the step that is the empty clause; or that no unit is left, and the log is open
+-- what deciding a candidate tells, with so many units left: a consistent completion over which it is no answer; the
+-- step that is its unit; the step that is the empty clause; or that no unit is left, and the log is open
 abbrev pub TellsAnswer : Search → ℕ → ℕ → Outcome → Type 0
 TellsAnswer search place left (Model truths c) = IsRefuted search place c
 TellsAnswer search place left (Proved step) = IsProved search place step
@@ -109,14 +110,16 @@ TellsStep search standing place left (step.Ended outcome) = IsEnd search left ou
 -- ---- matches
 
 -- one match of each tuple over the current instance of a completion
-pub record AreMatches (relations : List Relation) (query : Query) (c : Rankings) (tuples : List (List Value)) (matches : List Match) : Type 0 where
+pub record AreMatches (relations : List Relation) (query : Query) (c : Rankings) (tuples : List (List Value))
+    (matches : List Match) : Type 0 where
   pub as_many : length matches ≡ length tuples
   pub each : (place : ℕ) (tuple : List Value) (m : Match) → slice_get tuples place ≡ Some tuple → slice_get matches place ≡ Some m
       → IsMatchIn relations c query tuple m
 
 -- a match of the tuple at a place over an instance that is indexed
 abbrev pub IsMatchOver : IndexedQuery → List (List Value) → ℕ → Match → Type 0
-IsMatchOver indexed tuples place m = (tuple : List Value) → slice_get tuples place ≡ Some tuple → IsMatch indexed.query indexed.instance tuple m
+IsMatchOver indexed tuples place m = (tuple : List Value) → slice_get tuples place ≡ Some tuple
+    → IsMatch indexed.query indexed.instance tuple m
 
 -- one of each of so many first tuples
 pub record AreMatchesOver (indexed : IndexedQuery) (tuples : List (List Value)) (count : ℕ) (matches : List Match) : Type 0 where

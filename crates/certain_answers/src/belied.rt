@@ -22,9 +22,9 @@ use std::alloc::Global;
 use ucq_answers::IndexedInstance;
 
 /// Brings in the axiom of a match of each candidate, other than the one at a place, that a model belies: it makes the
-/// candidate's statement false, though the candidate is an answer over the model's completion. No unit is taken. So one model
-/// serves all candidates that need a match of it. Then the guides aim at the candidates from that place on, so that the next model
-/// belies or refutes as many.
+/// candidate's statement false, though the candidate is an answer over the model's completion. No unit is taken. So one
+/// model serves all candidates that need a match of it. Then the guides aim at the candidates from that place on, so
+/// that the next model belies or refutes as many.
 pub(crate) fn bring_belied(
     alloc: Global,
     spec: &Specification,

@@ -22,10 +22,10 @@ use std::alloc::Global;
 use ucq_answers::IndexedInstance;
 use watch_solver::Budget;
 
-/// Decides whether the tuple at a place of the posed answers is an answer in every consistent completion. Where a model makes
-/// its statement false though it is an answer there, the axiom of a match of it is brought in, which takes a unit; so a model
-/// that is answered is one over which it is no answer. Those of other candidates that the model belies come in beside it. More than 4,294,967,294 values or entities of a match count as want of
-/// memory.
+/// Decides whether the tuple at a place of the posed answers is an answer in every consistent completion. Where a model
+/// makes its statement false though it is an answer there, the axiom of a match of it is brought in, which takes a
+/// unit; so a model that is answered is one over which it is no answer. Those of other candidates that the model belies
+/// come in beside it. More than 4,294,967,294 values or entities of a match count as want of memory.
 pub fn decide_answer(
     alloc: Global,
     spec: &Specification,

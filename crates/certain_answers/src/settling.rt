@@ -240,7 +240,8 @@ pub fn note(
     ensures candidates { OnOk result (AreCandidates spec.now query.now candidates.new) }
     ensures stays { OnOk result (StaysGone candidates.old candidates.new) }
     ensures refuted { (place : ℕ) (tuple : List Value) → slice_get candidates.old.tuples place ≡ Some tuple
-        → (IsAnswerIn spec.now.relations query.now tuple completion → ⊥) → OnOk result (slice_get candidates.new.gone place ≡ Some true) }
+        → (IsAnswerIn spec.now.relations query.now tuple completion → ⊥) → OnOk result
+        (slice_get candidates.new.gone place ≡ Some true) }
 {
     let instance = match current(alloc, spec, &completion) {
         Ok(instance) => instance,

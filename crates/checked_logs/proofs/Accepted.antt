@@ -22,17 +22,26 @@ use Rattle.log_checker.specs.Accepted.{AreAccepted, IsAcceptedStep}
 use Rattle.answer_laws.proofs.Instances.{some_instance}
 use Rattle.checked_logs.specs.Sound.{AcceptedAreTrue, AcceptedAreTrueOver, EmptyMeansNone}
 
-module _ (answers : ℕ → Type 0) (are : AreDecided answers) (s : Spec) (facts : IsSpecification s) (c : Rankings) (consistent : IsConsistent s c)
+module _ (answers : ℕ → Type 0) (are : AreDecided answers) (s : Spec) (facts : IsSpecification s) (c : Rankings)
+    (consistent : IsConsistent s c)
     (posed : Posed) (over : AreAnswersOver s.relations posed c answers) (statements : List Statement) where
   abbrev Holds : Lit → Type 0
   Holds lit = LitHolds s.relations c answers statements lit
 
   is_truth : IsTruth Holds
-  is_truth = record { decided = decided answers are s.relations c statements; consistent = negated answers s.relations c statements }
+  is_truth = record {
+    decided = decided answers are s.relations c statements;
+    consistent = negated answers
+        s.relations c statements;
+  }
 
   axiom_is_true : (l : Label) (lits : List Lit) → is_axiom s posed statements l lits ≡ true → IsTrueBy Holds lits
   axiom_is_true l lits e =
-      let holds = axiom_true answers s facts c consistent posed over statements l lits e in (holds.lit, holds.is_in, holds.is_true)
+      let holds = axiom_true answers s facts c consistent posed over statements l lits e in (
+        holds.lit,
+        holds.is_in,
+        holds.is_true,
+      )
 
   step_is_grounded : (earlier : List (List Lit)) (step : Step) → IsAcceptedStep s posed statements earlier step
       → IsGrounded Holds earlier step

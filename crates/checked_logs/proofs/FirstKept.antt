@@ -26,7 +26,8 @@ use Rattle.checked_logs.proofs.PlainClauses.{IsPlain, plain_label, plain_map}
 -- ---- the first place of a tuple
 
 -- among the answers that are kept it is the rank of the first place among all, if this is kept
-first_kept : (keep : ℕ → Bool) (xs : List (List Value)) (tuple : List Value) (place : ℕ) → first_place xs tuple ≡ Some place → keep place ≡ true
+first_kept : (keep : ℕ → Bool) (xs : List (List Value)) (tuple : List Value) (place : ℕ) → first_place xs tuple ≡
+    Some place → keep place ≡ true
     → first_place (kept_of keep xs) tuple ≡ Some (rank keep place)
 first_kept keep [] tuple place e kept = absurd (none-some place e)
 first_kept keep (x ∷ xs) tuple place e kept = by (is_tuple x tuple) refl e (λ k. first_kept (λ n. keep (suc n)) xs tuple k)
@@ -43,13 +44,15 @@ first_kept keep (x ∷ xs) tuple place e kept = by (is_tuple x tuple) refl e (λ
     behind true first other k rest = rw (first, other) (ap (option_map suc) rest)
     behind false first other k rest = rw first rest
 
-    later : is_tuple x tuple ≡ false → (o : Option ℕ) → first_place xs tuple ≡ o → option_map suc o ≡ Some place → Rest → Goal place
+    later : is_tuple x tuple ≡ false → (o : Option ℕ) → first_place xs tuple ≡ o → option_map suc o ≡ Some place
+        → Rest → Goal place
     later other None is e on = absurd (none-some place e)
     later other (Some k) is e on =
         let at : suc k ≡ place = same_Some (suc k) place e in
         subst Goal at (behind (keep 0) refl other k (on k is (ap keep at ∙ kept)))
 
-    by : (t : Bool) → is_tuple x tuple ≡ t → cond t (Some 0) (option_map suc (first_place xs tuple)) ≡ Some place → Rest → Goal place
+    by : (t : Bool) → is_tuple x tuple ≡ t → cond t (Some 0) (option_map suc (first_place xs tuple)) ≡ Some place
+        → Rest → Goal place
     by true is e on =
         let at : 0 ≡ place = same_Some 0 place e in
         let first : keep 0 ≡ true = ap keep at ∙ kept in
@@ -58,7 +61,8 @@ first_kept keep (x ∷ xs) tuple place e kept = by (is_tuple x tuple) refl e (λ
     by false is e on = later is (first_place xs tuple) refl e on
 
 place_kept : (keep : ℕ → Bool) (answers : List (List Value)) (values : List Value) (head : List ℕ) (place : ℕ)
-    → answer_place answers values head ≡ Some place → keep place ≡ true → answer_place (kept_of keep answers) values head ≡ Some (rank keep place)
+    → answer_place answers values head ≡ Some place → keep place ≡ true → answer_place (kept_of keep answers) values
+    head ≡ Some (rank keep place)
 place_kept keep answers values head place e kept = by (tuple_from values (Some []) head) refl e
   where
     by : (o : Option (List Value)) → tuple_from values (Some []) head ≡ o → answer_place answers values head ≡ Some place
@@ -81,7 +85,8 @@ KeepsNames keep s = by s.statement
 plain_keeps : (keep : ℕ → Bool) (s : Signed) → IsPlain s → KeepsNames keep s
 plain_keeps keep s plain = by s.statement s.negative plain
   where
-    by : (a : Statement) (n : Bool) → IsPlain (record { statement = a; negative = n }) → KeepsNames keep (record { statement = a; negative = n })
+    by : (a : Statement) (n : Bool) → IsPlain (record { statement = a; negative = n }) → KeepsNames keep
+        (record { statement = a; negative = n })
     by (Before rel attr earlier later) n plain = tt
     by (Top rel attr row) n plain = tt
     by (Last rel attr row) n plain = tt
@@ -100,22 +105,30 @@ plain_same keep s plain = by s.statement s.negative plain
 all_keep : (keep : ℕ → Bool) (clause : List Signed) → All IsPlain clause → All (KeepsNames keep) clause
 all_keep keep [] plain = All-nil (KeepsNames keep)
 all_keep keep (s ∷ clause) plain =
-    All-cons (KeepsNames keep) s clause (plain_keeps keep s (All-head IsPlain s clause plain)) (all_keep keep clause (All-tail IsPlain s clause plain))
+    All-cons (KeepsNames keep) s clause (plain_keeps keep s (All-head IsPlain s clause plain))
+    (all_keep keep clause (All-tail IsPlain s clause plain))
 
 all_same : (keep : ℕ → Bool) (clause : List Signed) → All IsPlain clause → map (renumbered_signed keep) clause ≡ clause
 all_same keep [] plain = refl
 all_same keep (s ∷ clause) plain =
-    ap₂ (λ x xs. x ∷ xs) (plain_same keep s (All-head IsPlain s clause plain)) (all_same keep clause (All-tail IsPlain s clause plain))
+    ap₂ (λ x xs. x ∷ xs) (plain_same keep s (All-head IsPlain s clause plain))
+    (all_same keep clause (All-tail IsPlain s clause plain))
 
 -- of a clause the answers that are named are kept, and these are the new clause, but for their places
 pub record StandsStill (keep : ℕ → Bool) (clause : List Signed) (new : Option (List Signed)) : Type 0 where
   pub kept : All (KeepsNames keep) clause
   pub same : new ≡ Some (map (renumbered_signed keep) clause)
 
-of_plain : (keep : ℕ → Bool) (clause : List Signed) (new : Option (List Signed)) → All IsPlain clause → new ≡ Some clause → StandsStill keep clause new
-of_plain keep clause new plain e = record { kept = all_keep keep clause plain; same = e ∙ ap Some (sym (all_same keep clause plain)) }
+of_plain : (keep : ℕ → Bool) (clause : List Signed) (new : Option (List Signed)) → All IsPlain clause
+    → new ≡ Some clause → StandsStill keep clause new
+of_plain keep clause new plain e = record {
+  kept = all_keep keep clause plain;
+  same = e
+      ∙ ap Some (sym (all_same keep clause plain));
+}
 
-module _ (keep : ℕ → Bool) (relations : List Relation) (answers : List (List Value)) (entities : List EntId) (values : List Value) (clause : List Signed)
+module _ (keep : ℕ → Bool) (relations : List Relation) (answers : List (List Value)) (entities : List EntId)
+    (values : List Value) (clause : List Signed)
     (named : (k : ℕ) → Contains clause (answer k) → keep k ≡ true) where
   match_still : (d : Disjunct) → match_clause relations answers entities values d ≡ Some clause
       → StandsStill keep clause (match_clause relations (kept_of keep answers) entities values d)
@@ -127,14 +140,18 @@ module _ (keep : ℕ → Bool) (relations : List Relation) (answers : List (List
       let place = parts.0 in
       let premises = parts.1 in
       let kept : keep place ≡ true =
-      named place (subst (λ (xs : List Signed). Contains xs (answer place)) parts.4 (first_in (answer place) (map (λ p. not_last p.rel p.attr p.row) premises))) in
+      named place (subst (λ (xs : List Signed). Contains xs (answer place)) parts.4
+      (first_in (answer place) (map (λ p. not_last p.rel p.attr p.row) premises))) in
       let plain = plain_map (λ (p : Premise). not_last p.rel p.attr p.row) (λ p. tt) premises in
-      let front : match_clause relations (kept_of keep answers) entities values d ≡ claimed_clause (answer_place (kept_of keep answers) values d.head) claims =
+      let front : match_clause relations (kept_of keep answers) entities values d ≡ claimed_clause
+      (answer_place (kept_of keep answers) values d.head) claims =
       ap (λ (b : Bool). cond b (claimed_clause (answer_place (kept_of keep answers) values d.head) claims) None) chosen.0 in
-      let new : claimed_clause (answer_place (kept_of keep answers) values d.head) claims ≡ Some (claimed (rank keep place) premises) =
+      let new : claimed_clause (answer_place (kept_of keep answers) values d.head) claims ≡ Some
+      (claimed (rank keep place) premises) =
       ap₂ claimed_clause (place_kept keep answers values d.head place parts.2 kept) parts.3 in
       let same : map (renumbered_signed keep) (claimed place premises) ≡ claimed (rank keep place) premises =
-      ap (λ (xs : List Signed). answer (rank keep place) ∷ xs) (all_same keep (map (λ p. not_last p.rel p.attr p.row) premises) plain) in
+      ap (λ (xs : List Signed). answer (rank keep place) ∷ xs)
+      (all_same keep (map (λ p. not_last p.rel p.attr p.row) premises) plain) in
       subst (λ (xs : List Signed). StandsStill keep xs (match_clause relations (kept_of keep answers) entities values d)) parts.4
       (record {
         kept = All-cons (KeepsNames keep) (answer place) (map (λ p. not_last p.rel p.attr p.row) premises) kept
@@ -153,22 +170,27 @@ module _ (keep : ℕ → Bool) (relations : List Relation) (answers : List (List
   query_still disjunct (Some q) e = disjunct_still (slice_get q.disjuncts disjunct) e
 
 -- where the answers that the clause of a label names are kept, it stands still
-pub label_still : (keep : ℕ → Bool) (s : Spec) (query : Option Query) (answers : List (List Value)) (l : Label) (clause : List Signed)
-    → axiom_of s (record { query = query; answers = answers }) l ≡ Some clause → ((k : ℕ) → Contains clause (answer k) → keep k ≡ true)
+pub label_still : (keep : ℕ → Bool) (s : Spec) (query : Option Query) (answers : List (List Value)) (l : Label)
+    (clause : List Signed)
+    → axiom_of s (record { query = query; answers = answers }) l ≡ Some clause →
+    ((k : ℕ) → Contains clause (answer k) → keep k ≡ true)
     → StandsStill keep clause (axiom_of s (record { query = query; answers = kept_of keep answers }) l)
 label_still keep s query answers (label.Match disjunct entities values) clause e named =
     query_still keep s.relations answers entities values clause named disjunct query e
 label_still keep s query answers (label.Given rel attr earlier later) clause e named =
-    of_plain keep clause (axiom_of s (record { query = query; answers = kept_of keep answers }) (label.Given rel attr earlier later))
+    of_plain keep clause (axiom_of s (record { query = query; answers = kept_of keep answers })
+    (label.Given rel attr earlier later))
     (plain_label s (record { query = query; answers = answers }) (label.Given rel attr earlier later) clause tt e) e
 label_still keep s query answers (label.Transitive rel attr first second third) clause e named =
-    of_plain keep clause (axiom_of s (record { query = query; answers = kept_of keep answers }) (label.Transitive rel attr first second third))
+    of_plain keep clause (axiom_of s (record { query = query; answers = kept_of keep answers })
+    (label.Transitive rel attr first second third))
     (plain_label s (record { query = query; answers = answers }) (label.Transitive rel attr first second third) clause tt e) e
 label_still keep s query answers (label.Rule rule rows) clause e named =
     of_plain keep clause (axiom_of s (record { query = query; answers = kept_of keep answers }) (label.Rule rule rows))
     (plain_label s (record { query = query; answers = answers }) (label.Rule rule rows) clause tt e) e
 label_still keep s query answers (label.Copy copy place first second) clause e named =
-    of_plain keep clause (axiom_of s (record { query = query; answers = kept_of keep answers }) (label.Copy copy place first second))
+    of_plain keep clause (axiom_of s (record { query = query; answers = kept_of keep answers })
+    (label.Copy copy place first second))
     (plain_label s (record { query = query; answers = answers }) (label.Copy copy place first second) clause tt e) e
 label_still keep s query answers (label.Above rel attr row other) clause e named =
     of_plain keep clause (axiom_of s (record { query = query; answers = kept_of keep answers }) (label.Above rel attr row other))

@@ -56,7 +56,8 @@ plain_transitive rel attr first second third r clause e =
     let rest = not_before rel attr second third ∷ before rel attr first third ∷ [] in
     plain_if (is_attr r attr && are_two r.rows first second && are_two r.rows second third && are_two r.rows first third)
     (not_before rel attr first second ∷ rest) clause
-    (All-cons IsPlain (not_before rel attr first second) rest tt (two (not_before rel attr second third) (before rel attr first third) tt tt)) e
+    (All-cons IsPlain (not_before rel attr first second) rest tt
+    (two (not_before rel attr second third) (before rel attr first third) tt tt)) e
 
 plain_above : (rel : RelId) (attr : AttrId) (row other : RowId) (r : Relation) (clause : List Signed)
     → above_clause rel attr row other r ≡ Some clause → All IsPlain clause
@@ -82,7 +83,8 @@ plain_top rel attr row r clause e = by (entity_of r.rows row.0) refl e
         let rest = map (λ x. not_before rel attr x row) (others r.rows ent row) in
         let here : cond (is_attr r attr) (Some (top rel attr row ∷ rest)) None ≡ Some clause = rw of at e in
         plain_if (is_attr r attr) (top rel attr row ∷ rest) clause
-        (All-cons IsPlain (top rel attr row) rest tt (plain_map (λ x. not_before rel attr x row) (λ x. tt) (others r.rows ent row))) here
+        (All-cons IsPlain (top rel attr row) rest tt (plain_map (λ x. not_before rel attr x row) (λ x. tt)
+        (others r.rows ent row))) here
 
 plain_value : (rel : RelId) (attr : AttrId) (row : RowId) (r : Relation) (clause : List Signed)
     → value_clause rel attr row r ≡ Some clause → All IsPlain clause
@@ -102,7 +104,8 @@ plain_concluded : (rel : RelId) (o : Option Pair) → All IsPlain (concluded_cla
 plain_concluded rel None = All-nil IsPlain
 plain_concluded rel (Some p) = one (before rel p.attr p.earlier p.later) tt
 
-plain_instance : (rel : RelId) (o : Option RuleInstance) (clause : List Signed) → instance_clause rel o ≡ Some clause → All IsPlain clause
+plain_instance : (rel : RelId) (o : Option RuleInstance) (clause : List Signed) → instance_clause rel o ≡ Some clause
+    → All IsPlain clause
 plain_instance rel None clause e = absurd (none-some clause e)
 plain_instance rel (Some i) clause e =
     let premises = map (λ p. not_before rel p.attr p.earlier p.later) i.premises in
@@ -110,7 +113,8 @@ plain_instance rel (Some i) clause e =
     (All-append IsPlain premises (concluded_clause rel i.conclusion)
     (plain_map (λ (p : Pair). not_before rel p.attr p.earlier p.later) (λ p. tt) i.premises) (plain_concluded rel i.conclusion)) e
 
-plain_rule : (rule : Rule) (rows : List RowId) (r : Relation) (clause : List Signed) → rule_clause rule rows r ≡ Some clause → All IsPlain clause
+plain_rule : (rule : Rule) (rows : List RowId) (r : Relation) (clause : List Signed) → rule_clause rule rows r ≡ Some
+    clause → All IsPlain clause
 plain_rule rule rows r clause e =
     let fit = (length rows == rule.vars) && of_one_entity r.rows rows in
     let chosen = given_if fit (instance_clause rule.relation (instance_of rule r.rows rows)) clause e in
@@ -128,7 +132,8 @@ plain_copy : (copy : CopyFunction) (place : ℕ) (first second : RowId) (target 
     → copy_clause copy place first second target source ≡ Some clause → All IsPlain clause
 plain_copy copy place first second target source clause e = by (source_at copy first) (source_at copy second) refl refl e
   where
-    by : (x y : Option RowId) → source_at copy first ≡ x → source_at copy second ≡ y → copy_clause copy place first second target source ≡ Some clause
+    by : (x y : Option RowId) → source_at copy first ≡ x → source_at copy second ≡ y → copy_clause copy place first
+        second target source ≡ Some clause
         → All IsPlain clause
     by None y f g e = let none : None ≡ Some clause = rw f at e in absurd (none-some clause none)
     by (Some s) None f g e = let none : None ≡ Some clause = rw (f, g) at e in absurd (none-some clause none)
@@ -149,7 +154,8 @@ of_relation : (relations : List Relation) (rel : RelId) (f : Relation → Option
     → ((r : Relation) → f r ≡ Some clause → All IsPlain clause) → in_relation relations rel f ≡ Some clause → All IsPlain clause
 of_relation relations rel f clause plain e = let r = in_relation_is relations rel f clause e in plain r.0 r.2
 
-plain_rules : (s : Spec) (rows : List RowId) (o : Option Rule) (clause : List Signed) → of_rule s rows o ≡ Some clause → All IsPlain clause
+plain_rules : (s : Spec) (rows : List RowId) (o : Option Rule) (clause : List Signed) → of_rule s rows o ≡ Some
+    clause → All IsPlain clause
 plain_rules s rows None clause e = absurd (none-some clause e)
 plain_rules s rows (Some rule) clause e =
     of_relation s.relations rule.relation (rule_clause rule rows) clause (λ r. plain_rule rule rows r clause) e
@@ -158,17 +164,21 @@ plain_copies : (s : Spec) (place : ℕ) (first second : RowId) (o : Option CopyF
     → of_copy s place first second o ≡ Some clause → All IsPlain clause
 plain_copies s place first second None clause e = absurd (none-some clause e)
 plain_copies s place first second (Some copy) clause e =
-    of_relation s.relations copy.target (λ target. in_relation s.relations copy.source (copy_clause copy place first second target)) clause
+    of_relation s.relations copy.target (λ target. in_relation s.relations copy.source
+    (copy_clause copy place first second target)) clause
     (λ target. of_relation s.relations copy.source (copy_clause copy place first second target) clause
     (λ source. plain_copy copy place first second target source clause)) e
 
-pub plain_label : (s : Spec) (posed : Posed) (l : Label) (clause : List Signed) → IsNoMatch l → axiom_of s posed l ≡ Some clause → All IsPlain clause
+pub plain_label : (s : Spec) (posed : Posed) (l : Label) (clause : List Signed) → IsNoMatch l → axiom_of s posed l ≡
+    Some clause → All IsPlain clause
 plain_label s posed (label.Given rel attr earlier later) clause is e =
     of_relation s.relations rel (given_clause rel attr earlier later) clause (λ r. plain_given rel attr earlier later r clause) e
 plain_label s posed (label.Transitive rel attr first second third) clause is e =
-    of_relation s.relations rel (transitive_clause rel attr first second third) clause (λ r. plain_transitive rel attr first second third r clause) e
+    of_relation s.relations rel (transitive_clause rel attr first second third) clause
+    (λ r. plain_transitive rel attr first second third r clause) e
 plain_label s posed (label.Rule rule rows) clause is e = plain_rules s rows (slice_get s.rules rule.0) clause e
-plain_label s posed (label.Copy copy place first second) clause is e = plain_copies s place first second (slice_get s.copies copy.0) clause e
+plain_label s posed (label.Copy copy place first second) clause is e = plain_copies s place first second
+    (slice_get s.copies copy.0) clause e
 plain_label s posed (label.Above rel attr row other) clause is e =
     of_relation s.relations rel (above_clause rel attr row other) clause (λ r. plain_above rel attr row other r clause) e
 plain_label s posed (label.Top rel attr row) clause is e =

@@ -108,7 +108,8 @@ says_still : (keep : ℕ → Bool) (relations : List Relation) (m s : Signed) �
 says_still keep relations m s kept kept' = by m.statement s.statement m.negative s.negative kept kept'
   where
     by : (a b : Statement) (p q : Bool) → KeepsNames keep (says a p) → KeepsNames keep (says b q)
-        → says_same relations (renumbered_signed keep (says a p)) (renumbered_signed keep (says b q)) ≡ says_same relations (says a p) (says b q)
+        → says_same relations (renumbered_signed keep (says a p)) (renumbered_signed keep (says b q)) ≡ says_same
+        relations (says a p) (says b q)
     by (Answer a) (Answer b) p q kept kept' = ap (λ (t : Bool). t && same_sign p q) (same_rank keep a b kept kept')
     by (Answer a) (Before rel attr x y) p q kept kept' = refl
     by (Answer a) (Top rel attr x) p q kept kept' = refl
@@ -126,19 +127,23 @@ says_still keep relations m s kept kept' = by m.statement s.statement m.negative
     by (Last rel attr x) (Last rel' attr' x') p q kept kept' = refl
     by (Last rel attr x) (Answer b) p q kept kept' = refl
 
-said_still : (keep : ℕ → Bool) (relations : List Relation) (s : Signed) (o : Option Signed) → ((m : Signed) → o ≡ Some m → KeepsNames keep m)
-    → KeepsNames keep s → is_said relations (renumbered_signed keep s) (option_map (renumbered_signed keep) o) ≡ is_said relations s o
+said_still : (keep : ℕ → Bool) (relations : List Relation) (s : Signed) (o : Option Signed) →
+    ((m : Signed) → o ≡ Some m → KeepsNames keep m)
+    → KeepsNames keep s → is_said relations (renumbered_signed keep s) (option_map (renumbered_signed keep) o) ≡
+    is_said relations s o
 said_still keep relations s None kept kept' = refl
 said_still keep relations s (Some m) kept kept' = says_still keep relations m s (kept m refl) kept'
 
 -- ---- clauses
 
 -- each of the literals says of each of the clause the same before and after
-abbrev SayTheSame : List Relation → List Statement → List Statement → (Lit → Lit) → (Signed → Signed) → List Lit → List Signed → Type 0
+abbrev SayTheSame : List Relation → List Statement → List Statement → (Lit → Lit) → (Signed → Signed) → List Lit
+    → List Signed → Type 0
 SayTheSame relations before after new put lits clause =
     All (λ lit. All (λ s. lit_says relations after (put s) (new lit) ≡ lit_says relations before s lit) clause) lits
 
-clause_keeps : (relations : List Relation) (before after : List Statement) (new : Lit → Lit) (put : Signed → Signed) (lits : List Lit)
+clause_keeps : (relations : List Relation) (before after : List Statement) (new : Lit → Lit) (put : Signed → Signed)
+    (lits : List Lit)
     (clause : List Signed) → SayTheSame relations before after new put lits clause
     → is_clause relations after (map new lits) (map put clause) ≡ is_clause relations before lits clause
 clause_keeps relations before after new put lits clause same =
@@ -147,13 +152,16 @@ clause_keeps relations before after new put lits clause same =
     list_all-map (λ lit. list_any (λ s. lit_says relations after s lit) (map put clause)) new lits
     ∙ same_all (λ lit. list_any (λ s. lit_says relations after s (new lit)) (map put clause))
     (λ lit. list_any (λ s. lit_says relations before s lit) clause) lits
-    (λ k d below. same_any (λ s. lit_says relations after s (new (get_or lits k d))) (λ s. lit_says relations before s (get_or lits k d)) put clause
+    (λ k d below. same_any (λ s. lit_says relations after s (new (get_or lits k d)))
+    (λ s. lit_says relations before s (get_or lits k d)) put clause
     (same k d below)) in
     let each_sign : list_all (λ s. list_any (lit_says relations after s) (map new lits)) (map put clause)
     ≡ list_all (λ s. list_any (lit_says relations before s) lits) clause =
     list_all-map (λ s. list_any (lit_says relations after s) (map new lits)) put clause
-    ∙ same_all (λ s. list_any (lit_says relations after (put s)) (map new lits)) (λ s. list_any (lit_says relations before s) lits) clause
-    (λ k d below. same_any (lit_says relations after (put (get_or clause k d))) (lit_says relations before (get_or clause k d)) new lits
+    ∙ same_all (λ s. list_any (lit_says relations after (put s)) (map new lits))
+    (λ s. list_any (lit_says relations before s) lits) clause
+    (λ k d below. same_any (lit_says relations after (put (get_or clause k d)))
+    (lit_says relations before (get_or clause k d)) new lits
     (λ place one within. same place one within k d below)) in
     rw (each_lit, each_sign) refl
 
@@ -169,7 +177,8 @@ says_answer relations m k e = by m.statement m.negative e
     by (Last rel attr x) n e = absurd (false≢true e)
     by (Answer j) n e = ap Answer (eqb-true j k (and_parts (j == k) (same_sign n false) e).0)
 
-lit_names : (relations : List Relation) (statements : List Statement) (lit : Lit) (k : ℕ) → lit_says relations statements (answer k) lit ≡ true
+lit_names : (relations : List Relation) (statements : List Statement) (lit : Lit) (k : ℕ) → lit_says relations
+    statements (answer k) lit ≡ true
     → slice_get statements (var_of lit) ≡ Some (Answer k)
 lit_names relations statements lit k e = by (slice_get statements (var_of lit)) refl e
   where
@@ -181,13 +190,16 @@ lit_names relations statements lit k e = by (slice_get statements (var_of lit)) 
         at ∙ ap Some (says_answer relations (says a (is_negative lit)) k here)
 
 module _ (s : Spec) (query : Option Query) (log : Log) (goals : List ℕ) (trimmed : Trimmed) (in_place : AreInPlace log goals)
-    (t : IsTrimmed log goals trimmed) (lits : List Lit) (kept : (lit : Lit) → Contains lits lit → t.statement_kept (var_of lit) ≡ true) where
+    (t : IsTrimmed log goals trimmed) (lits : List Lit) (kept : (lit : Lit) → Contains lits lit → t.statement_kept
+    (var_of lit) ≡ true) where
   abbrev new : Lit → Lit
   new = renumbered_lit t.statement_kept
 
   -- an answer that a literal names is kept
-  named : (lit : Lit) (k : ℕ) → Contains lits lit → slice_get log.statements (var_of lit) ≡ Some (Answer k) → t.answer_kept k ≡ true
-  named lit k is_in names = (t.kept_answers k).1 (record { var = var_of lit; used = (t.kept_statements (var_of lit)).0 (kept lit is_in); names = names })
+  named : (lit : Lit) (k : ℕ) → Contains lits lit → slice_get log.statements (var_of lit) ≡ Some (Answer k)
+      → t.answer_kept k ≡ true
+  named lit k is_in names = (t.kept_answers k).1
+      (record { var = var_of lit; used = (t.kept_statements (var_of lit)).0 (kept lit is_in); names = names })
 
   meaning_kept : (lit : Lit) → Contains lits lit → (m : Signed) → meaning log.statements lit ≡ Some m → KeepsNames t.answer_kept m
   meaning_kept lit is_in m e = by (slice_get log.statements (var_of lit)) refl e
@@ -198,14 +210,16 @@ module _ (s : Spec) (query : Option Query) (log : Log) (goals : List ℕ) (trimm
       names (Last rel attr x) n at = tt
       names (Answer k) n at = named lit k is_in at
 
-      by : (o : Option Statement) → slice_get log.statements (var_of lit) ≡ o → meaning log.statements lit ≡ Some m → KeepsNames t.answer_kept m
+      by : (o : Option Statement) → slice_get log.statements (var_of lit) ≡ o → meaning log.statements lit ≡ Some m
+          → KeepsNames t.answer_kept m
       by None at e = let none : None ≡ Some m = rw at at e in absurd (none-some m none)
       by (Some a) at e =
           let here : Some (says a (is_negative lit)) ≡ Some m = rw at at e in
           subst (KeepsNames t.answer_kept) (same_Some (says a (is_negative lit)) m here) (names a (is_negative lit) at)
 
   lit_still : (lit : Lit) → Contains lits lit → (said : Signed) → KeepsNames t.answer_kept said
-      → lit_says s.relations trimmed.log.statements (renumbered_signed t.answer_kept said) (new lit) ≡ lit_says s.relations log.statements said lit
+      → lit_says s.relations trimmed.log.statements (renumbered_signed t.answer_kept said) (new lit) ≡ lit_says
+      s.relations log.statements said lit
   lit_still lit is_in said names =
       ap (λ (o : Option Signed). is_said s.relations (renumbered_signed t.answer_kept said) o)
       (meaning_keeps log goals trimmed in_place t lit ((t.kept_statements (var_of lit)).0 (kept lit is_in)))
@@ -215,7 +229,8 @@ module _ (s : Spec) (query : Option Query) (log : Log) (goals : List ℕ) (trimm
   says_it said = list_any (lit_says s.relations log.statements said) lits
 
   -- an answer that the clause names is kept, since a literal names it
-  clause_named : (clause : List Signed) → is_clause s.relations log.statements lits clause ≡ true → (k : ℕ) → Contains clause (answer k)
+  clause_named : (clause : List Signed) → is_clause s.relations log.statements lits clause ≡ true → (k : ℕ)
+      → Contains clause (answer k)
       → t.answer_kept k ≡ true
   clause_named clause e k is_in =
       let each_is_said = list_all (λ lit. list_any (λ one. lit_says s.relations log.statements one lit) clause) lits in
@@ -231,14 +246,17 @@ module _ (s : Spec) (query : Option Query) (log : Log) (goals : List ℕ) (trimm
       put : Signed → Signed
       put = renumbered_signed t.answer_kept
 
-      by : (o : Option (List Signed)) → axiom_of s (posed_by query log) l ≡ o → is_axiom s (posed_by query log) log.statements l lits ≡ true
+      by : (o : Option (List Signed)) → axiom_of s (posed_by query log) l ≡ o → is_axiom s (posed_by query log)
+          log.statements l lits ≡ true
           → is_axiom s (posed_by query trimmed.log) trimmed.log.statements l (map (renumbered_lit t.statement_kept) lits) ≡ true
       by None is e = let none : false ≡ true = rw is at e in absurd (false≢true none)
       by (Some clause) is e =
           let here : is_clause s.relations log.statements lits clause ≡ true = rw is at e in
           let still = label_still t.answer_kept s query log.answers l clause is (clause_named clause here) in
           let same : axiom_of s (posed_by query trimmed.log) l ≡ Some (map put clause) =
-          ap (λ (answers : List (List Value)). axiom_of s (record { query = query; answers = answers }) l) t.answers ∙ still.same in
+          ap (λ (answers : List (List Value)). axiom_of s (record { query = query; answers = answers }) l) t.answers
+          ∙ still.same in
           rw same
           (clause_keeps s.relations log.statements trimmed.log.statements (renumbered_lit t.statement_kept) put lits clause
-          (λ k d below i one within. lit_still (get_or lits k d) (Contains-get_or lits k d below) (get_or clause i one) (still.kept i one within)) ∙ here)
+          (λ k d below i one within. lit_still (get_or lits k d) (Contains-get_or lits k d below)
+          (get_or clause i one) (still.kept i one within)) ∙ here)

@@ -42,6 +42,7 @@ trimmed_are_accepted s query log goals trimmed in_place accepted t place step th
     let was = changed_from renumbered t.step_kept log.steps trimmed.log.steps place step t.steps there in
     let from = was.1 in
     let new : slice_get trimmed.log.steps place ≡ Some (renumbered was.0) = there ∙ ap (λ (one : Step). Some one) (sym was.2) in
-    subst (λ (one : Step). IsAcceptedStep s (posed_by query trimmed.log) trimmed.log.statements (clauses_of (take place trimmed.log.steps)) one) was.2
+    subst (λ (one : Step). IsAcceptedStep s (posed_by query trimmed.log) trimmed.log.statements
+    (clauses_of (take place trimmed.log.steps)) one) was.2
     (kept_is_accepted s query log goals trimmed in_place accepted t from.place place was.0
     ((t.kept_steps from.place).0 from.kept) from.there new)

@@ -11,16 +11,16 @@ use Rattle.log_axioms.specs.Posed.{AreAnswersOver, passing, posed_by}
 use Rattle.log_axioms.specs.Truth.{ClauseHolds}
 use Rattle.log_checker.specs.Accepted.{IsAccepted}
 
--- the clause of each step of an accepted log is true in every consistent completion, where each tuple is one of the answers that the query has as an
--- answer over the current instance
+-- the clause of each step of an accepted log is true in every consistent completion, where each tuple is one of the
+-- answers that the query has as an answer over the current instance
 abbrev pub AcceptedAreTrueOver : (ℕ → Type 0) → Type 0
 AcceptedAreTrueOver answers =
     (s : Spec) → IsSpecification s → (c : Rankings) → IsConsistent s c → (query : Option Query) (log : Log)
     → AreAnswersOver s.relations (posed_by query log) c answers → IsAccepted s query log
     → All (ClauseHolds s.relations c answers log.statements) (clauses_of log.steps)
 
--- a clause ranges over tests of which tuples are answers; that it holds for whatever are answers, where this is decided, is said by the lemma
--- accepted_are_true of proofs/Accepted
+-- a clause ranges over tests of which tuples are answers; that it holds for whatever are answers, where this is
+-- decided, is said by the lemma accepted_are_true of proofs/Accepted
 abbrev pub AcceptedAreTrue : Type 0
 AcceptedAreTrue = (answers : ℕ → Bool) → AcceptedAreTrueOver (passing answers)
 

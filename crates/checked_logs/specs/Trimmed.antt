@@ -16,7 +16,8 @@ use Rattle.log_trim.specs.declared.trimming.Trimmed.{Trimmed}
 -- a trimmed log is accepted where the log is
 abbrev pub TrimmedAreAccepted : Type 0
 TrimmedAreAccepted =
-    (s : Spec) (query : Option Query) (log : Log) (goals : List ℕ) (trimmed : Trimmed) → AreInPlace log goals → IsAccepted s query log
+    (s : Spec) (query : Option Query) (log : Log) (goals : List ℕ) (trimmed : Trimmed) → AreInPlace log goals
+    → IsAccepted s query log
     → IsTrimmed log goals trimmed → IsAccepted s query trimmed.log
 
 -- a trimmed log can be checked where the log can

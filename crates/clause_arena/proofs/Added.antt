@@ -23,7 +23,8 @@ get_end (z ∷ xs) y = get_end xs y
 
 module _ (clauses : List (List Lit)) (slots : ℕ) (lists : List (List ℕ)) (are : AreSlots clauses slots lists) where
   -- where each list holds what it held, the clauses are watched as they were
-  linked_still : (lits : List Lit) (lists' : List (List ℕ)) → ((owner y : ℕ) → IsIn y (list_of lists owner) → IsIn y (list_of lists' owner)) → (clause : ℕ)
+  linked_still : (lits : List Lit) (lists' : List (List ℕ)) → ((owner y : ℕ) → IsIn y (list_of lists owner)
+      → IsIn y (list_of lists' owner)) → (clause : ℕ)
       → IsLinked clauses lists clause → IsLinked (clauses ++ lits ∷ []) lists' clause
   linked_still lits lists' keeps clause l =
       record {
@@ -33,11 +34,13 @@ module _ (clauses : List (List Lit)) (slots : ℕ) (lists : List (List ℕ)) (ar
         by = λ side lit few is. keeps (place_of lit) (2 * clause + side) (l.by side lit few is);
       }
 
-  side_still : (lits : List Lit) (lists' : List (List ℕ)) → ((owner y : ℕ) → IsIn y (list_of lists owner) → IsIn y (list_of lists' owner)) → (owner slot : ℕ)
+  side_still : (lits : List Lit) (lists' : List (List ℕ)) → ((owner y : ℕ) → IsIn y (list_of lists owner)
+      → IsIn y (list_of lists' owner)) → (owner slot : ℕ)
       → IsIn slot (list_of lists owner) → IsSide (clauses ++ lits ∷ []) lists' owner slot
   side_still lits lists' keeps owner slot i =
       let s = are.sides owner slot i in
-      side_of (clauses ++ lits ∷ []) lists' owner slot s.clause s.side s.linked.lits s.lit s.first_or_second s.is_slot (linked_still lits lists' keeps s.clause s.linked)
+      side_of (clauses ++ lits ∷ []) lists' owner slot s.clause s.side s.linked.lits s.lit s.first_or_second
+      s.is_slot (linked_still lits lists' keeps s.clause s.linked)
       (get_more clauses lits s.clause s.linked.lits s.linked.is_clause) s.is_lit s.is_owner
 
   two_more : (lits : List Lit) → slots + 2 ≡ 2 * length (clauses ++ lits ∷ [])
@@ -49,7 +52,8 @@ module _ (clauses : List (List Lit)) (slots : ℕ) (lists : List (List ℕ)) (ar
       subst (λ (k : ℕ). All (All (λ (l : Lit). place_of l < k)) (clauses ++ lits ∷ [])) (sym same)
       (All-push (All (λ (l : Lit). place_of l < length lists)) clauses lits are.within within)
 
-  unwatched : (lits : List Lit) → OnlyOnce lits → All (λ (l : Lit). place_of l < length lists) lits → AreSlots (clauses ++ lits ∷ []) (slots + 2) lists
+  unwatched : (lits : List Lit) → OnlyOnce lits → All (λ (l : Lit). place_of l < length lists) lits
+      → AreSlots (clauses ++ lits ∷ []) (slots + 2) lists
   unwatched lits once within =
       record {
         two_each = two_more lits;
@@ -58,7 +62,8 @@ module _ (clauses : List (List Lit)) (slots : ℕ) (lists : List (List ℕ)) (ar
         within = within_more lits (length lists) refl within;
       }
 
-  module _ (first second : Lit) (rest : List Lit) (within : All (λ (l : Lit). place_of l < length lists) (first ∷ second ∷ rest)) where
+  module _ (first second : Lit) (rest : List Lit) (within : All (λ (l : Lit). place_of l < length lists)
+      (first ∷ second ∷ rest)) where
     abbrev one : List (List ℕ)
     one = lists_with lists (place_of first) slots
 
@@ -72,11 +77,17 @@ module _ (clauses : List (List Lit)) (slots : ℕ) (lists : List (List ℕ)) (ar
     one_length = length-set lists (place_of first) (slots ∷ list_of lists (place_of first))
 
     second_within : place_of second < length one
-    second_within = omega (arith, one_length, all_at (λ (l : Lit). place_of l < length lists) (first ∷ second ∷ rest) 1 second within refl)
+    second_within = omega (
+      arith,
+      one_length,
+      all_at (λ (l : Lit). place_of l < length lists) (first ∷ second ∷ rest)
+          1 second within refl,
+    )
 
     keeps : (owner y : ℕ) → IsIn y (list_of lists owner) → IsIn y (list_of both owner)
     keeps owner y i =
-        lists_with_keeps one (place_of second) (slots + 1) second_within owner y (lists_with_keeps lists (place_of first) slots first_within owner y i)
+        lists_with_keeps one (place_of second) (slots + 1) second_within owner y
+        (lists_with_keeps lists (place_of first) slots first_within owner y i)
 
     new_linked : IsLinked (clauses ++ (first ∷ second ∷ rest) ∷ []) both (length clauses)
     new_linked =
@@ -87,40 +98,51 @@ module _ (clauses : List (List Lit)) (slots : ℕ) (lists : List (List ℕ)) (ar
           by = by;
         }
       where
-        by : (side : ℕ) (lit : Lit) → side < 2 → slice_get (first ∷ second ∷ rest) side ≡ Some lit → IsIn (2 * length clauses + side) (list_of both (place_of lit))
+        by : (side : ℕ) (lit : Lit) → side < 2 → slice_get (first ∷ second ∷ rest) side ≡ Some lit
+            → IsIn (2 * length clauses + side) (list_of both (place_of lit))
         by zero lit few is =
             let same : first ≡ lit = cc in
             let here : IsIn slots (list_of both (place_of first)) =
-            lists_with_keeps one (place_of second) (slots + 1) second_within (place_of first) slots (lists_with_has lists (place_of first) slots first_within) in
+            lists_with_keeps one (place_of second) (slots + 1) second_within (place_of first) slots
+            (lists_with_has lists (place_of first) slots first_within) in
             let slot : slots ≡ 2 * length clauses + 0 = omega (arith, are.two_each) in
-            let there : IsIn (2 * length clauses + 0) (list_of both (place_of first)) = subst (λ (z : ℕ). IsIn z (list_of both (place_of first))) slot here in
+            let there : IsIn (2 * length clauses + 0) (list_of both (place_of first)) =
+            subst (λ (z : ℕ). IsIn z (list_of both (place_of first))) slot here in
             subst (λ (l : Lit). IsIn (2 * length clauses + 0) (list_of both (place_of l))) same there
         by (suc zero) lit few is =
             let same : second ≡ lit = cc in
-            let here : IsIn (slots + 1) (list_of both (place_of second)) = lists_with_has one (place_of second) (slots + 1) second_within in
+            let here : IsIn (slots + 1) (list_of both (place_of second)) = lists_with_has one (place_of second)
+            (slots + 1) second_within in
             let slot : slots + 1 ≡ 2 * length clauses + 1 = omega (arith, are.two_each) in
-            let there : IsIn (2 * length clauses + 1) (list_of both (place_of second)) = subst (λ (z : ℕ). IsIn z (list_of both (place_of second))) slot here in
+            let there : IsIn (2 * length clauses + 1) (list_of both (place_of second)) =
+            subst (λ (z : ℕ). IsIn z (list_of both (place_of second))) slot here in
             subst (λ (l : Lit). IsIn (2 * length clauses + 1) (list_of both (place_of l))) same there
         by (suc (suc side)) lit few is = absurd (omega arith)
 
-    new_sides : (owner slot : ℕ) → IsIn slot (list_of both owner) → IsSide (clauses ++ (first ∷ second ∷ rest) ∷ []) both owner slot
+    new_sides : (owner slot : ℕ) → IsIn slot (list_of both owner) → IsSide (clauses ++ (first ∷ second ∷ rest) ∷ [])
+        both owner slot
     new_sides owner slot i = go (in_lists_with one (place_of second) (slots + 1) second_within owner slot i)
       where
-        lower : ((owner ≡ place_of first) × (slot ≡ slots)) ⊎ IsIn slot (list_of lists owner) → IsSide (clauses ++ (first ∷ second ∷ rest) ∷ []) both owner slot
+        lower : ((owner ≡ place_of first) × (slot ≡ slots)) ⊎ IsIn slot (list_of lists owner)
+            → IsSide (clauses ++ (first ∷ second ∷ rest) ∷ []) both owner slot
         lower (inl h) =
-            side_of (clauses ++ (first ∷ second ∷ rest) ∷ []) both owner slot (length clauses) 0 (first ∷ second ∷ rest) first (omega arith) (omega (arith, h.1, are.two_each))
+            side_of (clauses ++ (first ∷ second ∷ rest) ∷ []) both owner slot (length clauses) 0
+            (first ∷ second ∷ rest) first (omega arith) (omega (arith, h.1, are.two_each))
             new_linked (get_end clauses (first ∷ second ∷ rest)) refl h.0
         lower (inr j) = side_still (first ∷ second ∷ rest) both keeps owner slot j
 
-        go : ((owner ≡ place_of second) × (slot ≡ slots + 1)) ⊎ IsIn slot (list_of one owner) → IsSide (clauses ++ (first ∷ second ∷ rest) ∷ []) both owner slot
+        go : ((owner ≡ place_of second) × (slot ≡ slots + 1)) ⊎ IsIn slot (list_of one owner)
+            → IsSide (clauses ++ (first ∷ second ∷ rest) ∷ []) both owner slot
         go (inl h) =
-            side_of (clauses ++ (first ∷ second ∷ rest) ∷ []) both owner slot (length clauses) 1 (first ∷ second ∷ rest) second (omega arith) (omega (arith, h.1, are.two_each))
+            side_of (clauses ++ (first ∷ second ∷ rest) ∷ []) both owner slot (length clauses) 1
+            (first ∷ second ∷ rest) second (omega arith) (omega (arith, h.1, are.two_each))
             new_linked (get_end clauses (first ∷ second ∷ rest)) refl h.0
         go (inr j) = lower (in_lists_with lists (place_of first) slots first_within owner slot j)
 
     watched : OnlyOnce (first ∷ second ∷ rest) → AreSlots (clauses ++ (first ∷ second ∷ rest) ∷ []) (slots + 2) both
     watched once =
-        let long : length both ≡ length lists = length-set one (place_of second) ((slots + 1) ∷ list_of one (place_of second)) ∙ one_length in
+        let long : length both ≡ length lists = length-set one (place_of second)
+        ((slots + 1) ∷ list_of one (place_of second)) ∙ one_length in
         record {
           two_each = two_more (first ∷ second ∷ rest);
           sides = new_sides;
@@ -139,16 +161,20 @@ module _ (clauses : List (List Lit)) (slots : ℕ) (lists : List (List ℕ)) (ar
   added_length [] = refl
   added_length (first ∷ []) = refl
   added_length (first ∷ second ∷ rest) =
-      length-set (lists_with lists (place_of first) slots) (place_of second) ((slots + 1) ∷ list_of (lists_with lists (place_of first) slots) (place_of second))
+      length-set (lists_with lists (place_of first) slots) (place_of second)
+      ((slots + 1) ∷ list_of (lists_with lists (place_of first) slots) (place_of second))
       ∙ length-set lists (place_of first) (slots ∷ list_of lists (place_of first))
 
   -- and a caller sees one more watcher of each of its first two literals
-  pub added_watchers : (lits : List Lit) → clauses_of (linking lists lits slots) ≡ watching (clauses_of lists) lits (length clauses)
+  pub added_watchers : (lits : List Lit) → clauses_of (linking lists lits slots) ≡ watching (clauses_of lists) lits
+      (length clauses)
   added_watchers [] = refl
   added_watchers (first ∷ []) = refl
   added_watchers (first ∷ second ∷ rest) =
-      let zeroth : clause_of slots ≡ length clauses = ap clause_of (omega (arith, are.two_each)) ∙ half (length clauses) 0 (omega arith) in
-      let next : clause_of (slots + 1) ≡ length clauses = ap clause_of (omega (arith, are.two_each)) ∙ half (length clauses) 1 (omega arith) in
+      let zeroth : clause_of slots ≡ length clauses = ap clause_of (omega (arith, are.two_each))
+      ∙ half (length clauses) 0 (omega arith) in
+      let next : clause_of (slots + 1) ≡ length clauses = ap clause_of (omega (arith, are.two_each))
+      ∙ half (length clauses) 1 (omega arith) in
       lists_with_map clause_of (lists_with lists (place_of first) slots) (place_of second) (slots + 1)
       ∙ ap (lists_with (clauses_of (lists_with lists (place_of first) slots)) (place_of second)) next
       ∙ ap (λ (ls : List (List ℕ)). lists_with ls (place_of second) (length clauses))

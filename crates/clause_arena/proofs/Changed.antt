@@ -29,17 +29,20 @@ module _ {A : Type 0} (lists lists' : List (List A)) (at place : ℕ) (now : Lis
   put_length = ap length put ∙ length-set lists at (slice_set now place x)
 
   pub put_there : slice_get lists' at ≡ Some (slice_set now place x)
-  put_there = ap (λ (ls : List (List A)). slice_get ls at) put ∙ get_same lists at (slice_set now place x) (slice_get_within lists at now is)
+  put_there = ap (λ (ls : List (List A)). slice_get ls at) put ∙ get_same lists at (slice_set now place x)
+      (slice_get_within lists at now is)
 
   -- then it is as long as it was
-  pub put_room : (other : ℕ) → IfSome (slice_get lists at) (λ (ls : List A). other < length ls) → IfSome (slice_get lists' at) (λ (ls : List A). other < length ls)
+  pub put_room : (other : ℕ) → IfSome (slice_get lists at) (λ (ls : List A). other < length ls)
+      → IfSome (slice_get lists' at) (λ (ls : List A). other < length ls)
   put_room other some =
       let before : other < length now = subst (λ (o : Option (List A)). IfSome o (λ (ls : List A). other < length ls)) is some in
       let after : other < length (slice_set now place x) = omega (arith, before, length-set now place x) in
       rw put_there after
 
 -- two items are put, one after the other
-pub put_twice : {A : Type 0} (lists lists' lists'' : List (List A)) (at from to : ℕ) (now : List A) (x y : A) → slice_get lists at ≡ Some now
+pub put_twice : {A : Type 0} (lists lists' lists'' : List (List A)) (at from to : ℕ) (now : List A) (x y : A)
+    → slice_get lists at ≡ Some now
     → lists' ≡ slice_set lists at (slice_set now from x)
     → ((ls : List A) → slice_get lists' at ≡ Some ls → lists'' ≡ slice_set lists' at (slice_set ls to y))
     → lists'' ≡ slice_set lists at (slice_set (slice_set now from x) to y)
@@ -65,17 +68,23 @@ moved_same from to i j k l differ (inr (inr a)) (inr (inl b)) e = absurd (a.0 (s
 moved_same from to i j k l differ (inr (inr a)) (inr (inr b)) e = sym a.2 ∙ e ∙ b.2
 
 -- two items change places
-module _ {A : Type 0} (xs : List A) (from to : ℕ) (left taken : A) (is_left : slice_get xs from ≡ Some left) (is_taken : slice_get xs to ≡ Some taken)
+module _ {A : Type 0} (xs : List A) (from to : ℕ) (left taken : A) (is_left : slice_get xs from ≡ Some left)
+    (is_taken : slice_get xs to ≡ Some taken)
     (differ : from ≢ to) where
   pub exchanged_length : length (slice_set (slice_set xs from taken) to left) ≡ length xs
   exchanged_length = length-set (slice_set xs from taken) to left ∙ length-set xs from taken
 
   pub exchanged_from : slice_get (slice_set (slice_set xs from taken) to left) from ≡ Some taken
-  exchanged_from = get_other (slice_set xs from taken) to from left differ ∙ get_same xs from taken (slice_get_within xs from left is_left)
+  exchanged_from = get_other (slice_set xs from taken) to from left differ ∙ get_same xs from taken
+      (slice_get_within xs from left is_left)
 
   pub exchanged_to : slice_get (slice_set (slice_set xs from taken) to left) to ≡ Some left
   exchanged_to =
-      let within : to < length (slice_set xs from taken) = omega (arith, slice_get_within xs to taken is_taken, length-set xs from taken) in
+      let within : to < length (slice_set xs from taken) = omega (
+        arith,
+        slice_get_within xs to taken is_taken,
+        length-set xs from taken,
+      ) in
       get_same (slice_set xs from taken) to left within
 
   pub exchanged_other : (i : ℕ) → i ≢ from → i ≢ to → slice_get (slice_set (slice_set xs from taken) to left) i ≡ slice_get xs i
@@ -106,4 +115,5 @@ module _ {A : Type 0} (xs : List A) (from to : ℕ) (left taken : A) (is_left : 
   -- and what holds of all items does so still
   pub exchanged_all : (P : A → Type 0) → All P xs → All P (slice_set (slice_set xs from taken) to left)
   exchanged_all P all =
-      All-set P (slice_set xs from taken) to left (all_at P xs from left all is_left) (All-set P xs from taken (all_at P xs to taken all is_taken) all)
+      All-set P (slice_set xs from taken) to left (all_at P xs from left all is_left)
+      (All-set P xs from taken (all_at P xs to taken all is_taken) all)

@@ -30,7 +30,8 @@ module _ (clauses : List (List Lit)) (slots : ℕ) (lists : List (List ℕ)) (ar
         by = λ side lit few is.
             let at : p (clause_of (2 * clause + side)) ≡ true = ap p (half clause side few) ∙ passes in
             subst (IsIn (2 * clause + side)) (sym (left_list (place_of lit)))
-            (stays_in_filter (λ (slot : ℕ). p (clause_of slot)) (2 * clause + side) (list_of lists (place_of lit)) (l.by side lit few is) at);
+            (stays_in_filter (λ (slot : ℕ). p (clause_of slot)) (2 * clause + side) (list_of lists (place_of lit))
+            (l.by side lit few is) at);
       }
 
   sides : (owner slot : ℕ) → IsIn slot (list_of left owner) → IsSide clauses left owner slot
@@ -38,7 +39,8 @@ module _ (clauses : List (List Lit)) (slots : ℕ) (lists : List (List ℕ)) (ar
       let r = in_filter (λ (y : ℕ). p (clause_of y)) slot (list_of lists owner) (subst (IsIn slot) (left_list owner) i) in
       let s = are.sides owner slot r.0 in
       let passes : p s.clause ≡ true = ap p (sym (half s.clause s.side s.first_or_second) ∙ ap clause_of (sym s.is_slot)) ∙ r.1 in
-      side_of clauses left owner slot s.clause s.side s.linked.lits s.lit s.first_or_second s.is_slot (linked_left s.clause s.linked passes)
+      side_of clauses left owner slot s.clause s.side s.linked.lits s.lit s.first_or_second s.is_slot
+      (linked_left s.clause s.linked passes)
       s.linked.is_clause s.is_lit s.is_owner
 
   pub dropped : AreSlots clauses slots left
@@ -47,7 +49,8 @@ module _ (clauses : List (List Lit)) (slots : ℕ) (lists : List (List ℕ)) (ar
         two_each = are.two_each;
         sides = sides;
         distinct = are.distinct;
-        within = subst (λ (n : ℕ). All (All (λ (l : Lit). place_of l < n)) clauses) (sym (length-map lists (filter (λ (slot : ℕ). p (clause_of slot))))) are.within;
+        within = subst (λ (n : ℕ). All (All (λ (l : Lit). place_of l < n)) clauses)
+            (sym (length-map lists (filter (λ (slot : ℕ). p (clause_of slot))))) are.within;
       }
 
 -- a slot that fails the test makes no difference to what passes
@@ -56,11 +59,13 @@ unfolding without
 filter_without p slot [] fails = refl
 filter_without p slot (x ∷ xs) fails = go (eqb_tells slot x) (filter_without p slot xs fails)
   where
-    step : (b : Bool) → filter p (without slot xs) ≡ filter p xs → cond b (x ∷ filter p (without slot xs)) (filter p (without slot xs)) ≡ cond b (x ∷ filter p xs) (filter p xs)
+    step : (b : Bool) → filter p (without slot xs) ≡ filter p xs → cond b (x ∷ filter p (without slot xs))
+        (filter p (without slot xs)) ≡ cond b (x ∷ filter p xs) (filter p xs)
     step true more = ap (λ (ys : List ℕ). x ∷ ys) more
     step false more = more
 
-    go : Tells slot x → filter p (without slot xs) ≡ filter p xs → filter p (cond (slot == x) xs (x ∷ without slot xs)) ≡ cond (p x) (x ∷ filter p xs) (filter p xs)
+    go : Tells slot x → filter p (without slot xs) ≡ filter p xs
+        → filter p (cond (slot == x) xs (x ∷ without slot xs)) ≡ cond (p x) (x ∷ filter p xs) (filter p xs)
     go (inl h) more =
         let fails_here : p x ≡ false = ap p (sym h.1) ∙ fails in
         rw (h.0, fails_here) refl
@@ -84,7 +89,8 @@ pub record IsDropping (p : ℕ → Bool) (at : Option ℕ) (owner : ℕ) (now wa
 set_itself : (lists : List (List ℕ)) (owner : ℕ) → slice_set lists owner (list_of lists owner) ≡ lists
 set_itself lists owner = set-get_or lists owner []
 
-pub drop_begins : (p : ℕ → Bool) (at : Option ℕ) (owner : ℕ) (lists : List (List ℕ)) → owner < length lists → at ≡ head_of (list_of lists owner)
+pub drop_begins : (p : ℕ → Bool) (at : Option ℕ) (owner : ℕ) (lists : List (List ℕ)) → owner < length lists
+    → at ≡ head_of (list_of lists owner)
     → IsDropping p at owner lists lists
 drop_begins p at owner lists within first =
     rw first (record {
@@ -95,17 +101,21 @@ drop_begins p at owner lists within first =
       owners = within;
     })
 
-pub drop_stands : (p : ℕ → Bool) (at : Option ℕ) (owner : ℕ) (now was : List (List ℕ)) (slot : ℕ) → IsDropping p at owner now was → at ≡ Some slot
+pub drop_stands : (p : ℕ → Bool) (at : Option ℕ) (owner : ℕ) (now was : List (List ℕ)) (slot : ℕ)
+    → IsDropping p at owner now was → at ≡ Some slot
     → IsIn slot (list_of now owner)
 drop_stands p at owner now was slot d is = subst (λ (o : Option ℕ). IfSome o (λ x. IsIn x (list_of now owner))) is d.stands
 
-rest_now : (p : ℕ → Bool) (at : Option ℕ) (owner : ℕ) (now was : List (List ℕ)) (slot : ℕ) → IsDropping p at owner now was → at ≡ Some slot → HasNoneTwice (list_of now owner)
+rest_now : (p : ℕ → Bool) (at : Option ℕ) (owner : ℕ) (now was : List (List ℕ)) (slot : ℕ) → IsDropping p at owner
+    now was → at ≡ Some slot → HasNoneTwice (list_of now owner)
     → rest_from at (list_of now owner) ≡ slot ∷ rest_from (following slot (list_of now owner)) (list_of now owner)
 rest_now p at owner now was slot d is once =
-    ap (λ (o : Option ℕ). rest_from o (list_of now owner)) is ∙ rest_is slot (list_of now owner) once (drop_stands p at owner now was slot d is)
+    ap (λ (o : Option ℕ). rest_from o (list_of now owner)) is ∙ rest_is slot (list_of now owner) once
+    (drop_stands p at owner now was slot d is)
 
 -- the slot where the walk is passes, and stays
-drop_keeps : (p : ℕ → Bool) (at : Option ℕ) (owner : ℕ) (now was : List (List ℕ)) (slot : ℕ) → IsDropping p at owner now was → at ≡ Some slot
+drop_keeps : (p : ℕ → Bool) (at : Option ℕ) (owner : ℕ) (now was : List (List ℕ)) (slot : ℕ) → IsDropping p at owner
+    now was → at ≡ Some slot
     → HasNoneTwice (list_of now owner) → p slot ≡ true → IsDropping p (following slot (list_of now owner)) owner now was
 drop_keeps p at owner now was slot d is once passes =
     record {
@@ -121,12 +131,14 @@ drop_keeps p at owner now was slot d is once passes =
     later y (inl e) = inr (ap p e ∙ passes)
     later y (inr j) = inl j
 
-    go : (y : ℕ) → IsIn y (rest_from at (list_of now owner)) ⊎ (p y ≡ true) → IsIn y (rest_from (following slot (list_of now owner)) (list_of now owner)) ⊎ (p y ≡ true)
+    go : (y : ℕ) → IsIn y (rest_from at (list_of now owner)) ⊎ (p y ≡ true)
+        → IsIn y (rest_from (following slot (list_of now owner)) (list_of now owner)) ⊎ (p y ≡ true)
     go y (inl i) = later y (subst (IsIn y) (rest_now p at owner now was slot d is once) i)
     go y (inr h) = inr h
 
 -- it fails, and is taken off
-drop_takes : (p : ℕ → Bool) (at : Option ℕ) (owner : ℕ) (now was : List (List ℕ)) (slot : ℕ) → IsDropping p at owner now was → at ≡ Some slot
+drop_takes : (p : ℕ → Bool) (at : Option ℕ) (owner : ℕ) (now was : List (List ℕ)) (slot : ℕ) → IsDropping p at owner
+    now was → at ≡ Some slot
     → HasNoneTwice (list_of now owner) → p slot ≡ false
     → (left : List (List ℕ)) → left ≡ lists_without now owner slot → list_of left owner ≡ without slot (list_of now owner)
     → IsDropping p (following slot (list_of now owner)) owner left was
@@ -144,9 +156,11 @@ drop_takes p at owner now was slot d is once fails left is_left there =
         is_left ∙ ap (λ (ls : List (List ℕ)). slice_set ls owner (without slot (list_of now owner))) d.others
         ∙ set-set was owner (list_of now owner) (without slot (list_of now owner)) ∙ ap (slice_set was owner) (sym there)
 
-    later : (y : ℕ) → IsIn y (without slot (list_of now owner)) → IsIn y (slot ∷ rest_from (following slot (list_of now owner)) (list_of now owner))
+    later : (y : ℕ) → IsIn y (without slot (list_of now owner))
+        → IsIn y (slot ∷ rest_from (following slot (list_of now owner)) (list_of now owner))
         → IsIn y (rest_from (following slot (list_of now owner)) (list_of left owner)) ⊎ (p y ≡ true)
-    later y i (inl e) = absurd (not_in_without slot (list_of now owner) once (subst (λ (z : ℕ). IsIn z (without slot (list_of now owner))) e i))
+    later y i (inl e) = absurd (not_in_without slot (list_of now owner) once
+        (subst (λ (z : ℕ). IsIn z (without slot (list_of now owner))) e i))
     later y i (inr j) = inl (rw (there, rest_without slot (list_of now owner) once) j)
 
     go : (y : ℕ) → IsIn y (without slot (list_of now owner)) → IsIn y (rest_from at (list_of now owner)) ⊎ (p y ≡ true)
@@ -154,7 +168,8 @@ drop_takes p at owner now was slot d is once fails left is_left there =
     go y i (inl r) = later y i (subst (IsIn y) (rest_now p at owner now was slot d is once) r)
     go y i (inr h) = inr h
 
-    passed : (y : ℕ) → IsIn y (without slot (list_of now owner)) → IsIn y (rest_from (following slot (list_of now owner)) (list_of left owner)) ⊎ (p y ≡ true)
+    passed : (y : ℕ) → IsIn y (without slot (list_of now owner))
+        → IsIn y (rest_from (following slot (list_of now owner)) (list_of left owner)) ⊎ (p y ≡ true)
     passed y i = go y i (d.passed y (in_without slot y (list_of now owner) i))
 
 left_there : (owner : ℕ) (now others : List (List ℕ)) (slot : ℕ) → owner < length now → others ≡ lists_without now owner slot
@@ -163,25 +178,32 @@ left_there owner now others slot within is_left =
     ap (λ (ls : List (List ℕ)). list_of ls owner) is_left ∙ get_or-set_same now owner (without slot (list_of now owner)) [] within
 
 -- so it goes on to the slot that follows
-pub drop_goes_on : (p : ℕ → Bool) (at next : Option ℕ) (owner : ℕ) (now left was : List (List ℕ)) (slot : ℕ) → IsDropping p at owner now was → at ≡ Some slot
-    → HasNoneTwice (list_of now owner) → next ≡ following slot (list_of now owner) → left ≡ cond (p slot) now (lists_without now owner slot)
+pub drop_goes_on : (p : ℕ → Bool) (at next : Option ℕ) (owner : ℕ) (now left was : List (List ℕ)) (slot : ℕ)
+    → IsDropping p at owner now was → at ≡ Some slot
+    → HasNoneTwice (list_of now owner) → next ≡ following slot (list_of now owner) → left ≡ cond (p slot) now
+    (lists_without now owner slot)
     → IsDropping p next owner left was
 drop_goes_on p at next owner now left was slot d is once on changed = go (p slot) refl changed
   where
     go : (b : Bool) → p slot ≡ b → left ≡ cond b now (lists_without now owner slot) → IsDropping p next owner left was
     go true passes same = rw (on, same) (drop_keeps p at owner now was slot d is once passes)
-    go false fails taken = rw on (drop_takes p at owner now was slot d is once fails left taken (left_there owner now left slot d.owners taken))
+    go false fails taken = rw on (drop_takes p at owner now was slot d is once fails left taken
+        (left_there owner now left slot d.owners taken))
 
 -- and what is before it grows shorter
-pub drop_falls : (p : ℕ → Bool) (at next : Option ℕ) (owner : ℕ) (now left was : List (List ℕ)) (slot : ℕ) → IsDropping p at owner now was → at ≡ Some slot
-    → HasNoneTwice (list_of now owner) → next ≡ following slot (list_of now owner) → left ≡ cond (p slot) now (lists_without now owner slot)
+pub drop_falls : (p : ℕ → Bool) (at next : Option ℕ) (owner : ℕ) (now left was : List (List ℕ)) (slot : ℕ)
+    → IsDropping p at owner now was → at ≡ Some slot
+    → HasNoneTwice (list_of now owner) → next ≡ following slot (list_of now owner) → left ≡ cond (p slot) now
+    (lists_without now owner slot)
     → length (rest_from next (list_of left owner)) < length (rest_from at (list_of now owner))
 drop_falls p at next owner now left was slot d is once on changed = go (p slot) changed
   where
-    shorter : length (rest_from (following slot (list_of now owner)) (list_of now owner)) < length (rest_from at (list_of now owner))
+    shorter : length (rest_from (following slot (list_of now owner)) (list_of now owner)) < length
+        (rest_from at (list_of now owner))
     shorter = rw (rest_now p at owner now was slot d is once) (omega arith)
 
-    go : (b : Bool) → left ≡ cond b now (lists_without now owner slot) → length (rest_from next (list_of left owner)) < length (rest_from at (list_of now owner))
+    go : (b : Bool) → left ≡ cond b now (lists_without now owner slot) → length (rest_from next (list_of left owner))
+        < length (rest_from at (list_of now owner))
     go true same = rw (on, same) shorter
     go false taken = rw (on, left_there owner now left slot d.owners taken, rest_without slot (list_of now owner) once) shorter
 
@@ -217,22 +239,28 @@ filtered_more p below now next was d within is =
     }
   where
     other : (k : ℕ) → (k ≡ below → ⊥) → list_of next k ≡ list_of now k
-    other k differs = ap (λ (ls : List (List ℕ)). list_of ls k) is ∙ get_or-set_other now below k (filter p (list_of now below)) [] differs
+    other k differs = ap (λ (ls : List (List ℕ)). list_of ls k) is ∙ get_or-set_other now below k
+        (filter p (list_of now below)) [] differs
 
     filtered : (k : ℕ) → k < below + 1 → (k ≡ below) ⊎ (k ≡ below → ⊥) → list_of next k ≡ filter p (list_of was k)
     filtered k h (inl e) =
         let here : list_of next below ≡ filter p (list_of now below) =
-        ap (λ (ls : List (List ℕ)). list_of ls below) is ∙ get_or-set_same now below (filter p (list_of now below)) [] (omega (arith, within, d.owners)) in
-        ap (list_of next) e ∙ here ∙ ap (filter p) (d.still below (omega arith)) ∙ ap (λ (i : ℕ). filter p (list_of was i)) (sym e)
+        ap (λ (ls : List (List ℕ)). list_of ls below) is ∙ get_or-set_same now below (filter p (list_of now below))
+        [] (omega (arith, within, d.owners)) in
+        ap (list_of next) e ∙ here ∙ ap (filter p) (d.still below (omega arith))
+        ∙ ap (λ (i : ℕ). filter p (list_of was i)) (sym e)
     filtered k h (inr differs) = other k differs ∙ d.filtered k (omega (arith, h, differs))
 
-pub filtered_all : (p : ℕ → Bool) (below : ℕ) (now was : List (List ℕ)) → AreFiltered p below now was → length was ≤ below → now ≡ map (filter p) was
+pub filtered_all : (p : ℕ → Bool) (below : ℕ) (now was : List (List ℕ)) → AreFiltered p below now was
+    → length was ≤ below → now ≡ map (filter p) was
 filtered_all p below now was d all =
     ext_get_or [] now (map (filter p) was) (d.owners ∙ sym (length-map was (filter p)))
     (λ k h. d.filtered k (omega (arith, h, d.owners, all)) ∙ sym (list_map (filter p) refl was k))
 
 -- whether the clause of a slot stays
-pub stays_is : (truths : List Bool) (clauses : List (List Lit)) (slot : ℕ) (lits : List Lit) (b : Bool) → slice_get clauses (clause_of slot) ≡ Some lits
+pub stays_is : (truths : List Bool) (clauses : List (List Lit)) (slot : ℕ) (lits : List Lit) (b : Bool)
+    → slice_get clauses (clause_of slot) ≡ Some lits
     → is_satisfied truths lits ≡ b → stays truths clauses slot ≡ not b
 stays_is truths clauses slot lits b is satisfied =
-    ap (λ (ls : List Lit). not (is_satisfied truths ls)) (get_or_from_slice_get clauses (clause_of slot) lits [] is) ∙ ap not satisfied
+    ap (λ (ls : List Lit). not (is_satisfied truths ls)) (get_or_from_slice_get clauses (clause_of slot) lits [] is)
+    ∙ ap not satisfied

@@ -9,14 +9,16 @@ use Rattle.watch_links.specs.Links.{IsIn, HasNoneTwice, head_of, following, with
 use Rattle.watch_links.proofs.SlotLists.{Tells}
 
 -- the list of an owner, where all lists are changed in one way, which leaves an empty one empty
-pub list_map : (g : List ℕ → List ℕ) → g [] ≡ [] → (lists : List (List ℕ)) (owner : ℕ) → list_of (map g lists) owner ≡ g (list_of lists owner)
+pub list_map : (g : List ℕ → List ℕ) → g [] ≡ [] → (lists : List (List ℕ)) (owner : ℕ) → list_of (map g lists)
+    owner ≡ g (list_of lists owner)
 list_map g empty [] owner = sym empty
 list_map g empty (xs ∷ lists) zero = refl
 list_map g empty (xs ∷ lists) (suc owner) = list_map g empty lists owner
 
 pub map_empty : (g : List ℕ → List ℕ) → g [] ≡ [] → (n : ℕ) → map g (replicate n []) ≡ replicate n []
 map_empty g empty zero = refl
-map_empty g empty (suc n) = ap (λ (xs : List ℕ). xs ∷ map g (replicate n [])) empty ∙ ap (λ (ls : List (List ℕ)). [] ∷ ls) (map_empty g empty n)
+map_empty g empty (suc n) = ap (λ (xs : List ℕ). xs ∷ map g (replicate n [])) empty
+    ∙ ap (λ (ls : List (List ℕ)). [] ∷ ls) (map_empty g empty n)
 
 pub in_map : (f : ℕ → ℕ) (y : ℕ) (xs : List ℕ) → IsIn y xs → IsIn (f y) (map f xs)
 in_map f y [] i = i
@@ -36,13 +38,15 @@ pub head_map : (f : ℕ → ℕ) (xs : List ℕ) → head_of (map f xs) ≡ opti
 head_map f [] = refl
 head_map f (x ∷ xs) = refl
 
-pub following_map : (f : ℕ → ℕ) (slot : ℕ) (xs : List ℕ) → IsAlone f slot xs → following (f slot) (map f xs) ≡ option_map f (following slot xs)
+pub following_map : (f : ℕ → ℕ) (slot : ℕ) (xs : List ℕ) → IsAlone f slot xs → following (f slot) (map f xs) ≡
+    option_map f (following slot xs)
 unfolding following
 following_map f slot [] alone = refl
 following_map f slot (x ∷ xs) alone = go (eqb_tells slot x) (following_map f slot xs (λ y i. alone y (inr i)))
   where
     go : Tells slot x → following (f slot) (map f xs) ≡ option_map f (following slot xs)
-        → cond (f slot == f x) (head_of (map f xs)) (following (f slot) (map f xs)) ≡ option_map f (cond (slot == x) (head_of xs) (following slot xs))
+        → cond (f slot == f x) (head_of (map f xs)) (following (f slot) (map f xs)) ≡ option_map f
+        (cond (slot == x) (head_of xs) (following slot xs))
     go (inl h) more = rw (h.0, eq-eqb (f slot) (f x) (ap f h.1)) (head_map f xs)
     go (inr h) more = rw (h.0, ne_eqb (f slot) (f x) (λ e. h.1 (sym (alone x (inl refl) (sym e))))) more
 
@@ -54,7 +58,8 @@ without_map f slot (x ∷ xs) alone = go (eqb_tells slot x) (without_map f slot 
     go : Tells slot x → map f (without slot xs) ≡ without (f slot) (map f xs)
         → map f (cond (slot == x) xs (x ∷ without slot xs)) ≡ cond (f slot == f x) (map f xs) (f x ∷ without (f slot) (map f xs))
     go (inl h) more = rw (h.0, eq-eqb (f slot) (f x) (ap f h.1)) refl
-    go (inr h) more = rw (h.0, ne_eqb (f slot) (f x) (λ e. h.1 (sym (alone x (inl refl) (sym e))))) (ap (λ (ys : List ℕ). f x ∷ ys) more)
+    go (inr h) more = rw (h.0, ne_eqb (f slot) (f x) (λ e. h.1 (sym (alone x (inl refl) (sym e)))))
+        (ap (λ (ys : List ℕ). f x ∷ ys) more)
 
 pub lists_with_map : (f : ℕ → ℕ) (lists : List (List ℕ)) (owner slot : ℕ)
     → map (map f) (lists_with lists owner slot) ≡ lists_with (map (map f) lists) owner (f slot)
@@ -70,7 +75,8 @@ lists_without_map f lists owner slot alone =
     ∙ ap (λ (xs : List ℕ). slice_set (map (map f) lists) owner (without (f slot) xs)) (sym (list_map (map f) refl lists owner))
 
 -- nothing stands twice still
-pub once_map : (f : ℕ → ℕ) (xs : List ℕ) → HasNoneTwice xs → ((slot : ℕ) → IsIn slot xs → IsAlone f slot xs) → HasNoneTwice (map f xs)
+pub once_map : (f : ℕ → ℕ) (xs : List ℕ) → HasNoneTwice xs → ((slot : ℕ) → IsIn slot xs → IsAlone f slot xs)
+    → HasNoneTwice (map f xs)
 once_map f [] once alone = tt
 once_map f (x ∷ xs) once alone = (
   λ i. let r = from_map f (f x) xs i in
@@ -85,7 +91,8 @@ filter_map_is f p [] = refl
 filter_map_is f p (x ∷ xs) = go (p (f x)) (filter_map_is f p xs)
   where
     go : (b : Bool) → map f (filter (λ (y : ℕ). p (f y)) xs) ≡ filter p (map f xs)
-        → map f (cond b (x ∷ filter (λ (y : ℕ). p (f y)) xs) (filter (λ (y : ℕ). p (f y)) xs)) ≡ cond b (f x ∷ filter p (map f xs)) (filter p (map f xs))
+        → map f (cond b (x ∷ filter (λ (y : ℕ). p (f y)) xs) (filter (λ (y : ℕ). p (f y)) xs)) ≡ cond b
+        (f x ∷ filter p (map f xs)) (filter p (map f xs))
     go true more = ap (λ (ys : List ℕ). f x ∷ ys) more
     go false more = more
 
@@ -101,7 +108,8 @@ pub in_filter : (p : ℕ → Bool) (y : ℕ) (xs : List ℕ) → IsIn y (filter 
 in_filter p y [] i = absurd i
 in_filter p y (x ∷ xs) i = go (p x) refl (in_filter p y xs) i
   where
-    go : (b : Bool) → p x ≡ b → (IsIn y (filter p xs) → IsIn y xs × (p y ≡ true)) → IsIn y (cond b (x ∷ filter p xs) (filter p xs)) → IsIn y (x ∷ xs) × (p y ≡ true)
+    go : (b : Bool) → p x ≡ b → (IsIn y (filter p xs) → IsIn y xs × (p y ≡ true))
+        → IsIn y (cond b (x ∷ filter p xs) (filter p xs)) → IsIn y (x ∷ xs) × (p y ≡ true)
     go true is more (inl e) = (inl e, ap p e ∙ is)
     go true is more (inr i) = let r = more i in (inr r.0, r.1)
     go false is more i = let r = more i in (inr r.0, r.1)
@@ -110,7 +118,8 @@ pub stays_in_filter : (p : ℕ → Bool) (y : ℕ) (xs : List ℕ) → IsIn y xs
 stays_in_filter p y [] i passes = i
 stays_in_filter p y (x ∷ xs) i passes = go (p x) refl (λ j. stays_in_filter p y xs j passes) i
   where
-    go : (b : Bool) → p x ≡ b → (IsIn y xs → IsIn y (filter p xs)) → IsIn y (x ∷ xs) → IsIn y (cond b (x ∷ filter p xs) (filter p xs))
+    go : (b : Bool) → p x ≡ b → (IsIn y xs → IsIn y (filter p xs)) → IsIn y (x ∷ xs)
+        → IsIn y (cond b (x ∷ filter p xs) (filter p xs))
     go true is more (inl e) = inl e
     go true is more (inr j) = inr (more j)
     go false is more (inl e) = let no : true ≡ false = sym passes ∙ ap p e ∙ is in cc

@@ -39,14 +39,17 @@ first_or_second (suc zero) few = inr refl
 first_or_second (suc (suc side)) few = absurd (omega arith)
 
 -- the clause in two ways
-pub same_lits : (clauses : List (List Lit)) (a b : ℕ) (xs ys : List Lit) → slice_get clauses a ≡ Some xs → slice_get clauses b ≡ Some ys → a ≡ b → xs ≡ ys
+pub same_lits : (clauses : List (List Lit)) (a b : ℕ) (xs ys : List Lit) → slice_get clauses a ≡ Some xs
+    → slice_get clauses b ≡ Some ys → a ≡ b → xs ≡ ys
 same_lits clauses a b xs ys x y e =
     let z : slice_get clauses a ≡ slice_get clauses b = ap (slice_get clauses) e in
     cc
 
 -- a slot of a watched clause, in the list of the literal there
-pub side_of : (clauses : List (List Lit)) (lists : List (List ℕ)) (owner slot clause side : ℕ) (lits : List Lit) (lit : Lit) → side < 2 → slot ≡ 2 * clause + side
-    → IsLinked clauses lists clause → slice_get clauses clause ≡ Some lits → slice_get lits side ≡ Some lit → owner ≡ place_of lit → IsSide clauses lists owner slot
+pub side_of : (clauses : List (List Lit)) (lists : List (List ℕ)) (owner slot clause side : ℕ) (lits : List Lit)
+    (lit : Lit) → side < 2 → slot ≡ 2 * clause + side
+    → IsLinked clauses lists clause → slice_get clauses clause ≡ Some lits → slice_get lits side ≡ Some lit
+    → owner ≡ place_of lit → IsSide clauses lists owner slot
 side_of clauses lists owner slot clause side lits lit few is_slot linked is_clause is_lit is_owner =
     let same : lits ≡ linked.lits = same_lits clauses clause clause lits linked.lits is_clause linked.is_clause refl in
     record {
@@ -74,7 +77,8 @@ module _ (clauses : List (List Lit)) (slots : ℕ) (lists : List (List ℕ)) (ar
       let of_a : clause_of slot ≡ a.clause = ap clause_of a.is_slot ∙ half a.clause a.side a.first_or_second in
       let of_b : clause_of y ≡ b.clause = ap clause_of b.is_slot ∙ half b.clause b.side b.first_or_second in
       let same : b.clause ≡ a.clause = sym of_b ∙ e ∙ of_a in
-      let lits : b.linked.lits ≡ a.linked.lits = same_lits clauses b.clause a.clause b.linked.lits a.linked.lits b.linked.is_clause a.linked.is_clause same in
+      let lits : b.linked.lits ≡ a.linked.lits = same_lits clauses b.clause a.clause b.linked.lits a.linked.lits
+      b.linked.is_clause a.linked.is_clause same in
       let lit : b.lit ≡ a.lit = same_place b.lit a.lit (sym b.is_owner ∙ a.is_owner) in
       let there : slice_get a.linked.lits b.side ≡ Some a.lit =
       ap (λ (ls : List Lit). slice_get ls b.side) (sym lits) ∙ b.is_lit ∙ ap (λ (l : Lit). Some l) lit in
@@ -86,7 +90,8 @@ module _ (clauses : List (List Lit)) (slots : ℕ) (lists : List (List ℕ)) (ar
   pub side_of_clause : (owner clause : ℕ) → IsIn clause (list_of (clauses_of lists) owner)
       → (slot : ℕ) × IsIn slot (list_of lists owner) × (s : IsSide clauses lists owner slot) × (s.clause ≡ clause)
   side_of_clause owner clause i =
-      let j : IsIn clause (map clause_of (list_of lists owner)) = subst (IsIn clause) (list_map (map clause_of) refl lists owner) i in
+      let j : IsIn clause (map clause_of (list_of lists owner)) = subst (IsIn clause)
+      (list_map (map clause_of) refl lists owner) i in
       let r = from_map clause_of clause (list_of lists owner) j in
       let s = are.sides owner r.0 r.1 in
       let same : s.clause ≡ clause = sym (half s.clause s.side s.first_or_second) ∙ ap clause_of (sym s.is_slot) ∙ sym r.2 in
@@ -99,15 +104,18 @@ module _ (clauses : List (List Lit)) (slots : ℕ) (lists : List (List ℕ)) (ar
       subst (IsLinked clauses lists) r.3 r.2.linked
 
   -- a slot of a clause in a list says that the clause is among its watchers
-  pub clause_in : (owner clause side : ℕ) → side < 2 → IsIn (2 * clause + side) (list_of lists owner) → IsIn clause (list_of (clauses_of lists) owner)
+  pub clause_in : (owner clause side : ℕ) → side < 2 → IsIn (2 * clause + side) (list_of lists owner) → IsIn clause
+      (list_of (clauses_of lists) owner)
   clause_in owner clause side few i =
       let j = in_map clause_of (2 * clause + side) (list_of lists owner) i in
-      let k : IsIn clause (map clause_of (list_of lists owner)) = subst (λ (z : ℕ). IsIn z (map clause_of (list_of lists owner))) (half clause side few) j in
+      let k : IsIn clause (map clause_of (list_of lists owner)) =
+      subst (λ (z : ℕ). IsIn z (map clause_of (list_of lists owner))) (half clause side few) j in
       subst (IsIn clause) (sym (list_map (map clause_of) refl lists owner)) k
 
   -- which clause follows a clause among the watchers of a literal
   pub following_seen : (owner clause side : ℕ) → side < 2 → IsIn (2 * clause + side) (list_of lists owner)
-      → following clause (list_of (clauses_of lists) owner) ≡ option_map clause_of (following (2 * clause + side) (list_of lists owner))
+      → following clause (list_of (clauses_of lists) owner) ≡ option_map clause_of
+      (following (2 * clause + side) (list_of lists owner))
   following_seen owner clause side few i =
       ap (following clause) (list_map (map clause_of) refl lists owner)
       ∙ ap (λ (z : ℕ). following z (map clause_of (list_of lists owner))) (sym (half clause side few))
@@ -138,12 +146,14 @@ module _ (clauses : List (List Lit)) (slots : ℕ) (lists : List (List ℕ)) (ar
         by_second = clause_in (place_of second) clause 1 (omega arith) (linked.by 1 second (omega arith) is_second);
       }
 
-  is_among : (clauses_left lits_left : ℕ) (lit : Lit) (clause : ℕ) (w : IsWatched (arena_of clauses lists clauses_left lits_left) clause)
+  is_among : (clauses_left lits_left : ℕ) (lit : Lit) (clause : ℕ)
+      (w : IsWatched (arena_of clauses lists clauses_left lits_left) clause)
       → IsIn clause (list_of (clauses_of lists) (place_of lit)) → (lit ≡ w.first) ⊎ (lit ≡ w.second)
   is_among clauses_left lits_left lit clause w i =
       let r = side_of_clause (place_of lit) clause i in
       let s = r.2 in
-      let lits : s.linked.lits ≡ w.lits = same_lits clauses s.clause clause s.linked.lits w.lits s.linked.is_clause w.is_clause r.3 in
+      let lits : s.linked.lits ≡ w.lits = same_lits clauses s.clause clause s.linked.lits w.lits s.linked.is_clause
+      w.is_clause r.3 in
       let same : lit ≡ s.lit = same_place lit s.lit s.is_owner in
       let there : slice_get w.lits s.side ≡ Some lit =
       ap (λ (ls : List Lit). slice_get ls s.side) (sym lits) ∙ s.is_lit ∙ ap (λ (l : Lit). Some l) (sym same) in
@@ -171,13 +181,15 @@ module _ (clauses : List (List Lit)) (slots : ℕ) (lists : List (List ℕ)) (ar
         watched = λ lit clause i. is_watched clauses_left lits_left (place_of lit) clause i;
         among = λ lit clause w i. is_among clauses_left lits_left lit clause w i;
         distinct = are.distinct;
-        within = All-weaker (All (λ (l : Lit). place_of l < length lists)) (All (λ (l : Lit). place_of l < length (clauses_of lists)))
+        within = All-weaker (All (λ (l : Lit). place_of l < length lists))
+            (All (λ (l : Lit). place_of l < length (clauses_of lists)))
             (λ lits all. All-weaker (λ (l : Lit). place_of l < length lists) (λ (l : Lit). place_of l < length (clauses_of lists))
             (λ l h. omega (arith, h, length-map lists (map clause_of))) lits all) clauses are.within;
       }
 
 -- what a caller says of the arena is true of its clauses and links
-module _ (clauses : List (List Lit)) (slots : ℕ) (lists : List (List ℕ)) (are : AreSlots clauses slots lists) (clauses_left lits_left : ℕ) (a : Arena)
+module _ (clauses : List (List Lit)) (slots : ℕ) (lists : List (List ℕ)) (are : AreSlots clauses slots lists)
+    (clauses_left lits_left : ℕ) (a : Arena)
     (view : arena_of clauses lists clauses_left lits_left ≡ a) where
   pub seen_clauses : clauses ≡ a.clauses
   seen_clauses = ap (λ (v : Arena). v.clauses) view
@@ -199,13 +211,15 @@ module _ (clauses : List (List Lit)) (slots : ℕ) (lists : List (List ℕ)) (ar
       let linked = linked_clause clauses slots lists are owner clause (seen_in owner clause i) in
       slice_get_within clauses clause linked.lits linked.is_clause
 
-  pub watcher_long : (owner clause : ℕ) (lits : List Lit) → IsIn clause (list_of a.watchers owner) → slice_get clauses clause ≡ Some lits → 2 ≤ length lits
+  pub watcher_long : (owner clause : ℕ) (lits : List Lit) → IsIn clause (list_of a.watchers owner)
+      → slice_get clauses clause ≡ Some lits → 2 ≤ length lits
   watcher_long owner clause lits i is =
       let linked = linked_clause clauses slots lists are owner clause (seen_in owner clause i) in
       let same = same_lits clauses clause clause linked.lits lits linked.is_clause is refl in
       omega (arith, linked.long, ap length same)
 
-  pub watcher_slot : (lit : Lit) (clause side : ℕ) (lits : List Lit) → IsIn clause (list_of a.watchers (place_of lit)) → slice_get clauses clause ≡ Some lits → side < 2
+  pub watcher_slot : (lit : Lit) (clause side : ℕ) (lits : List Lit) → IsIn clause
+      (list_of a.watchers (place_of lit)) → slice_get clauses clause ≡ Some lits → side < 2
       → ((slice_get lits 0 ≡ Some lit) ⊎ (slice_get lits 1 ≡ Some lit) → slice_get lits side ≡ Some lit)
       → IsIn (2 * clause + side) (list_of lists (place_of lit))
   watcher_slot lit clause side lits i is few chosen =
@@ -216,7 +230,8 @@ module _ (clauses : List (List Lit)) (slots : ℕ) (lists : List (List ℕ)) (ar
       let there : slice_get lits s.side ≡ Some lit =
       ap (λ (ls : List Lit). slice_get ls s.side) (sym same) ∙ s.is_lit ∙ ap (λ (l : Lit). Some l) (sym is_lit) in
       let here : slice_get s.linked.lits side ≡ Some lit =
-      ap (λ (ls : List Lit). slice_get ls side) same ∙ chosen (one_of s.side lits lit there (first_or_second s.side s.first_or_second)) in
+      ap (λ (ls : List Lit). slice_get ls side) same
+      ∙ chosen (one_of s.side lits lit there (first_or_second s.side s.first_or_second)) in
       subst (λ (n : ℕ). IsIn (2 * n + side) (list_of lists (place_of lit))) r.3 (s.linked.by side lit few here)
     where
       one_of : (side : ℕ) (lits : List Lit) (lit : Lit) → slice_get lits side ≡ Some lit → (side ≡ 0) ⊎ (side ≡ 1)

@@ -7,7 +7,8 @@ use Rattle.flat_lists.proofs.Cuts.{length-cut_from}
 use Rattle.clause_arena.proofs.Cuts.{list_at, span_order, end_within}
 
 -- a change before a range, or behind it, does not reach it
-range_after : {A : Type 0} (xs : List A) (place from to : ℕ) (x : A) → place < from → slice_range (slice_set xs place x) from to ≡ slice_range xs from to
+range_after : {A : Type 0} (xs : List A) (place from to : ℕ) (x : A) → place < from → slice_range
+    (slice_set xs place x) from to ≡ slice_range xs from to
 range_after xs place from to x before = ap (take (to - from)) (drop-set-lt from xs place x before)
 
 range_before : {A : Type 0} (xs : List A) (from to more : ℕ) (x : A) → to - from ≤ more
@@ -22,7 +23,8 @@ range_in xs from to more x within =
     ap (take (to - from)) (drop-set-add from xs more x) ∙ take-set-lt (to - from) (drop from xs) more x within
 
 -- a change before all that is cut does not reach it
-cut_after : {A : Type 0} (start : ℕ) (ends : List ℕ) (xs : List A) (total place : ℕ) (x : A) → Ascend start ends total → place < start
+cut_after : {A : Type 0} (start : ℕ) (ends : List ℕ) (xs : List A) (total place : ℕ) (x : A)
+    → Ascend start ends total → place < start
     → cut_from start ends (slice_set xs place x) ≡ cut_from start ends xs
 cut_after start [] xs total place x a before = refl
 cut_after start (end ∷ ends) xs total place x a before =
@@ -31,10 +33,12 @@ cut_after start (end ∷ ends) xs total place x a before =
     cc
 
 -- an item of one of the lists is changed
-pub cut_written : {A : Type 0} (start : ℕ) (ends : List ℕ) (xs : List A) (total place more : ℕ) (x : A) → Ascend start ends total → place < length ends
+pub cut_written : {A : Type 0} (start : ℕ) (ends : List ℕ) (xs : List A) (total place more : ℕ) (x : A)
+    → Ascend start ends total → place < length ends
     → get_or (start ∷ ends) place 0 + more < get_or ends place 0
     → cut_from start ends (slice_set xs (get_or (start ∷ ends) place 0 + more) x)
-    ≡ slice_set (cut_from start ends xs) place (slice_set (slice_range xs (get_or (start ∷ ends) place 0) (get_or ends place 0)) more x)
+    ≡ slice_set (cut_from start ends xs) place
+    (slice_set (slice_range xs (get_or (start ∷ ends) place 0) (get_or ends place 0)) more x)
 cut_written start [] xs total place more x a within inside = absurd (omega arith)
 cut_written start (end ∷ ends) xs total zero more x a within inside =
     let range = range_in xs start end more x (omega (arith, inside)) in
@@ -45,11 +49,13 @@ cut_written start (end ∷ ends) xs total (suc place) more x a within inside =
     let at = get_or (end ∷ ends) place 0 + more in
     let split : start + (at - start) ≡ at = omega (arith, a.0, below) in
     let range : slice_range (slice_set xs at x) start end ≡ slice_range xs start end =
-    ap (λ (i : ℕ). slice_range (slice_set xs i x) start end) (sym split) ∙ range_before xs start end (at - start) x (omega (arith, below)) in
+    ap (λ (i : ℕ). slice_range (slice_set xs i x) start end) (sym split) ∙ range_before xs start end (at - start) x
+    (omega (arith, below)) in
     let rest = cut_written end ends xs total place more x a.1 (omega arith) inside in
     cc
   where
-    first_below : (start : ℕ) (ends : List ℕ) (total place : ℕ) → Ascend start ends total → place < length ends → start ≤ get_or (start ∷ ends) place 0
+    first_below : (start : ℕ) (ends : List ℕ) (total place : ℕ) → Ascend start ends total → place < length ends
+        → start ≤ get_or (start ∷ ends) place 0
     first_below start ends total zero a h = omega arith
     first_below start [] total (suc place) a h = absurd (omega arith)
     first_below start (end ∷ ends) total (suc place) a h = omega (arith, a.0, first_below end ends total place a.1 (omega arith))
@@ -67,7 +73,8 @@ pub record IsPlace {A : Type 0} (xs : List A) (ends : List ℕ) (lists : List (L
       → cut_from 0 ends (slice_set xs (get_or (0 ∷ ends) clause 0 + place) x) ≡ slice_set lists clause (slice_set lits place x)
 
 pub is_place : {A : Type 0} (xs : List A) (ends : List ℕ) (lists : List (List A)) (clause place : ℕ) → IsFlat ends (length xs)
-    → cut_from 0 ends xs ≡ lists → clause < length lists → IfSome (slice_get lists clause) (λ (lits : List A). place < length lits)
+    → cut_from 0 ends xs ≡ lists → clause < length lists → IfSome (slice_get lists clause)
+    (λ (lits : List A). place < length lits)
     → IsPlace xs ends lists clause place
 is_place {A} xs ends lists clause place flat cut within some =
     let from = get_or (0 ∷ ends) clause 0 in
@@ -78,7 +85,8 @@ is_place {A} xs ends lists clause place flat cut within some =
     let order = span_order 0 ends (length xs) clause flat.ascend known in
     let ending = end_within 0 ends (length xs) clause flat.ascend known in
     let long : length (slice_range xs from to) ≡ to - from = span_length xs from to order ending in
-    let inside : place < length (slice_range xs from to) = subst (λ (o : Option (List A)). IfSome o (λ lits. place < length lits)) found some in
+    let inside : place < length (slice_range xs from to) =
+    subst (λ (o : Option (List A)). IfSome o (λ lits. place < length lits)) found some in
     let here : from + place < to = omega (arith, long, order, inside) in
     record {
       known = known;

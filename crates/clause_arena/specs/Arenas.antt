@@ -40,7 +40,8 @@ pub record IsWatched (a : Arena) (clause : ℕ) : Type 0 where
 -- the watchers with one more clause, in front of those of its first literal and of its second; a clause of fewer literals is not
 -- watched
 abbrev pub watching : List (List ℕ) → List Lit → ℕ → List (List ℕ)
-watching watchers (first ∷ second ∷ rest) clause = lists_with (lists_with watchers (place_of first) clause) (place_of second) clause
+watching watchers (first ∷ second ∷ rest) clause = lists_with (lists_with watchers (place_of first) clause)
+    (place_of second) clause
 watching watchers lits clause = watchers
 
 -- the arena with the watch of a clause moved from one of its literals to another, these two having changed places
@@ -67,6 +68,7 @@ is_left truths clauses clause = not (is_satisfied truths (slice_index_or clauses
 pub record AreWatchers (a : Arena) : Type 0 where
   pub once : (lit : Lit) → HasNoneTwice (watchers_of a lit)
   pub watched : (lit : Lit) (clause : ℕ) → IsIn clause (watchers_of a lit) → IsWatched a clause
-  pub among : (lit : Lit) (clause : ℕ) (w : IsWatched a clause) → IsIn clause (watchers_of a lit) → (lit ≡ w.first) ⊎ (lit ≡ w.second)
+  pub among : (lit : Lit) (clause : ℕ) (w : IsWatched a clause) → IsIn clause (watchers_of a lit) → (lit ≡ w.first) ⊎
+      (lit ≡ w.second)
   pub distinct : All OnlyOnce a.clauses
   pub within : All (AreWithin a) a.clauses

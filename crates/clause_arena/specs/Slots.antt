@@ -24,7 +24,8 @@ pub record IsLinked (clauses : List (List Lit)) (lists : List (List ℕ)) (claus
   pub lits : List Lit
   pub is_clause : slice_get clauses clause ≡ Some lits
   pub long : 2 ≤ length lits
-  pub by : (side : ℕ) (lit : Lit) → side < 2 → slice_get lits side ≡ Some lit → IsIn (2 * clause + side) (list_of lists (place_of lit))
+  pub by : (side : ℕ) (lit : Lit) → side < 2 → slice_get lits side ≡ Some lit → IsIn (2 * clause + side)
+      (list_of lists (place_of lit))
 
 -- the slot is one of a watched clause, and the list where it stands is that of the literal there
 pub record IsSide (clauses : List (List Lit)) (lists : List (List ℕ)) (owner slot : ℕ) : Type 0 where

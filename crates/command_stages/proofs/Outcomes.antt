@@ -41,18 +41,21 @@ questions_end_alike ending.Decided e h k = k
 questions_end_alike ending.Undecided e h k = k
 
 -- two answers
-pub answers_alike : (d e : Done) (a b : Result Done Trouble) → IsOfQuestion d.ending → IsOfQuestion e.ending → a ≡ Ok d → b ≡ Ok e → AreAlike a b
+pub answers_alike : (d e : Done) (a b : Result Done Trouble) → IsOfQuestion d.ending → IsOfQuestion e.ending
+    → a ≡ Ok d → b ≡ Ok e → AreAlike a b
 answers_alike d e a b first second h k =
     subst (λ (o : Result Done Trouble). AreAlike o b) (sym h)
     (subst (λ (o : Result Done Trouble). AreAlike (Ok d) o) (sym k) (questions_end_alike d.ending e.ending first second))
 
 -- an answer, and that there are too many
-pub answer_or_limit : (d : Done) (a b : Result Done Trouble) → IsOfQuestion d.ending → a ≡ Ok d → b ≡ Err (trouble.Limit 3) → AreAlike a b
+pub answer_or_limit : (d : Done) (a b : Result Done Trouble) → IsOfQuestion d.ending → a ≡ Ok d
+    → b ≡ Err (trouble.Limit 3) → AreAlike a b
 answer_or_limit d a b of h k =
     subst (λ (o : Result Done Trouble). AreAlike o b) (sym h)
     (subst (λ (o : Result Done Trouble). AreAlike (Ok d) o) (sym k) (of, refl))
 
-pub limit_or_answer : (d : Done) (a b : Result Done Trouble) → IsOfQuestion d.ending → a ≡ Err (trouble.Limit 3) → b ≡ Ok d → AreAlike a b
+pub limit_or_answer : (d : Done) (a b : Result Done Trouble) → IsOfQuestion d.ending → a ≡ Err (trouble.Limit 3)
+    → b ≡ Ok d → AreAlike a b
 limit_or_answer d a b of h k =
     subst (λ (o : Result Done Trouble). AreAlike o b) (sym h)
     (subst (λ (o : Result Done Trouble). AreAlike (Err (trouble.Limit 3)) o) (sym k) (of, refl))
@@ -62,7 +65,8 @@ limit_or_answer d a b of h k =
 abbrev pub IsLike : (Result Done Trouble → Type 0) → Type 0
 IsLike stage = (a b : Result Done Trouble) → stage a → stage b → AreAlike a b
 
-like_at : {A : Type 0} (next : A → Result Done Trouble → Type 0) → ((x : A) → IsLike (next x)) → (r : Result A Trouble) (a b : Result Done Trouble)
+like_at : {A : Type 0} (next : A → Result Done Trouble → Type 0) → ((x : A) → IsLike (next x)) →
+    (r : Result A Trouble) (a b : Result Done Trouble)
     → MatchResult r (λ x. next x a) (λ e. a ≡ Err e) → MatchResult r (λ x. next x b) (λ e. b ≡ Err e) → AreAlike a b
 like_at next like (Ok x) a b h k = like x a b h k
 like_at next like (Err e) a b h k = same_alike a b (h ∙ sym k)
@@ -71,7 +75,8 @@ pub then_like : {A : Type 0} (first : Result A Trouble → Type 0) (next : A →
     → IsOne first → ((x : A) → IsLike (next x)) → IsLike (Then first next)
 then_like {A} first next one like a b h k =
     let same = one h.0 k.0 h.1 k.1 in
-    like_at next like h.0 a b h.2 (subst (λ (r : Result A Trouble). MatchResult r (λ x. next x b) (λ e. b ≡ Err e)) (sym same) k.2)
+    like_at next like h.0 a b h.2 (subst (λ (r : Result A Trouble). MatchResult r (λ x. next x b) (λ e. b ≡ Err e))
+    (sym same) k.2)
 
 -- ---- want of memory
 
@@ -80,6 +85,7 @@ pub is_no_fault : (outcome : Result Done Trouble) → IfErr outcome (λ e. e ≡
 is_no_fault (Ok d) memory fault = fault
 is_no_fault (Err e) memory fault = subst (λ (x : Trouble). IsReadFault {A = Done} (Err x)) memory fault
 
-pub not_the_words : (outcome : Result Done Trouble) → IfErr outcome (λ e. e ≡ trouble.NoMemory) → IfErr outcome (λ e. e ≢ trouble.Words)
+pub not_the_words : (outcome : Result Done Trouble) → IfErr outcome (λ e. e ≡ trouble.NoMemory) → IfErr outcome
+    (λ e. e ≢ trouble.Words)
 not_the_words (Ok d) memory = tt
 not_the_words (Err e) memory = λ words. cc

@@ -13,8 +13,8 @@ EndAlike Told other = other ≡ Told
 EndAlike Decided other = IsOfQuestion other
 EndAlike Undecided other = IsOfQuestion other
 
--- texts that there are just to tell, or answers to a question, or one trouble; or an answer, and that a query has more answers over a
--- completion than are gone through
+-- texts that there are just to tell, or answers to a question, or one trouble; or an answer, and that a query has more
+-- answers over a completion than are gone through
 abbrev pub AreAlike : Result Done Trouble → Result Done Trouble → Type 0
 AreAlike (Ok d) (Ok e) = EndAlike d.ending e.ending
 AreAlike (Ok d) (Err e) = IsOfQuestion d.ending × (e ≡ Limit 3)

@@ -33,7 +33,8 @@ text_trouble name text.NoMemory = trouble.NoMemory
 -- the trouble that a fault of binding is; where it names no table it is in the text
 abbrev pub bind_trouble : List ℕ → BindFault → Trouble
 bind_trouble name (bind.Refused refusal) = trouble.Refused refusal.code (unwrap_or refusal.document name) refusal.line
-bind_trouble name (bind.CopyDiffers document line target source) = trouble.CopyDiffers (unwrap_or document name) line target source
+bind_trouble name (bind.CopyDiffers document line target source) = trouble.CopyDiffers (unwrap_or document name) line
+    target source
 bind_trouble name (bind.Limit k) = trouble.Limit k
 bind_trouble name (bind.ReadFault table) = trouble.ReadFault table
 bind_trouble name bind.NoMemory = trouble.NoMemory

@@ -32,7 +32,8 @@ document_text said name line = document_front said name line ++ 10 ∷ []
 -- the same of a row that differs from the one that it is copied from, with the two values, as constants are spelled
 abbrev pub difference_text : List ℕ → ℕ → Value → Value → List ℕ
 difference_text name line target source =
-    document_front (error_text code.CopyDiffers) name line ++ 32 ∷ [] ++ value_text target ++ 32 ∷ [] ++ value_text source ++ 10 ∷ []
+    document_front (error_text code.CopyDiffers) name line ++ 32 ∷ [] ++ value_text target ++ 32 ∷ []
+    ++ value_text source ++ 10 ∷ []
 
 -- the line of a refusal; for want of memory nothing is written
 abbrev pub trouble_text : Trouble → List ℕ

@@ -14,7 +14,8 @@ use spec_syntax::one_specification;
 pub fn one_read()
     ensures specs { (told : List (List ℕ × List ℕ)) (name : List ℕ) (a b : Result Spec Trouble)
         → IsSpecRead told name a → IsSpecRead told name b → a ≡ b }
-    ensures questions { (told : List (List ℕ × List ℕ)) (relations : List Relation) (name : List ℕ) (a b : Result Question Trouble)
+    ensures questions { (told : List (List ℕ × List ℕ)) (relations : List Relation) (name : List ℕ)
+        (a b : Result Question Trouble)
         → IsQuestionRead told relations name a → IsQuestionRead told relations name b → a ≡ b }
 {
     one_specification();

@@ -35,7 +35,8 @@ pub fn read_bytes<S: Shelf>(
     ensures whole { IfOk result (λ bytes. IfSome (S.texts shelf.old) (λ told. bytes.items ≡ document told name.now)) }
     ensures within { IfOk result (λ bytes. vec_len bytes ≤ at_most) }
     ensures long { IfErr result (λ e. IsDetermined e → (e ≡ Trouble.Limit 1)) }
-    ensures longer { IfErr result (λ e. IsDetermined e → IfSome (S.texts shelf.old) (λ told. at_most < length (document told name.now))) }
+    ensures longer { IfErr result (λ e. IsDetermined e → IfSome (S.texts shelf.old)
+        (λ told. at_most < length (document told name.now))) }
     ensures read_fault { IsReadFault result → Rose (S.faults shelf.old) (S.faults shelf.new) }
     ensures named { (n : List ℕ) → IsReadFaultOf result n → n ≡ name.now }
     ensures not_words { IfErr result (λ e. e ≢ Trouble.Words) }

@@ -96,7 +96,8 @@ fn question_said<S: Shelf>(
 ) -> Result<Question, Trouble>
     ensures kept { S.texts shelf.new ≡ S.texts shelf.old }
     ensures later { S.faults shelf.old ≤ S.faults shelf.new }
-    ensures said { IsSettled result → IfSome (S.texts shelf.old) (λ told. IsQuestionSaid told spec.now.relations name.now bytes.now result) }
+    ensures said { IsSettled result → IfSome (S.texts shelf.old)
+        (λ told. IsQuestionSaid told spec.now.relations name.now bytes.now result) }
     ensures fits { IfOk result (IsQuestionOn spec.now.relations) }
     ensures read_fault { IsReadFault result → Rose (S.faults shelf.old) (S.faults shelf.new) }
     ensures unread { (n : List ℕ) → IsReadFaultOf result n
@@ -122,7 +123,8 @@ pub fn read_the_question<S: Shelf>(
 ) -> Result<Question, Trouble>
     ensures kept { S.texts shelf.new ≡ S.texts shelf.old }
     ensures later { S.faults shelf.old ≤ S.faults shelf.new }
-    ensures stage { IsSettled result → IfSome (S.texts shelf.old) (λ told. IsQuestionRead told spec.now.relations name.now result) }
+    ensures stage { IsSettled result → IfSome (S.texts shelf.old)
+        (λ told. IsQuestionRead told spec.now.relations name.now result) }
     ensures fits { IfOk result (IsQuestionOn spec.now.relations) }
     ensures read_fault { IsReadFault result → Rose (S.faults shelf.old) (S.faults shelf.new) }
     ensures unread { (n : List ℕ) → IsReadFaultOf result n

@@ -26,8 +26,10 @@ pub record AreIndexed (relations : List Relation) (query : Query) (c : Rankings)
   pub of_query : ix.query ≡ query
   pub current : IsCurrentInstance relations c ix.instance
 
-pub indexed_of : (relations : List Relation) (query : Query) (c : Rankings) (instance : List (List (List Value))) (ix : IndexedQuery)
-    → IsCurrentInstance relations c instance → ix ≡ record { query = query; instance = instance } → AreIndexed relations query c ix
+pub indexed_of : (relations : List Relation) (query : Query) (c : Rankings) (instance : List (List (List Value)))
+    (ix : IndexedQuery)
+    → IsCurrentInstance relations c instance → ix ≡ record { query = query; instance = instance }
+    → AreIndexed relations query c ix
 indexed_of relations query c instance ix current same =
     record {
       of_query = ap (λ (x : IndexedQuery). x.query) same;
@@ -35,15 +37,23 @@ indexed_of relations query c instance ix current same =
     }
 
 pub in_completion : (relations : List Relation) (query : Query) (c : Rankings) (ix : IndexedQuery)
-    → AreIndexed relations query c ix → (tuple : List Value) → IsAnswer ix.query ix.instance tuple → IsAnswerIn relations query tuple c
+    → AreIndexed relations query c ix → (tuple : List Value) → IsAnswer ix.query ix.instance tuple
+    → IsAnswerIn relations query tuple c
 in_completion relations query c ix are tuple is =
-    record { instance = ix.instance; is_current = are.current; is_answer = subst (λ q. IsAnswer q ix.instance tuple) are.of_query is }
+    record {
+      instance = ix.instance;
+      is_current = are.current;
+      is_answer = subst (λ q. IsAnswer q ix.instance tuple)
+          are.of_query is;
+    }
 
 pub in_instance : OneInstance → (relations : List Relation) (query : Query) (c : Rankings) (ix : IndexedQuery)
-    → AreIndexed relations query c ix → (tuple : List Value) → IsAnswerIn relations query tuple c → IsAnswer ix.query ix.instance tuple
+    → AreIndexed relations query c ix → (tuple : List Value) → IsAnswerIn relations query tuple c
+    → IsAnswer ix.query ix.instance tuple
 in_instance one relations query c ix are tuple is =
     subst (λ q. IsAnswer q ix.instance tuple) (sym are.of_query)
-    (subst (λ (x : List (List (List Value))). IsAnswer query x tuple) (one relations c is.instance ix.instance is.is_current are.current)
+    (subst (λ (x : List (List (List Value))). IsAnswer query x tuple)
+    (one relations c is.instance ix.instance is.is_current are.current)
     is.is_answer)
 
 -- a tuple that is none of the answers over the instance is none of the completion
@@ -51,7 +61,8 @@ pub not_all_in : OneInstance → (relations : List Relation) (query : Query) (c 
     → AreIndexed relations query c ix → (tuples : Tuples) → (All (IsAnswer ix.query ix.instance) tuples → ⊥)
     → All (λ tuple. IsAnswerIn relations query tuple c) tuples → ⊥
 not_all_in one relations query c ix are tuples never all =
-    never (All-weaker (IsIn relations query c) (IsAnswer ix.query ix.instance) (in_instance one relations query c ix are) tuples all)
+    never (All-weaker (IsIn relations query c) (IsAnswer ix.query ix.instance)
+    (in_instance one relations query c ix are) tuples all)
 
 -- ---- the first completion, and one more
 
@@ -110,7 +121,8 @@ left_more one relations query c ix are tuples old new all kept earlier left =
 nothing_in : {A : Type 0} (x : A) → Contains [] x → ⊥
 nothing_in x is = absurd (omega (arith, is.1))
 
-pub common_none_left : (relations : List Relation) (query : Query) (tuples : Tuples) (completions : List Rankings) (others : Tuples)
+pub common_none_left : (relations : List Relation) (query : Query) (tuples : Tuples) (completions : List Rankings)
+    (others : Tuples)
     → others ≡ [] → AreLeft relations query tuples completions others → AreCommon relations query tuples completions
 common_none_left relations query tuples completions others none left =
     record {
@@ -122,7 +134,8 @@ common_none_left relations query tuples completions others none left =
           (left.all t every);
     }
 
-pub not_common_some_left : (relations : List Relation) (query : Query) (tuples : Tuples) (completions : List Rankings) (others : Tuples)
+pub not_common_some_left : (relations : List Relation) (query : Query) (tuples : Tuples)
+    (completions : List Rankings) (others : Tuples)
     → (others ≡ [] → ⊥) → AreLeft relations query tuples completions others → AreCommon relations query tuples completions → ⊥
 not_common_some_left relations query tuples completions [] some left common = some refl
 not_common_some_left relations query tuples completions (t ∷ others) some left common =

@@ -72,7 +72,8 @@ pub rest_push : (answers tuples rest : Tuples) (t : List Value) → (Contains tu
     → IsRest (answers ++ t ∷ []) tuples (rest ++ t ∷ [])
 rest_push answers tuples rest t apart is =
     record {
-      of_answers = All-push (Contains (answers ++ t ∷ [])) rest t (more_of answers rest t is.of_answers) (Contains-push answers t);
+      of_answers = All-push (Contains (answers ++ t ∷ [])) rest t (more_of answers rest t is.of_answers)
+          (Contains-push answers t);
       apart = All-push (λ u. Contains tuples u → ⊥) rest t is.apart apart;
       all = λ u of_them.
           ⊎_elim
@@ -96,7 +97,8 @@ pub still_none : (P : List Value → Type 0) (tuples : Tuples) → AreStill P tu
 still_none P tuples = record { within = All-nil (λ place. place < length tuples); kept = kept_none P }
 
 -- one place more, of a tuple of which it holds
-pub still_found : (P : List Value → Type 0) (tuples : Tuples) (places : List ℕ) (i place : ℕ) (t : List Value) (kept next : List ℕ)
+pub still_found : (P : List Value → Type 0) (tuples : Tuples) (places : List ℕ) (i place : ℕ) (t : List Value)
+    (kept next : List ℕ)
     → slice_get places i ≡ Some place → slice_get tuples place ≡ Some t → P t → next ≡ kept ++ place ∷ []
     → AreStill P tuples (take i places) kept → AreStill P tuples (take (i + 1) places) next
 still_found P tuples places i place t kept next at is holds pushed still =

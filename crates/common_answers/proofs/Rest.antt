@@ -105,7 +105,8 @@ merged_there total answers tuples at from next left a ascending is below there m
     }
 
 -- and one that is none
-pub merged_apart : IsTotal → (answers tuples : Tuples) (at from next : ℕ) (left more : List ℕ) (a : List Value) → AreAscending answers
+pub merged_apart : IsTotal → (answers tuples : Tuples) (at from next : ℕ) (left more : List ℕ) (a : List Value)
+    → AreAscending answers
     → AreAscending tuples → slice_get answers at ≡ Some a → AreBelow tuples from next a
     → ((t : List Value) → slice_get tuples next ≡ Some t → IsBelow t a → ⊥) → (slice_get tuples next ≡ Some a → ⊥)
     → more ≡ left ++ at ∷ [] → AreMerged answers tuples at from left → AreMerged answers tuples (at + 1) next more

@@ -26,8 +26,10 @@ pub record IsKept (P : List Value → Type 0) (old new : Tuples) : Type 0 where
   pub all : (tuple : List Value) → Contains old tuple → P tuple → Contains new tuple
 
 -- the tuples are answers in each of the completions, and exactly these others are too
-pub record AreLeft (relations : List Relation) (query : Query) (tuples : Tuples) (completions : List Rankings) (others : Tuples) : Type 0 where
+pub record AreLeft (relations : List Relation) (query : Query) (tuples : Tuples) (completions : List Rankings)
+    (others : Tuples) : Type 0 where
   pub each : All (λ tuple. All (IsAnswerIn relations query tuple) completions) tuples
   pub other : All (λ tuple. All (IsAnswerIn relations query tuple) completions) others
   pub apart : All (λ tuple. Contains tuples tuple → ⊥) others
-  pub all : (tuple : List Value) → All (IsAnswerIn relations query tuple) completions → Contains tuples tuple ⊎ Contains others tuple
+  pub all : (tuple : List Value) → All (IsAnswerIn relations query tuple) completions → Contains tuples tuple ⊎
+      Contains others tuple

@@ -38,7 +38,8 @@ precedes_more to_rel to_attr to_ent rel attr ent (by_attr e h) = inl (by_attr e 
 precedes_more to_rel to_attr to_ent rel attr ent (by_ent e f h) =
     ⊎_elim (λ (g : ent < to_ent). inl (by_ent e f g)) (λ (g : to_ent ≤ ent). inr (e, f, omega arith)) (cases_lt ent to_ent)
 
-precedes_still : (to_rel to_attr to_ent : ℕ) {rel attr ent : ℕ} → Precedes to_rel to_attr to_ent rel attr ent → Precedes to_rel to_attr (to_ent + 1) rel attr ent
+precedes_still : (to_rel to_attr to_ent : ℕ) {rel attr ent : ℕ} → Precedes to_rel to_attr to_ent rel attr ent
+    → Precedes to_rel to_attr (to_ent + 1) rel attr ent
 precedes_still to_rel to_attr to_ent (by_rel h) = by_rel h
 precedes_still to_rel to_attr to_ent (by_attr e h) = by_attr e h
 precedes_still to_rel to_attr to_ent (by_ent e f h) = by_ent e f (omega arith)
@@ -69,12 +70,14 @@ place_less to_rel to_attr to_ent (by_attr {rel = rel} {attr = attr} e h) = rw (e
 place_less to_rel to_attr to_ent (by_ent {rel = rel} {attr = attr} {ent = ent} e f h) =
     rw (e, f, nat_same to_rel, nat_same to_attr, nat_less ent to_ent h) refl
 
-push_by_recursion : {K : Type 0} (P : K → Type 0) (xs : List K) (y : K) → AllByRecursion P xs → P y → AllByRecursion P (xs ++ y ∷ [])
+push_by_recursion : {K : Type 0} (P : K → Type 0) (xs : List K) (y : K) → AllByRecursion P xs → P y
+    → AllByRecursion P (xs ++ y ∷ [])
 push_by_recursion P [] y all here = (here, tt)
 push_by_recursion P (x ∷ xs) y all here = (all.0, push_by_recursion P xs y all.1 here)
 
 -- an item that is behind all others
-sorted_push : {K : Type 0} (cmp : K → K → Ordering) (xs : List K) (y : K) → IsStrictlySortedBy cmp xs → All (λ x. cmp x y ≡ Less) xs
+sorted_push : {K : Type 0} (cmp : K → K → Ordering) (xs : List K) (y : K) → IsStrictlySortedBy cmp xs
+    → All (λ x. cmp x y ≡ Less) xs
     → IsStrictlySortedBy cmp (xs ++ y ∷ [])
 unfolding IsStrictlySortedBy
 sorted_push cmp [] y sorted less = (tt, tt)
@@ -91,7 +94,8 @@ pub record IsPlace (c : Rankings) (rel attr ent : ℕ) : Type 0 where
   pub in_relation : attr < length (get_or c rel [])
   pub in_attribute : ent < length (lists_of c rel attr)
 
-pub is_place : (relations : List Relation) (c : Rankings) (rel attr ent : ℕ) (r : Relation) → HasShape relations c → slice_get relations rel ≡ Some r
+pub is_place : (relations : List Relation) (c : Rankings) (rel attr ent : ℕ) (r : Relation) → HasShape relations c
+    → slice_get relations rel ≡ Some r
     → attr < length r.attrs → ent < length r.entities → IsPlace c rel attr ent
 is_place relations c rel attr ent r shape at attr_within ent_within = record {
   in_all = omega (arith, shape.per_relation, slice_get_within relations rel r at);
@@ -116,13 +120,15 @@ read_before : (c : Rankings) (to_rel to_attr to_ent : ℕ) (list : List RowId) �
 read_before c to_rel to_attr to_ent list is (by_rel {rel = rel} {attr = attr} {ent = ent} h) =
     let lists = set (lists_of c to_rel to_attr) to_ent list in
     let attrs = set (get_or c to_rel []) to_attr lists in
-    ap (λ (x : List (List (List RowId))). get_or (get_or x attr []) ent []) (get_or-set_other c to_rel rel attrs [] (λ (e : rel ≡ to_rel). omega arith))
+    ap (λ (x : List (List (List RowId))). get_or (get_or x attr []) ent [])
+    (get_or-set_other c to_rel rel attrs [] (λ (e : rel ≡ to_rel). omega arith))
 read_before c to_rel to_attr to_ent list is (by_attr {rel = rel} {attr = attr} {ent = ent} e h) =
     let lists = set (lists_of c to_rel to_attr) to_ent list in
     let attrs = set (get_or c to_rel []) to_attr lists in
     rw e
     (ap (λ (x : List (List (List RowId))). get_or (get_or x attr []) ent []) (get_or-set_same c to_rel attrs [] is.in_all)
-    ∙ ap (λ (x : List (List RowId)). get_or x ent []) (get_or-set_other (get_or c to_rel []) to_attr attr lists [] (λ (f : attr ≡ to_attr). omega arith)))
+    ∙ ap (λ (x : List (List RowId)). get_or x ent []) (get_or-set_other (get_or c to_rel []) to_attr attr lists []
+    (λ (f : attr ≡ to_attr). omega arith)))
 read_before c to_rel to_attr to_ent list is (by_ent {rel = rel} {attr = attr} {ent = ent} e f h) =
     let lists = set (lists_of c to_rel to_attr) to_ent list in
     let attrs = set (get_or c to_rel []) to_attr lists in
@@ -132,8 +138,10 @@ read_before c to_rel to_attr to_ent list is (by_ent {rel = rel} {attr = attr} {e
     ∙ get_or-set_other (lists_of c to_rel to_attr) to_ent ent list [] (λ (g : ent ≡ to_ent). omega arith))
 
 -- what holds at a place holds where its numbers and its relation are the same
-at_place : (relations : List Relation) (P : RelId → AttrId → ℕ → Relation → Type 0) (rel rel' : RelId) (attr attr' : AttrId) (ent ent' : ℕ) (r r' : Relation)
-    → slice_get relations rel.0 ≡ Some r → slice_get relations rel'.0 ≡ Some r' → (rel'.0 ≡ rel.0) × (attr'.0 ≡ attr.0) × (ent' ≡ ent)
+at_place : (relations : List Relation) (P : RelId → AttrId → ℕ → Relation → Type 0) (rel rel' : RelId)
+    (attr attr' : AttrId) (ent ent' : ℕ) (r r' : Relation)
+    → slice_get relations rel.0 ≡ Some r → slice_get relations rel'.0 ≡ Some r' → (rel'.0 ≡ rel.0) ×
+    (attr'.0 ≡ attr.0) × (ent' ≡ ent)
     → P rel attr ent r → P rel' attr' ent' r'
 at_place relations P rel rel' attr attr' ent ent' r r' at at' same holds =
     let rel_is : rel' ≡ rel = ap (λ (n : ℕ). let x : RelId = record { 0 = n } in x) same.0 in
@@ -145,12 +153,14 @@ module _ (relations : List Relation) (n : Numbers) (truths : List Bool) (rel : R
     (at : slice_get relations rel.0 ≡ Some r) (attr_within : attr.0 < length r.attrs) (ent_within : ent < length r.entities)
     (c : Rankings) (cycles : List Cycle) (built : AreBuilt relations n truths rel.0 attr.0 ent c cycles) where
   -- one more list that has an order
-  list_more : (list : List RowId) → IsOrdered (contest_of n truths rel attr r ent) list → HasShape relations (with_ranking c rel.0 attr.0 ent list)
+  list_more : (list : List RowId) → IsOrdered (contest_of n truths rel attr r ent) list → HasShape relations
+      (with_ranking c rel.0 attr.0 ent list)
       → AreBuilt relations n truths rel.0 attr.0 (ent + 1) (with_ranking c rel.0 attr.0 ent list) cycles
   list_more list ordered shape =
       let place = is_place relations c rel.0 attr.0 ent r built.shape at attr_within ent_within in
       let next = with_ranking c rel.0 attr.0 ent list in
-      let here : IsOrdered (contest_of n truths rel attr r ent) (ranking_of next rel.0 attr.0 ent) = rw (read_put c rel.0 attr.0 ent list place) ordered in
+      let here : IsOrdered (contest_of n truths rel attr r ent) (ranking_of next rel.0 attr.0 ent) =
+      rw (read_put c rel.0 attr.0 ent list place) ordered in
       record {
         shape = shape;
         lists = λ rel' attr' ent' r' at' attr_below ent_below before.
@@ -159,20 +169,24 @@ module _ (relations : List Relation) (n : Numbers) (truths : List Bool) (rel : R
             subst (λ (l : List RowId). IsOrdered (contest_of n truths rel' attr' r' ent') l ⊎ IsOfOne cycles rel'.0 attr'.0 ent')
             (sym (read_before c rel.0 attr.0 ent list place h)) (built.lists rel' attr' ent' r' at' attr_below ent_below h))
             (λ (h : (rel'.0 ≡ rel.0) × (attr'.0 ≡ attr.0) × (ent' ≡ ent)).
-            inl (at_place relations (λ (q : RelId) (a : AttrId) (e : ℕ) (s : Relation). IsOrdered (contest_of n truths q a s e) (ranking_of next q.0 a.0 e))
+            inl (at_place relations (λ (q : RelId) (a : AttrId) (e : ℕ) (s : Relation). IsOrdered
+            (contest_of n truths q a s e) (ranking_of next q.0 a.0 e))
             rel rel' attr attr' ent ent' r r' at at' h here))
             (precedes_more rel.0 attr.0 ent rel'.0 attr'.0 ent' before);
         each = built.each;
-        before = All-weaker (λ (x : Cycle). Precedes rel.0 attr.0 ent x.rel.0 x.attr.0 x.ent.0) (λ (x : Cycle). Precedes rel.0 attr.0 (ent + 1) x.rel.0 x.attr.0 x.ent.0)
+        before = All-weaker (λ (x : Cycle). Precedes rel.0 attr.0 ent x.rel.0 x.attr.0 x.ent.0)
+            (λ (x : Cycle). Precedes rel.0 attr.0 (ent + 1) x.rel.0 x.attr.0 x.ent.0)
             (λ x h. precedes_still rel.0 attr.0 ent h) cycles built.before;
         ascend = built.ascend;
       }
 
   -- a cycle of this list
-  round_is_cycle : (cycle : Cycle) → IsRound (contest_of n truths rel attr r ent) ent cycle → IsCycle relations (statements_of n) truths cycle
+  round_is_cycle : (cycle : Cycle) → IsRound (contest_of n truths rel attr r ent) ent cycle → IsCycle relations
+      (statements_of n) truths cycle
   round_is_cycle cycle is =
       let same : (cycle.rel ≡ rel) × (cycle.attr ≡ attr) × (cycle.ent.0 ≡ ent) = (is.rel_is, is.attr_is, is.ent_is) in
-      let put : (t u : RowId) → IsPut (statements_of n) truths rel attr r ent t u → IsPut (statements_of n) truths cycle.rel cycle.attr r cycle.ent.0 t u =
+      let put : (t u : RowId) → IsPut (statements_of n) truths rel attr r ent t u → IsPut (statements_of n) truths
+      cycle.rel cycle.attr r cycle.ent.0 t u =
       λ t u h. rw (same.0, same.1, same.2) h in
       let first_of = entity_is r.rows ent cycle.first is.has_first in
       let second_of = entity_is r.rows ent cycle.second is.has_second in
@@ -182,8 +196,10 @@ module _ (relations : List Relation) (n : Numbers) (truths : List Bool) (rel : R
         is_relation = rw same.0 at;
         attr_within = rw same.1 attr_within;
         ent_within = rw same.2 ent_within;
-        first_second = put cycle.first cycle.second (record { first_of = first_of; second_of = second_of; put = is.first_second });
-        second_third = put cycle.second cycle.third (record { first_of = second_of; second_of = third_of; put = is.second_third });
+        first_second = put cycle.first cycle.second
+            (record { first_of = first_of; second_of = second_of; put = is.first_second });
+        second_third = put cycle.second cycle.third
+            (record { first_of = second_of; second_of = third_of; put = is.second_third });
         third_first = put cycle.third cycle.first (record { first_of = third_of; second_of = first_of; put = is.third_first });
       }
 
@@ -197,9 +213,11 @@ module _ (relations : List Relation) (n : Numbers) (truths : List Bool) (rel : R
       record { cycle = cycle; is_in = Contains-push cycles cycle; rel_is = rel_is; attr_is = attr_is; ent_is = is.ent_is } in
       let less : (x : Cycle) → Precedes rel.0 attr.0 ent x.rel.0 x.attr.0 x.ent.0 → cycle_cmp x cycle ≡ Less = λ x h.
       rw (rel_is, attr_is, is.ent_is) (place_less rel.0 attr.0 ent h) in
-      let still : (x : Cycle) → Precedes rel.0 attr.0 ent x.rel.0 x.attr.0 x.ent.0 → Precedes rel.0 attr.0 (ent + 1) x.rel.0 x.attr.0 x.ent.0 =
+      let still : (x : Cycle) → Precedes rel.0 attr.0 ent x.rel.0 x.attr.0 x.ent.0 → Precedes rel.0 attr.0 (ent + 1)
+      x.rel.0 x.attr.0 x.ent.0 =
       λ x h. precedes_still rel.0 attr.0 ent h in
-      let last : Precedes rel.0 attr.0 (ent + 1) cycle.rel.0 cycle.attr.0 cycle.ent.0 = by_ent rel_is attr_is (omega (arith, is.ent_is)) in
+      let last : Precedes rel.0 attr.0 (ent + 1) cycle.rel.0 cycle.attr.0 cycle.ent.0 = by_ent rel_is attr_is
+      (omega (arith, is.ent_is)) in
       record {
         shape = built.shape;
         lists = λ rel' attr' ent' r' at' attr_below ent_below before.
@@ -208,15 +226,24 @@ module _ (relations : List Relation) (n : Numbers) (truths : List Bool) (rel : R
             ⊎_elim
             (λ (g : IsOrdered (contest_of n truths rel' attr' r' ent') (ranking_of c rel'.0 attr'.0 ent')). inl g)
             (λ (g : IsOfOne cycles rel'.0 attr'.0 ent').
-            inr (record { cycle = g.cycle; is_in = Contains-append_left cycles (cycle ∷ []) g.cycle g.is_in; rel_is = g.rel_is; attr_is = g.attr_is; ent_is = g.ent_is }))
+            inr (record {
+              cycle = g.cycle;
+              is_in = Contains-append_left cycles (cycle ∷ []) g.cycle g.is_in;
+              rel_is =
+                  g.rel_is;
+              attr_is = g.attr_is;
+              ent_is = g.ent_is;
+            }))
             (built.lists rel' attr' ent' r' at' attr_below ent_below h))
             (λ (h : (rel'.0 ≡ rel.0) × (attr'.0 ≡ attr.0) × (ent' ≡ ent)). inr (rw (h.0, h.1, h.2) here))
             (precedes_more rel.0 attr.0 ent rel'.0 attr'.0 ent' before);
         each = All-push (IsCycle relations (statements_of n) truths) cycles cycle built.each (round_is_cycle cycle is);
         before = All-push (λ (x : Cycle). Precedes rel.0 attr.0 (ent + 1) x.rel.0 x.attr.0 x.ent.0) cycles cycle
-            (All-weaker (λ (x : Cycle). Precedes rel.0 attr.0 ent x.rel.0 x.attr.0 x.ent.0) (λ (x : Cycle). Precedes rel.0 attr.0 (ent + 1) x.rel.0 x.attr.0 x.ent.0) still cycles built.before) last;
+            (All-weaker (λ (x : Cycle). Precedes rel.0 attr.0 ent x.rel.0 x.attr.0 x.ent.0)
+            (λ (x : Cycle). Precedes rel.0 attr.0 (ent + 1) x.rel.0 x.attr.0 x.ent.0) still cycles built.before) last;
         ascend = sorted_push cycle_cmp cycles cycle built.ascend
-            (All-weaker (λ (x : Cycle). Precedes rel.0 attr.0 ent x.rel.0 x.attr.0 x.ent.0) (λ (x : Cycle). cycle_cmp x cycle ≡ Less) less cycles built.before);
+            (All-weaker (λ (x : Cycle). Precedes rel.0 attr.0 ent x.rel.0 x.attr.0 x.ent.0)
+            (λ (x : Cycle). cycle_cmp x cycle ≡ Less) less cycles built.before);
       }
 
   -- one more list, by what is found of it

@@ -22,7 +22,8 @@ not_self false e = cc
 
 -- where the literal that says it is not true, the other of the two rows stands before the one
 pub other_way : OneLiteral → PairIsDecided → (n : Numbers) (truths : List Bool) → length truths ≡ length (statements_of n)
-    → (rel : RelId) (attr : AttrId) (t u : RowId) → IsPairOf n rel.0 attr.0 t u → (lit : Lit) → Says (statements_of n) lit (before rel attr t u)
+    → (rel : RelId) (attr : AttrId) (t u : RowId) → IsPairOf n rel.0 attr.0 t u → (lit : Lit)
+    → Says (statements_of n) lit (before rel attr t u)
     → slice_get truths (var_of lit) ≡ Some (is_negative lit) → IsSaidTrue (statements_of n) truths (before rel attr u t)
 other_way one decided n truths per rel attr t u pair lit says value =
     ⊎_elim
@@ -40,10 +41,12 @@ same_from false true e = cc
 same_from false false e = refl
 
 -- the same of a list, by what is read of the literal
-pub read_other : OneLiteral → PairIsDecided → (c : Contest) → IsContest c → (t u : RowId) → IsPairOf c.numbers c.rel.0 c.attr.0 t u → (lit : Lit)
+pub read_other : OneLiteral → PairIsDecided → (c : Contest) → IsContest c → (t u : RowId) → IsPairOf c.numbers
+    c.rel.0 c.attr.0 t u → (lit : Lit)
     → Says (statements_of c.numbers) lit (before c.rel c.attr t u) → (var : ℕ) → var ≡ var_of lit → (value negative : Bool)
     → slice_get c.truths var ≡ Some value → negative ≡ is_negative lit → OnFalse (not (beq value negative)) (Puts c u t)
-read_other one decided c is t u pair lit says var var_is value negative read negative_is = OnFalse_from (not (beq value negative)) (Puts c u t) (λ differ.
+read_other one decided c is t u pair lit says var var_is value negative read negative_is = OnFalse_from
+    (not (beq value negative)) (Puts c u t) (λ differ.
     let same : value ≡ negative = same_from value negative differ in
     other_way one decided c.numbers c.truths is.per_statement c.rel c.attr t u pair lit says
     (ap (slice_get c.truths) (sym var_is) ∙ read ∙ ap Some (same ∙ negative_is)))
@@ -53,16 +56,25 @@ pub not_both : PairExcludes → (c : Contest) (i j : ℕ) → Beats c i j → Be
 not_both exclude c i j a b =
     let first : b.second ≡ a.first = same_Some b.second a.first (sym b.is_second ∙ a.is_first) in
     let second : b.first ≡ a.second = same_Some b.first a.second (sym b.is_first ∙ a.is_second) in
-    let back : Puts c a.second a.first = subst (λ (u : RowId). Puts c u a.first) second (subst (λ (t : RowId). Puts c b.first t) first b.put) in
+    let back : Puts c a.second a.first = subst (λ (u : RowId). Puts c u a.first) second
+    (subst (λ (t : RowId). Puts c b.first t) first b.put) in
     exclude c.numbers c.truths c.rel c.attr a.first a.second a.put back
 
 -- nor does a place where the other row is put before its own
-pub not_put : PairExcludes → (c : Contest) (rows : List RowId) → rows ≡ c.rows → (d : RowId) (i j : ℕ) → i < length c.rows → j < length c.rows
+pub not_put : PairExcludes → (c : Contest) (rows : List RowId) → rows ≡ c.rows → (d : RowId) (i j : ℕ)
+    → i < length c.rows → j < length c.rows
     → Puts c (get_or rows j d) (get_or rows i d) → Beats c i j → ⊥
 not_put exclude c rows same d i j below_i below_j put beats =
     let at_i : slice_get c.rows i ≡ Some (get_or rows i d) = rw same (slice_get-get_or c.rows i d below_i) in
     let at_j : slice_get c.rows j ≡ Some (get_or rows j d) = rw same (slice_get-get_or c.rows j d below_j) in
-    not_both exclude c i j beats (record { first = get_or rows j d; second = get_or rows i d; is_first = at_j; is_second = at_i; put = put })
+    not_both exclude c i j beats (record {
+      first = get_or rows j d;
+      second = get_or rows i d;
+      is_first =
+          at_j;
+      is_second = at_i;
+      put = put;
+    })
 
 pub is_decided : PairIsDecided → PairExcludes → (c : Contest) → IsContest c → IsDecided (length c.rows) (Beats c)
 is_decided decided exclude c is = record {
@@ -82,4 +94,5 @@ is_decided decided exclude c is = record {
 -- no row stands at two places
 pub rows_once : (c : Contest) → IsContest c → OnlyOnce c.rows
 rows_once c is i j t at_i at_j =
-    ⊎_elim (λ (same : i ≡ j). same) (λ (differ : i ≡ j → ⊥). absurd ((is.pairs i j t t at_i at_j differ).differ refl)) (cases_eq i j)
+    ⊎_elim (λ (same : i ≡ j). same)
+    (λ (differ : i ≡ j → ⊥). absurd ((is.pairs i j t t at_i at_j differ).differ refl)) (cases_eq i j)

@@ -25,7 +25,8 @@ unfolding IsStrictlySortedBy
 none_sorted = tt
 
 -- no list is built
-pub built_none : (relations : List Relation) (n : Numbers) (truths : List Bool) (c : Rankings) → HasShape relations c → AreBuilt relations n truths 0 0 0 c []
+pub built_none : (relations : List Relation) (n : Numbers) (truths : List Bool) (c : Rankings) → HasShape relations c
+    → AreBuilt relations n truths 0 0 0 c []
 built_none relations n truths c shape = record {
   shape = shape;
   lists = λ rel attr ent r at attr_below ent_below before. absurd (none_before before);
@@ -36,13 +37,16 @@ built_none relations n truths c shape = record {
 
 -- ---- the places of the next attribute
 
-to_attr : (rel attr ent : ℕ) {rel' attr' ent' : ℕ} → Precedes rel attr ent rel' attr' ent' → Precedes rel (attr + 1) 0 rel' attr' ent'
+to_attr : (rel attr ent : ℕ) {rel' attr' ent' : ℕ} → Precedes rel attr ent rel' attr' ent' → Precedes rel (attr + 1)
+    0 rel' attr' ent'
 to_attr rel attr ent (by_rel h) = by_rel h
 to_attr rel attr ent (by_attr e h) = by_attr e (omega arith)
 to_attr rel attr ent (by_ent e f h) = by_attr e (omega arith)
 
-from_attr : (relations : List Relation) (rel attr ent : ℕ) (r r' : Relation) → slice_get relations rel ≡ Some r → length r.entities ≤ ent
-    → {rel' attr' ent' : ℕ} → slice_get relations rel' ≡ Some r' → ent' < length r'.entities → Precedes rel (attr + 1) 0 rel' attr' ent' → Precedes rel attr ent rel' attr' ent'
+from_attr : (relations : List Relation) (rel attr ent : ℕ) (r r' : Relation) → slice_get relations rel ≡ Some r
+    → length r.entities ≤ ent
+    → {rel' attr' ent' : ℕ} → slice_get relations rel' ≡ Some r' → ent' < length r'.entities → Precedes rel
+    (attr + 1) 0 rel' attr' ent' → Precedes rel attr ent rel' attr' ent'
 from_attr relations rel attr ent r r' at all at' below (by_rel h) = by_rel h
 from_attr relations rel attr ent r r' at all at' below (by_attr {rel = rel'} {attr = attr'} {ent = ent'} e h) =
     let r_is : r' ≡ r = same_Some r' r (sym at' ∙ ap (slice_get relations) e ∙ at) in
@@ -51,14 +55,17 @@ from_attr relations rel attr ent r r' at all at' below (by_attr {rel = rel'} {at
 from_attr relations rel attr ent r r' at all at' below (by_ent e f h) = absurd (omega arith)
 
 -- all lists of an attribute
-pub attribute_all : (relations : List Relation) (n : Numbers) (truths : List Bool) (rel attr ent : ℕ) (r : Relation) (c : Rankings) (cycles : List Cycle)
-    → slice_get relations rel ≡ Some r → length r.entities ≤ ent → AreBuilt relations n truths rel attr ent c cycles → AreBuilt relations n truths rel (attr + 1) 0 c cycles
+pub attribute_all : (relations : List Relation) (n : Numbers) (truths : List Bool) (rel attr ent : ℕ) (r : Relation)
+    (c : Rankings) (cycles : List Cycle)
+    → slice_get relations rel ≡ Some r → length r.entities ≤ ent → AreBuilt relations n truths rel attr ent c cycles
+    → AreBuilt relations n truths rel (attr + 1) 0 c cycles
 attribute_all relations n truths rel attr ent r c cycles at all built = record {
   shape = built.shape;
   lists = λ rel' attr' ent' r' at' attr_below ent_below before.
       built.lists rel' attr' ent' r' at' attr_below ent_below (from_attr relations rel attr ent r r' at all at' ent_below before);
   each = built.each;
-  before = All-weaker (λ (x : Cycle). Precedes rel attr ent x.rel.0 x.attr.0 x.ent.0) (λ (x : Cycle). Precedes rel (attr + 1) 0 x.rel.0 x.attr.0 x.ent.0)
+  before = All-weaker (λ (x : Cycle). Precedes rel attr ent x.rel.0 x.attr.0 x.ent.0)
+      (λ (x : Cycle). Precedes rel (attr + 1) 0 x.rel.0 x.attr.0 x.ent.0)
       (λ x h. to_attr rel attr ent h) cycles built.before;
   ascend = built.ascend;
 }
@@ -70,8 +77,10 @@ to_rel rel attr ent (by_rel h) = by_rel (omega arith)
 to_rel rel attr ent (by_attr e h) = by_rel (omega arith)
 to_rel rel attr ent (by_ent e f h) = by_rel (omega arith)
 
-from_rel : (relations : List Relation) (rel attr ent : ℕ) (r r' : Relation) → slice_get relations rel ≡ Some r → length r.attrs ≤ attr
-    → {rel' attr' ent' : ℕ} → slice_get relations rel' ≡ Some r' → attr' < length r'.attrs → Precedes (rel + 1) 0 0 rel' attr' ent' → Precedes rel attr ent rel' attr' ent'
+from_rel : (relations : List Relation) (rel attr ent : ℕ) (r r' : Relation) → slice_get relations rel ≡ Some r
+    → length r.attrs ≤ attr
+    → {rel' attr' ent' : ℕ} → slice_get relations rel' ≡ Some r' → attr' < length r'.attrs → Precedes (rel + 1) 0 0
+    rel' attr' ent' → Precedes rel attr ent rel' attr' ent'
 from_rel relations rel attr ent r r' at all at' below (by_rel {rel = rel'} {attr = attr'} {ent = ent'} h) =
     ⊎_elim (λ (g : rel' < rel). by_rel g)
     (λ (g : rel ≤ rel').
@@ -84,14 +93,17 @@ from_rel relations rel attr ent r r' at all at' below (by_attr e h) = absurd (om
 from_rel relations rel attr ent r r' at all at' below (by_ent e f h) = absurd (omega arith)
 
 -- all lists of a relation
-pub relation_all : (relations : List Relation) (n : Numbers) (truths : List Bool) (rel attr : ℕ) (r : Relation) (c : Rankings) (cycles : List Cycle)
-    → slice_get relations rel ≡ Some r → length r.attrs ≤ attr → AreBuilt relations n truths rel attr 0 c cycles → AreBuilt relations n truths (rel + 1) 0 0 c cycles
+pub relation_all : (relations : List Relation) (n : Numbers) (truths : List Bool) (rel attr : ℕ) (r : Relation)
+    (c : Rankings) (cycles : List Cycle)
+    → slice_get relations rel ≡ Some r → length r.attrs ≤ attr → AreBuilt relations n truths rel attr 0 c cycles
+    → AreBuilt relations n truths (rel + 1) 0 0 c cycles
 relation_all relations n truths rel attr r c cycles at all built = record {
   shape = built.shape;
   lists = λ rel' attr' ent' r' at' attr_below ent_below before.
       built.lists rel' attr' ent' r' at' attr_below ent_below (from_rel relations rel attr 0 r r' at all at' attr_below before);
   each = built.each;
-  before = All-weaker (λ (x : Cycle). Precedes rel attr 0 x.rel.0 x.attr.0 x.ent.0) (λ (x : Cycle). Precedes (rel + 1) 0 0 x.rel.0 x.attr.0 x.ent.0)
+  before = All-weaker (λ (x : Cycle). Precedes rel attr 0 x.rel.0 x.attr.0 x.ent.0)
+      (λ (x : Cycle). Precedes (rel + 1) 0 0 x.rel.0 x.attr.0 x.ent.0)
       (λ x h. to_rel rel attr 0 h) cycles built.before;
   ascend = built.ascend;
 }

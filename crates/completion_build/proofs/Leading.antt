@@ -61,20 +61,24 @@ entity_back [] row ent e = cc
 entity_back (r ∷ rows) zero ent e = e
 entity_back (r ∷ rows) (suc row) ent e = entity_back rows row ent e
 
-pub entity_is : (rows : List Row) (ent : ℕ) (row : RowId) → Contains (rows_of (entities_of rows) ent) row → entity_of rows row.0 ≡ Some ent
+pub entity_is : (rows : List Row) (ent : ℕ) (row : RowId) → Contains (rows_of (entities_of rows) ent) row
+    → entity_of rows row.0 ≡ Some ent
 entity_is rows ent row has =
     let here = listed (rows_of (entities_of rows) ent) row has in
     entity_back rows row.0 ent (member_of (entities_of rows) ent here.place row here.at)
 
-pub is_member : (rows : List Row) (ent : ℕ) (row : RowId) → entity_of rows row.0 ≡ Some ent → Contains (rows_of (entities_of rows) ent) row
+pub is_member : (rows : List Row) (ent : ℕ) (row : RowId) → entity_of rows row.0 ≡ Some ent
+    → Contains (rows_of (entities_of rows) ent) row
 is_member rows ent row of =
     let found = found_in (entities_of rows) ent row (entity_read rows row.0 ent of) in
     contained (rows_of (entities_of rows) ent) found.0 row found.1
 
-module _ (exclude : PairExcludes) (n : Numbers) (truths : List Bool) (rel : RelId) (attr : AttrId) (r : Relation) (ent : ℕ) (list : List RowId)
+module _ (exclude : PairExcludes) (n : Numbers) (truths : List Bool) (rel : RelId) (attr : AttrId) (r : Relation)
+    (ent : ℕ) (list : List RowId)
     (is : IsOrdered (contest_of n truths rel attr r ent) list) where
   -- of two rows of the list the one that is put before the other stands before it
-  pub stands_before : (p q : ℕ) (t u : RowId) → slice_get list p ≡ Some t → slice_get list q ≡ Some u → Puts (contest_of n truths rel attr r ent) t u → p < q
+  pub stands_before : (p q : ℕ) (t u : RowId) → slice_get list p ≡ Some t → slice_get list q ≡ Some u
+      → Puts (contest_of n truths rel attr r ent) t u → p < q
   stands_before p q t u at_t at_u put =
       ⊎_elim
       (λ (h : p < q). h)
@@ -84,7 +88,8 @@ module _ (exclude : PairExcludes) (n : Numbers) (truths : List Bool) (rel : RelI
       (λ (g : p ≤ q).
       let same : p ≡ q = omega arith in
       let rows_same : t ≡ u = same_Some t u (sym at_t ∙ ap (slice_get list) same ∙ at_u) in
-      let itself : Puts (contest_of n truths rel attr r ent) u u = subst (λ (s : RowId). Puts (contest_of n truths rel attr r ent) s u) rows_same put in
+      let itself : Puts (contest_of n truths rel attr r ent) u u =
+      subst (λ (s : RowId). Puts (contest_of n truths rel attr r ent) s u) rows_same put in
       absurd (exclude n truths rel attr u u itself itself))
       (cases_lt q p))
       (cases_lt p q)
@@ -95,7 +100,8 @@ module _ (exclude : PairExcludes) (n : Numbers) (truths : List Bool) (rel : RelI
 
   pub no_cycle : HasCycle (statements_of n) truths rel attr r ent → ⊥
   no_cycle h =
-      none_leads (IsPut (statements_of n) truths rel attr r ent) list (λ t u put. of_entity_listed t put.first_of) (λ t u put. of_entity_listed u put.second_of)
+      none_leads (IsPut (statements_of n) truths rel attr r ent) list (λ t u put. of_entity_listed t put.first_of)
+      (λ t u put. of_entity_listed u put.second_of)
       (λ p q t u at_t at_u put. stands_before p q t u at_t at_u put.put) h.row h.leads
 
   pub is_ranking : IsRanking r.rows ent list

@@ -12,8 +12,10 @@ read_put : (c : Contest) (i j : ℕ) (d : RowId) → Beats c i j → Puts c (get
 read_put c i j d b =
     rw (get_or_from_slice_get c.rows i b.first d b.is_first, get_or_from_slice_get c.rows j b.second d b.is_second) b.put
 
-pub is_round : (c : Contest) (rows : List RowId) (ent i j k : ℕ) (d : RowId) (cycle : Cycle) → rows ≡ c.rows → Beats c i j → Beats c j k → Beats c k i
-    → cycle.rel ≡ c.rel → cycle.attr ≡ c.attr → cycle.ent.0 ≡ ent → cycle.first ≡ get_or rows i d → cycle.second ≡ get_or rows j d → cycle.third ≡ get_or rows k d
+pub is_round : (c : Contest) (rows : List RowId) (ent i j k : ℕ) (d : RowId) (cycle : Cycle) → rows ≡ c.rows
+    → Beats c i j → Beats c j k → Beats c k i
+    → cycle.rel ≡ c.rel → cycle.attr ≡ c.attr → cycle.ent.0 ≡ ent → cycle.first ≡ get_or rows i d
+    → cycle.second ≡ get_or rows j d → cycle.third ≡ get_or rows k d
     → IsRound c ent cycle
 is_round c rows ent i j k d cycle same a b e rel_is attr_is ent_is first second third =
     let first_is : cycle.first ≡ get_or c.rows i d = rw (← same) first in

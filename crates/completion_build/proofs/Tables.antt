@@ -15,7 +15,8 @@ use Rattle.completion_build.specs.Contests.{Contest, IsListOf, IsContest}
 use Rattle.completion_build.specs.Places.{contest_of}
 use Rattle.completion_build.specs.Sources.{Source, IsSource}
 
-pub is_contest : (numbers : Numbers) (truths : List Bool) (rel : RelId) (attr : AttrId) (ent : ℕ) (rows : List RowId) → IsListOf numbers truths rel.0 attr.0 ent
+pub is_contest : (numbers : Numbers) (truths : List Bool) (rel : RelId) (attr : AttrId) (ent : ℕ) (rows : List RowId)
+    → IsListOf numbers truths rel.0 attr.0 ent
     → ((table : Numbered) → slice_get numbers.tables rel.0 ≡ Some table → rows ≡ rows_of table.rows.entities ent)
     → IsContest (record { numbers = numbers; truths = truths; rel = rel; attr = attr; rows = rows })
 is_contest numbers truths rel attr ent rows of is =
@@ -39,7 +40,8 @@ is_contest numbers truths rel attr ent rows of is =
     }
 
 -- the relation of a number
-pub relation_at : (relations : List Relation) (rel : ℕ) → rel < length relations → (r : Relation) × (slice_get relations rel ≡ Some r)
+pub relation_at : (relations : List Relation) (rel : ℕ) → rel < length relations → (r : Relation) ×
+    (slice_get relations rel ≡ Some r)
 relation_at relations rel below =
     ⊎_elim
     (λ (w : (r : Relation) × (rel < length relations) × (slice_get relations rel ≡ Some r) × (get_or relations rel r ≡ r)). (w.0, w.2))
@@ -61,12 +63,21 @@ is_list_of s rel attr ent is below attr_within ent_within =
       ent_within = rw t.count_is (ent_within here.0 here.1);
     }
 
-same_contest : (c : Contest) (numbers : Numbers) (truths : List Bool) (rel : RelId) (attr : AttrId) (rows : List RowId) → c.numbers ≡ numbers → c.truths ≡ truths
-    → c.rel ≡ rel → c.attr ≡ attr → c.rows ≡ rows → c ≡ record { numbers = numbers; truths = truths; rel = rel; attr = attr; rows = rows }
+same_contest : (c : Contest) (numbers : Numbers) (truths : List Bool) (rel : RelId) (attr : AttrId)
+    (rows : List RowId) → c.numbers ≡ numbers → c.truths ≡ truths
+    → c.rel ≡ rel → c.attr ≡ attr → c.rows ≡ rows → c ≡ record {
+      numbers = numbers;
+      truths = truths;
+      rel =
+          rel;
+      attr = attr;
+      rows = rows;
+    }
 same_contest c numbers truths rel attr rows e f g h k = rw (← e, ← f, ← g, ← h, ← k) refl
 
 -- the contest that is made there
-pub contest_is : (s : Source) (c : Contest) (rel : RelId) (attr : AttrId) (ent : ℕ) (r : Relation) → IsSource s → slice_get s.relations rel.0 ≡ Some r
+pub contest_is : (s : Source) (c : Contest) (rel : RelId) (attr : AttrId) (ent : ℕ) (r : Relation) → IsSource s
+    → slice_get s.relations rel.0 ≡ Some r
     → c.numbers ≡ s.numbers → c.truths ≡ s.truths → c.rel ≡ rel → c.attr ≡ attr
     → ((table : Numbered) → slice_get s.numbers.tables rel.0 ≡ Some table → c.rows ≡ rows_of table.rows.entities ent)
     → c ≡ contest_of s.numbers s.truths rel attr r ent
@@ -76,8 +87,10 @@ contest_is s c rel attr ent r is at numbers_are truths_are rel_is attr_is rows_a
     (rows_are t.table t.is_table ∙ ap (λ (es : List ℕ). rows_of es ent) t.entities_are)
 
 -- what is numbered of a specification is of its relations
-pub is_source : (relations : List Relation) (wanted : Wanted) (numbers : Numbers) (truths : List Bool) → numbers ≡ numbers_of relations wanted
-    → length truths ≡ length (statements_of numbers) → IsSource (record { relations = relations; numbers = numbers; truths = truths })
+pub is_source : (relations : List Relation) (wanted : Wanted) (numbers : Numbers) (truths : List Bool)
+    → numbers ≡ numbers_of relations wanted
+    → length truths ≡ length (statements_of numbers)
+    → IsSource (record { relations = relations; numbers = numbers; truths = truths })
 is_source relations wanted numbers truths same per = record {
   per_statement = per;
   tables = λ rel r at. record {

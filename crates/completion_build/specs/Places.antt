@@ -26,10 +26,12 @@ contest_of numbers truths rel attr r ent =
 
 -- the lists at the places before one: each is ordered, or one of the cycles, which are of these lists and stand in their
 -- order, is of it
-pub record AreBuilt (relations : List Relation) (numbers : Numbers) (truths : List Bool) (to_rel to_attr to_ent : ℕ) (c : Rankings)
+pub record AreBuilt (relations : List Relation) (numbers : Numbers) (truths : List Bool) (to_rel to_attr to_ent : ℕ)
+    (c : Rankings)
     (cycles : List Cycle) : Type 0 where
   pub shape : HasShape relations c
-  pub lists : (rel : RelId) (attr : AttrId) (ent : ℕ) (r : Relation) → slice_get relations rel.0 ≡ Some r → attr.0 < length r.attrs
+  pub lists : (rel : RelId) (attr : AttrId) (ent : ℕ) (r : Relation) → slice_get relations rel.0 ≡ Some r
+      → attr.0 < length r.attrs
       → ent < length r.entities → Precedes to_rel to_attr to_ent rel.0 attr.0 ent
       → IsOrdered (contest_of numbers truths rel attr r ent) (ranking_of c rel.0 attr.0 ent) ⊎ IsOfOne cycles rel.0 attr.0 ent
   pub each : All (IsCycle relations (statements_of numbers) truths) cycles

@@ -17,7 +17,8 @@ use Rattle.completion_build.specs.declared.built.Built.TheVariants.{Whole, Cycli
 use Rattle.completion_build.specs.declared.built.Cycle.{Cycle}
 
 -- of two rows of an entity, an assignment says that the first stands before the second
-pub record IsPut (statements : List Statement) (truths : List Bool) (rel : RelId) (attr : AttrId) (r : Relation) (ent : ℕ) (first second : RowId) : Type 0 where
+pub record IsPut (statements : List Statement) (truths : List Bool) (rel : RelId) (attr : AttrId) (r : Relation)
+    (ent : ℕ) (first second : RowId) : Type 0 where
   pub first_of : entity_of r.rows first.0 ≡ Some ent
   pub second_of : entity_of r.rows second.0 ≡ Some ent
   pub put : IsSaidTrue statements truths (before rel attr first second)
@@ -28,7 +29,8 @@ pub data Leads (put : RowId → RowId → Type 0) : RowId → RowId → Type 0 w
   more : {a b c : RowId} → put a b → Leads put b c → Leads put a c
 
 -- a list has a cycle: a row of an entity leads to itself
-pub record HasCycle (statements : List Statement) (truths : List Bool) (rel : RelId) (attr : AttrId) (r : Relation) (ent : ℕ) : Type 0 where
+pub record HasCycle (statements : List Statement) (truths : List Bool) (rel : RelId) (attr : AttrId) (r : Relation)
+    (ent : ℕ) : Type 0 where
   pub row : RowId
   pub leads : Leads (IsPut statements truths rel attr r ent) row row
 
@@ -55,7 +57,8 @@ abbrev pub cycle_cmp : Cycle → Cycle → Ordering
 cycle_cmp a b = slice_cmp nat_cmp (a.rel.0 ∷ a.attr.0 ∷ a.ent.0 ∷ []) (b.rel.0 ∷ b.attr.0 ∷ b.ent.0 ∷ [])
 
 -- a cycle of each list that has one, in the order of the lists
-pub record AreCycles (relations : List Relation) (statements : List Statement) (truths : List Bool) (cycles : List Cycle) : Type 0 where
+pub record AreCycles (relations : List Relation) (statements : List Statement) (truths : List Bool)
+    (cycles : List Cycle) : Type 0 where
   pub each : All (IsCycle relations statements truths) cycles
   pub all : (rel : RelId) (attr : AttrId) (ent : ℕ) (r : Relation) → slice_get relations rel.0 ≡ Some r → attr.0 < length r.attrs
       → ent < length r.entities → HasCycle statements truths rel attr r ent → IsOfOne cycles rel.0 attr.0 ent
@@ -63,15 +66,18 @@ pub record AreCycles (relations : List Relation) (statements : List Statement) (
 
 -- no list has a cycle
 abbrev pub HasNoCycle : List Relation → List Statement → List Bool → Type 0
-HasNoCycle relations statements truths = (rel : RelId) (attr : AttrId) (ent : ℕ) (r : Relation) → slice_get relations rel.0 ≡ Some r
+HasNoCycle relations statements truths = (rel : RelId) (attr : AttrId) (ent : ℕ) (r : Relation) → slice_get relations
+    rel.0 ≡ Some r
     → attr.0 < length r.attrs → ent < length r.entities → HasCycle statements truths rel attr r ent → ⊥
 
 -- a completion in which a row stands before another exactly where the assignment says so
 pub record IsRankedBy (relations : List Relation) (statements : List Statement) (truths : List Bool) (c : Rankings) : Type 0 where
   pub completion : IsCompletion relations c
-  pub said : (rel : RelId) (attr : AttrId) (r : Relation) → slice_get relations rel.0 ≡ Some r → attr.0 < length r.attrs → (first second : RowId)
+  pub said : (rel : RelId) (attr : AttrId) (r : Relation) → slice_get relations rel.0 ≡ Some r
+      → attr.0 < length r.attrs → (first second : RowId)
       → Before (lists_of c rel.0 attr.0) first second → IsSaidTrue statements truths (before rel attr first second)
-  pub stands : (rel : RelId) (attr : AttrId) (r : Relation) → slice_get relations rel.0 ≡ Some r → attr.0 < length r.attrs → (first second : RowId)
+  pub stands : (rel : RelId) (attr : AttrId) (r : Relation) → slice_get relations rel.0 ≡ Some r
+      → attr.0 < length r.attrs → (first second : RowId)
       → IsSaidTrue statements truths (before rel attr first second) → Before (lists_of c rel.0 attr.0) first second
 
 -- what is built of an assignment: the completion that it says, no list having a cycle; or the lists that have cycles, of which

@@ -49,7 +49,8 @@ fn find_rise_from(tournament: &Tournament<'_>, counts: &[usize], first: usize) -
     requires counts { AreCounts (length tournament.now.rows) (Beats tournament.now) counts.now }
     requires first { first < length tournament.now.rows }
     ensures some { IfSome result (IsRise (length tournament.now.rows) (Beats tournament.now) counts.now first) }
-    ensures none { IfNone result ((j : ℕ) → j < length tournament.now.rows → Beats tournament.now first j → slice_index counts.now j < slice_index counts.now first) }
+    ensures none { IfNone result ((j : ℕ) → j < length tournament.now.rows → Beats tournament.now first j
+        → slice_index counts.now j < slice_index counts.now first) }
 {
     for second in 0..tournament.len() {
         if counts[first] <= counts[second] && tournament.is_before(first, second) {
@@ -63,8 +64,10 @@ fn find_rise_from(tournament: &Tournament<'_>, counts: &[usize], first: usize) -
 fn find_third(tournament: &Tournament<'_>, first: usize, second: usize) -> Option<usize>
     requires first { first < length tournament.now.rows }
     requires second { second < length tournament.now.rows }
-    ensures some { IfSome result (λ k. (k < length tournament.now.rows) × Beats tournament.now second k × Beats tournament.now k first) }
-    ensures none { IfNone result ((k : ℕ) → k < length tournament.now.rows → Beats tournament.now second k → Beats tournament.now k first → ⊥) }
+    ensures some { IfSome result (λ k. (k < length tournament.now.rows) × Beats tournament.now second k × Beats
+        tournament.now k first) }
+    ensures none { IfNone result ((k : ℕ) → k < length tournament.now.rows → Beats tournament.now second k
+        → Beats tournament.now k first → ⊥) }
 {
     for third in 0..tournament.len() {
         if tournament.is_before(second, third) && tournament.is_before(third, first) {

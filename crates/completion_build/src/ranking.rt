@@ -49,7 +49,8 @@ pub fn rank(
 fn rank_relations(alloc: Global, source: &Source<'_>, draft: &mut Draft) -> Result<(), NoMemory>
     requires { AreBuilt source.now.relations source.now.numbers source.now.truths 0 0 0 draft.old.completion draft.old.cycles }
     ensures facts { AreRelations source.now.relations }
-    ensures built { OnOk result (AreBuilt source.now.relations source.now.numbers source.now.truths (length source.now.relations) 0 0 draft.new.completion draft.new.cycles) }
+    ensures built { OnOk result (AreBuilt source.now.relations source.now.numbers source.now.truths
+        (length source.now.relations) 0 0 draft.new.completion draft.new.cycles) }
 {
     for rel in 0..source.relations().len() {
         rank_relation(alloc, source, RelId(rel as u32), draft)?;
@@ -65,8 +66,10 @@ fn rank_relation(
     draft: &mut Draft,
 ) -> Result<(), NoMemory>
     requires rel { rel.0 < length source.now.relations }
-    requires built { AreBuilt source.now.relations source.now.numbers source.now.truths rel.0 0 0 draft.old.completion draft.old.cycles }
-    ensures { OnOk result (AreBuilt source.now.relations source.now.numbers source.now.truths (rel.0 + 1) 0 0 draft.new.completion draft.new.cycles) }
+    requires built { AreBuilt source.now.relations source.now.numbers source.now.truths rel.0 0 0
+        draft.old.completion draft.old.cycles }
+    ensures { OnOk result (AreBuilt source.now.relations source.now.numbers source.now.truths (rel.0 + 1) 0 0
+        draft.new.completion draft.new.cycles) }
 {
     for attr in 0..source.relation(rel).attrs.len() {
         rank_attribute(alloc, source, rel, AttrId(attr as u32), draft)?;
@@ -84,8 +87,10 @@ fn rank_attribute(
 ) -> Result<(), NoMemory>
     requires rel { rel.0 < length source.now.relations }
     requires attr { (r : Relation) → slice_get source.now.relations rel.0 ≡ Some r → attr.0 < length r.attrs }
-    requires built { AreBuilt source.now.relations source.now.numbers source.now.truths rel.0 attr.0 0 draft.old.completion draft.old.cycles }
-    ensures { OnOk result (AreBuilt source.now.relations source.now.numbers source.now.truths rel.0 (attr.0 + 1) 0 draft.new.completion draft.new.cycles) }
+    requires built { AreBuilt source.now.relations source.now.numbers source.now.truths rel.0 attr.0 0
+        draft.old.completion draft.old.cycles }
+    ensures { OnOk result (AreBuilt source.now.relations source.now.numbers source.now.truths rel.0 (attr.0 + 1) 0
+        draft.new.completion draft.new.cycles) }
 {
     for ent in 0..source.relation(rel).entities.len() {
         rank_list(alloc, source, rel, attr, EntId(ent as u32), draft)?;
@@ -105,8 +110,10 @@ fn rank_list(
     requires rel { rel.0 < length source.now.relations }
     requires attr { (r : Relation) → slice_get source.now.relations rel.0 ≡ Some r → attr.0 < length r.attrs }
     requires ent { (r : Relation) → slice_get source.now.relations rel.0 ≡ Some r → ent.0 < length r.entities }
-    requires built { AreBuilt source.now.relations source.now.numbers source.now.truths rel.0 attr.0 ent.0 draft.old.completion draft.old.cycles }
-    ensures { OnOk result (AreBuilt source.now.relations source.now.numbers source.now.truths rel.0 attr.0 (ent.0 + 1) draft.new.completion draft.new.cycles) }
+    requires built { AreBuilt source.now.relations source.now.numbers source.now.truths rel.0 attr.0 ent.0
+        draft.old.completion draft.old.cycles }
+    ensures { OnOk result (AreBuilt source.now.relations source.now.numbers source.now.truths rel.0 attr.0
+        (ent.0 + 1) draft.new.completion draft.new.cycles) }
 {
     set_keeps_shape();
     let tournament = source.tournament(rel, attr, ent);

@@ -24,7 +24,12 @@ impl<'a> Model for Source<'a> {
 
     ghost view = { λ s. record { relations = s.spec.now.relations; numbers = s.numbering.now; truths = s.assignment.now } };
 
-    ghost invariant = { λ s. IsSource (record { relations = s.spec.now.relations; numbers = s.numbering.now; truths = s.assignment.now }) };
+    ghost invariant = { λ s. IsSource (record {
+      relations = s.spec.now.relations;
+      numbers = s.numbering.now;
+      truths =
+          s.assignment.now;
+    }) };
 }
 
 impl Source<'_> {
@@ -50,7 +55,8 @@ impl Source<'_> {
         requires rel { rel.0 < length self.now.relations }
         requires attr { (r : Relation) → slice_get self.now.relations rel.0 ≡ Some r → attr.0 < length r.attrs }
         requires ent { (r : Relation) → slice_get self.now.relations rel.0 ≡ Some r → ent.0 < length r.entities }
-        ensures { (r : Relation) → slice_get self.now.relations rel.0 ≡ Some r → result ≡ contest_of self.now.numbers self.now.truths rel attr r ent.0 }
+        ensures { (r : Relation) → slice_get self.now.relations rel.0 ≡ Some r → result ≡ contest_of self.now.numbers
+            self.now.truths rel attr r ent.0 }
     {
         Tournament::new(self.numbering, self.assignment, rel, attr, ent)
     }

@@ -27,9 +27,17 @@ impl<'a> Model for Tournament<'a> {
 
     ghost Value = { Contest };
 
-    ghost view = { λ t. record { numbers = t.numbering.now; truths = t.assignment.now; rel = t.rel; attr = t.attr; rows = t.rows.now } };
+    ghost view = { λ t. record {
+      numbers = t.numbering.now;
+      truths = t.assignment.now;
+      rel = t.rel;
+      attr =
+          t.attr;
+      rows = t.rows.now;
+    } };
 
-    ghost invariant = { λ t. IsContest (record { numbers = t.numbering.now; truths = t.assignment.now; rel = t.rel; attr = t.attr; rows = t.rows.now }) };
+    ghost invariant = { λ t. IsContest
+        (record { numbers = t.numbering.now; truths = t.assignment.now; rel = t.rel; attr = t.attr; rows = t.rows.now }) };
 }
 
 impl<'a> Tournament<'a> {
@@ -106,8 +114,10 @@ impl Tournament<'_> {
     // Is one row of an entity put before another one?
     fn puts(&self, first: RowId, second: RowId) -> bool
         requires { IsPairOf self.now.numbers self.now.rel.0 self.now.attr.0 first second }
-        ensures yes { OnTrue result (IsSaidTrue (statements_of self.now.numbers) self.now.truths (before self.now.rel self.now.attr first second)) }
-        ensures no { OnFalse result (IsSaidTrue (statements_of self.now.numbers) self.now.truths (before self.now.rel self.now.attr second first)) }
+        ensures yes { OnTrue result (IsSaidTrue (statements_of self.now.numbers) self.now.truths
+            (before self.now.rel self.now.attr first second)) }
+        ensures no { OnFalse result (IsSaidTrue (statements_of self.now.numbers) self.now.truths
+            (before self.now.rel self.now.attr second first)) }
     {
         pairs_are_decided();
         one_literal();
@@ -120,7 +130,8 @@ impl Tournament<'_> {
         requires first { first < length self.now.rows }
         requires second { second < length self.now.rows }
         ensures few { result ≤ 1 }
-        ensures counted { (count : ℕ) → IsCount (Beats self.now first) second count → IsCount (Beats self.now first) (second + 1) (count + result) }
+        ensures counted { (count : ℕ) → IsCount (Beats self.now first) second count → IsCount (Beats self.now first)
+            (second + 1) (count + result) }
     {
         if self.is_before(first, second) {
             return 1;

@@ -13,7 +13,8 @@ use Rattle.completion_check.specs.Breaks.{Tried, AreMore, AreRows, NoneBreaks, B
 use Rattle.completion_check.proofs.Places.{at_contains, contains_at, row_within}
 
 -- the rows that follow the first one of a choice are of its entity
-more_of_choice : (table : List Row) (vars ent : ℕ) (row : RowId) (more : List RowId) → entity_of table row.0 ≡ Some ent → IsChoice table vars (row ∷ more)
+more_of_choice : (table : List Row) (vars ent : ℕ) (row : RowId) (more : List RowId) → entity_of table row.0 ≡ Some
+    ent → IsChoice table vars (row ∷ more)
     → AreMore (members table ent) (vars - 1) more
 more_of_choice table vars ent row more of choice =
     let first = All-head (λ (r : RowId). entity_of table r.0 ≡ Some choice.ent) row more choice.of_entity in
@@ -22,7 +23,8 @@ more_of_choice table vars ent row more of choice =
     record {
       count = omega (arith, choice.one_each);
       among = All-weaker (λ (r : RowId). entity_of table r.0 ≡ Some choice.ent) (Contains (members table ent))
-          (λ r of_choice. let at = entity_member table ent r (of_choice ∙ ap Some same) in contains_at (members table ent) at.0 r at.1) more rest;
+          (λ r of_choice. let at = entity_member table ent r (of_choice ∙ ap Some same) in contains_at
+          (members table ent) at.0 r at.1) more rest;
     }
 
 -- and where they are, it is a choice
@@ -39,7 +41,8 @@ choice_of_more table vars ent row more some of are =
 
 -- no choice whose first row stands below a number breaks the rule
 abbrev pub NoneBelow : Tried → ℕ → Type 0
-NoneBelow t n = (row : RowId) (more : List RowId) → row.0 < n → IsChoice t.table t.rule.vars (row ∷ more) → breaks_it t (row ∷ more) ≡ false
+NoneBelow t n = (row : RowId) (more : List RowId) → row.0 < n → IsChoice t.table t.rule.vars (row ∷ more)
+    → breaks_it t (row ∷ more) ≡ false
 
 -- the rows of an entity are rows of the table
 pub members_are_rows : (table : List Row) (ent : ℕ) → AreRows table (members table ent)
@@ -48,19 +51,23 @@ members_are_rows table ent k d below =
     (member_of_entity table ent k (get_or (members table ent) k d) (slice_get-get_or (members table ent) k d below))
 
 -- the row of a number is of its entity
-pub entity_at : (table : List Row) (n : ℕ) (row : Row) → n < length table → row ≡ get_or table n row → entity_of table n ≡ Some row.entity.0
+pub entity_at : (table : List Row) (n : ℕ) (row : Row) → n < length table → row ≡ get_or table n row
+    → entity_of table n ≡ Some row.entity.0
 entity_at [] n row within read = absurd (omega arith)
 entity_at (x ∷ table) zero row within read = ap (λ (r : Row). Some r.entity.0) (sym read)
 entity_at (x ∷ table) (suc n) row within read = entity_at table n row (omega arith) read
 
-pub entity_read : (table now : List Row) (n : ℕ) (row : Row) → now ≡ table → n < length now → row ≡ get_or now n row → entity_of table n ≡ Some row.entity.0
-entity_read table now n row same within read = subst (λ (t : List Row). entity_of t n ≡ Some row.entity.0) same (entity_at now n row within read)
+pub entity_read : (table now : List Row) (n : ℕ) (row : Row) → now ≡ table → n < length now → row ≡ get_or now n row
+    → entity_of table n ≡ Some row.entity.0
+entity_read table now n row same within read = subst (λ (t : List Row). entity_of t n ≡ Some row.entity.0) same
+    (entity_at now n row within read)
 
 -- the list of the rows of its entity
 pub within_read : (table now : List Row) (n count : ℕ) (row : Row) → now ≡ table → n < length now → row ≡ get_or now n row
     → All (λ (r : Row). r.entity.0 < count) table → row.entity.0 < count
 within_read table now n count row same within read all =
-    let found : (get_or now n row).entity.0 < count = All-get_or (λ (r : Row). r.entity.0 < count) now n row within (subst (All (λ (r : Row). r.entity.0 < count)) (sym same) all) in
+    let found : (get_or now n row).entity.0 < count = All-get_or (λ (r : Row). r.entity.0 < count) now n row within
+    (subst (All (λ (r : Row). r.entity.0 < count)) (sym same) all) in
     rw (← read) at found
 
 -- one more first row
@@ -79,20 +86,24 @@ none_below_next t n ent first numbered of below here row more less choice =
 pub none_at_all : (t : Tried) → 0 < t.rule.vars → NoneBelow t (length t.table) → NoChoiceBreaks t
 none_at_all t some below [] choice = absurd (omega (arith, choice.one_each))
 none_at_all t some below (row ∷ more) choice =
-    below row more (row_within t.table row.0 choice.ent (All-head (λ (r : RowId). entity_of t.table r.0 ≡ Some choice.ent) row more choice.of_entity)) choice
+    below row more (row_within t.table row.0 choice.ent
+    (All-head (λ (r : RowId). entity_of t.table r.0 ≡ Some choice.ent) row more choice.of_entity)) choice
 
 -- the first break that begins with the first row that has one
-pub first_at : (t : Tried) (n ent : ℕ) (first : RowId) (found : List RowId) → 0 < t.rule.vars → first.0 ≡ n → entity_of t.table n ≡ Some ent → NoneBelow t n
+pub first_at : (t : Tried) (n ent : ℕ) (first : RowId) (found : List RowId) → 0 < t.rule.vars → first.0 ≡ n
+    → entity_of t.table n ≡ Some ent → NoneBelow t n
     → BreaksFirst t (members t.table ent) (t.rule.vars - 1) (first ∷ []) found → IsFirstBreak t found
 first_at t n ent first found some numbered of below is =
     let mine : entity_of t.table first.0 ≡ Some ent = ap (entity_of t.table) numbered ∙ of in
     record {
-      choice = subst (IsChoice t.table t.rule.vars) (sym is.found_is) (choice_of_more t.table t.rule.vars ent first is.more some mine is.are_more);
+      choice = subst (IsChoice t.table t.rule.vars) (sym is.found_is)
+          (choice_of_more t.table t.rule.vars ent first is.more some mine is.are_more);
       breaks = is.breaks;
       earlier = λ others before choice. earlier mine others (subst (AreRowsBefore others) is.found_is before) choice;
     }
   where
-    earlier : entity_of t.table first.0 ≡ Some ent → (others : List RowId) → AreRowsBefore others (first ∷ is.more) → IsChoice t.table t.rule.vars others → breaks_it t others ≡ false
+    earlier : entity_of t.table first.0 ≡ Some ent → (others : List RowId) → AreRowsBefore others (first ∷ is.more)
+        → IsChoice t.table t.rule.vars others → breaks_it t others ≡ false
     earlier mine [] before choice = absurd before
     earlier mine (r ∷ others) before choice =
         ⊎_elim

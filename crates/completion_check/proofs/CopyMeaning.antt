@@ -43,7 +43,8 @@ one_entity_is None y e = absurd (false≢true e)
 one_entity_from : (x y : Option ℕ) (ent : ℕ) → x ≡ Some ent → y ≡ Some ent → is_one_entity x y ≡ true
 one_entity_from x y ent e f = ap (λ v. is_one_entity v y) e ∙ (ap (λ v. is_one_entity (Some ent) v) f ∙ eq-eqb ent ent refl)
 
-parts_with : (t : CopyTried) (place : Place) (first second : RowId) (x y : Option RowId) → source_at t.copy first ≡ x → source_at t.copy second ≡ y
+parts_with : (t : CopyTried) (place : Place) (first second : RowId) (x y : Option RowId) → source_at t.copy first ≡ x
+    → source_at t.copy second ≡ y
     → breaks_with t place first second x y ≡ true → BreaksPlace t place first second
 parts_with t place first second (Some a) (Some b) is_a is_b passed =
     let both = and_parts _ _ passed in
@@ -64,19 +65,24 @@ parts_with t place first second (Some a) None is_a is_b passed = absurd (false�
 parts_with t place first second None y is_a is_b passed = absurd (false≢true passed)
 
 -- rows that pass the test
-parts_of : (t : CopyTried) (place : Place) (first second : RowId) → breaks_copy t place first second ≡ true → BreaksPlace t place first second
+parts_of : (t : CopyTried) (place : Place) (first second : RowId) → breaks_copy t place first second ≡ true
+    → BreaksPlace t place first second
 unfolding breaks_copy
-parts_of t place first second passed = parts_with t place first second (source_at t.copy first) (source_at t.copy second) refl refl passed
+parts_of t place first second passed = parts_with t place first second (source_at t.copy first)
+    (source_at t.copy second) refl refl passed
 
 -- and rows that do not
-breaks_from : (t : CopyTried) (place : Place) (first second : RowId) → BreaksPlace t place first second → breaks_copy t place first second ≡ true
+breaks_from : (t : CopyTried) (place : Place) (first second : RowId) → BreaksPlace t place first second
+    → breaks_copy t place first second ≡ true
 unfolding breaks_copy
 breaks_from t place first second b =
-    let e : breaks_with t place first second (source_at t.copy first) (source_at t.copy second) ≡ breaks_with t place first second (Some b.first_source) (Some b.second_source) =
+    let e : breaks_with t place first second (source_at t.copy first) (source_at t.copy second) ≡ breaks_with t place
+    first second (Some b.first_source) (Some b.second_source) =
     ap (λ (x : Option RowId). breaks_with t place first second x (source_at t.copy second)) b.first_is
     ∙ ap (λ (y : Option RowId). breaks_with t place first second (Some b.first_source) y) b.second_is in
     e ∙ and_from _ _
-    (and_from _ _ (one_entity_from (entity_of t.source_rows b.first_source.0) (entity_of t.source_rows b.second_source.0) b.ent b.first_of b.second_of) (lt-ltb _ _ b.sources))
+    (and_from _ _ (one_entity_from (entity_of t.source_rows b.first_source.0)
+    (entity_of t.source_rows b.second_source.0) b.ent b.first_of b.second_of) (lt-ltb _ _ b.sources))
     (not_from_false _ (le-ltb _ _ b.targets))
 
 -- ---- the definition
@@ -87,25 +93,33 @@ pub record IsCopyScene (copy : CopyFunction) (target source : Relation) (c : Ran
   pub in_source : IsScene source (slice_index_or c copy.source.0 []) (slice_index_or places copy.source.0 [])
   pub among : All (IsPlaceBetween target source) copy.places
 
-target_within : (target source : Relation) (place : Place) → IsPlaceBetween target source place → place.target.0 < length target.attrs
-target_within target source place is = attr_within target place.target.0 (slice_get_within (kinds_of target) place.target.0 is.kind is.in_target)
+target_within : (target source : Relation) (place : Place) → IsPlaceBetween target source place
+    → place.target.0 < length target.attrs
+target_within target source place is = attr_within target place.target.0
+    (slice_get_within (kinds_of target) place.target.0 is.kind is.in_target)
 
-source_within : (target source : Relation) (place : Place) → IsPlaceBetween target source place → place.source.0 < length source.attrs
-source_within target source place is = attr_within source place.source.0 (slice_get_within (kinds_of source) place.source.0 is.kind is.in_source)
+source_within : (target source : Relation) (place : Place) → IsPlaceBetween target source place
+    → place.source.0 < length source.attrs
+source_within target source place is = attr_within source place.source.0
+    (slice_get_within (kinds_of source) place.source.0 is.kind is.in_source)
 
 -- two rows that break no place keep the order of their sources
-pub keeps_unbroken : (copy : CopyFunction) (target source : Relation) (c : Rankings) (places : List Places) (at : ℕ) (place : Place) (first second : RowId)
+pub keeps_unbroken : (copy : CopyFunction) (target source : Relation) (c : Rankings) (places : List Places) (at : ℕ)
+    (place : Place) (first second : RowId)
     → IsCopyScene copy target source c places → slice_get copy.places at ≡ Some place
-    → ((ent : ℕ) → entity_of target.rows first.0 ≡ Some ent → entity_of target.rows second.0 ≡ Some ent → breaks_copy (copy_tried copy target source places) place first second ≡ false)
+    → ((ent : ℕ) → entity_of target.rows first.0 ≡ Some ent → entity_of target.rows second.0 ≡ Some ent → breaks_copy
+    (copy_tried copy target source places) place first second ≡ false)
     → KeepsSourceOrder (copying copy target source c) place first second
 keeps_unbroken copy target source c places at place first second scene at_place unbroken rows before =
     let is = all_at (IsPlaceBetween target source) copy.places at place scene.among at_place in
     let tried = copy_tried copy target source places in
-    let above = below_at source (slice_index_or c copy.source.0 []) (slice_index_or places copy.source.0 []) place.source.0 rows.first_source rows.second_source scene.in_source
+    let above = below_at source (slice_index_or c copy.source.0 []) (slice_index_or places copy.source.0 [])
+    place.source.0 rows.first_source rows.second_source scene.in_source
     (source_within target source place is) before in
     ⊎_elim
     (λ (less : place_of tried.target_places place.target.0 first < place_of tried.target_places place.target.0 second).
-    before_at target (slice_index_or c copy.target.0 []) (slice_index_or places copy.target.0 []) place.target.0 rows.ent first second scene.in_target
+    before_at target (slice_index_or c copy.target.0 []) (slice_index_or places copy.target.0 []) place.target.0
+    rows.ent first second scene.in_target
     (target_within target source place is) rows.first_of rows.second_of less)
     (λ (most : place_of tried.target_places place.target.0 second ≤ place_of tried.target_places place.target.0 first).
     let broken : BreaksPlace tried place first second =
@@ -124,9 +138,12 @@ keeps_unbroken copy target source c places at place first second scene at_place 
     (cases_lt (place_of tried.target_places place.target.0 first) (place_of tried.target_places place.target.0 second))
 
 -- and two rows of one entity that break one do not
-pub breaks_broken : (copy : CopyFunction) (target source : Relation) (c : Rankings) (places : List Places) (at : ℕ) (place : Place) (ent : ℕ) (first second : RowId)
-    → IsCopyScene copy target source c places → slice_get copy.places at ≡ Some place → entity_of target.rows first.0 ≡ Some ent → entity_of target.rows second.0 ≡ Some ent
-    → breaks_copy (copy_tried copy target source places) place first second ≡ true → BreaksSourceOrder (copying copy target source c) place first second
+pub breaks_broken : (copy : CopyFunction) (target source : Relation) (c : Rankings) (places : List Places) (at : ℕ)
+    (place : Place) (ent : ℕ) (first second : RowId)
+    → IsCopyScene copy target source c places → slice_get copy.places at ≡ Some place → entity_of target.rows
+    first.0 ≡ Some ent → entity_of target.rows second.0 ≡ Some ent
+    → breaks_copy (copy_tried copy target source places) place first second ≡ true → BreaksSourceOrder
+    (copying copy target source c) place first second
 breaks_broken copy target source c places at place ent first second scene at_place of_first of_second passed =
     let is = all_at (IsPlaceBetween target source) copy.places at place scene.among at_place in
     let b = parts_of (copy_tried copy target source places) place first second passed in
@@ -143,10 +160,12 @@ breaks_broken copy target source c places at place ent first second scene at_pla
         first_source_of = b.first_of;
         second_source_of = b.second_of;
       };
-      sources = before_at source (slice_index_or c copy.source.0 []) (slice_index_or places copy.source.0 []) place.source.0 b.ent b.first_source b.second_source scene.in_source
+      sources = before_at source (slice_index_or c copy.source.0 []) (slice_index_or places copy.source.0 [])
+          place.source.0 b.ent b.first_source b.second_source scene.in_source
           (source_within target source place is) b.first_of b.second_of b.sources;
       targets = λ before.
-          let less = below_at target (slice_index_or c copy.target.0 []) (slice_index_or places copy.target.0 []) place.target.0 first second scene.in_target
+          let less = below_at target (slice_index_or c copy.target.0 []) (slice_index_or places copy.target.0 [])
+          place.target.0 first second scene.in_target
           (target_within target source place is) before in
           absurd (omega (arith, less, b.targets));
     }

@@ -10,13 +10,15 @@ use Rattle.completion_check.specs.Tests.{Places}
 use Rattle.completion_check.specs.CopyBreaks.{NoPlaceBreaks, IsFirstPlaceBreak, NoneBreaksCopy, BreaksCopyFirst, tried_between, copy_tried}
 
 -- the item that is read at a place, where there is one
-read_at : {A : Type 0} (xs : List A) (n m : ℕ) (x y : A) → m ≡ n → slice_get xs n ≡ Some y → x ≡ get_or xs m x → slice_get xs n ≡ Some x
+read_at : {A : Type 0} (xs : List A) (n m : ℕ) (x y : A) → m ≡ n → slice_get xs n ≡ Some y → x ≡ get_or xs m x
+    → slice_get xs n ≡ Some x
 read_at xs n m x y same at read =
     let within : m < length xs = omega (arith, slice_get_within xs n y at) in
     ap (slice_get xs) (sym same) ∙ slice_get_read xs (length xs) m x refl within read
 
 -- the list that is read at a place, as the one there or the empty one
-pub list_at : {A : Type 0} (xs : List (List A)) (n m : ℕ) (x : List A) → m ≡ n → n < length xs → x ≡ get_or xs m x → x ≡ slice_index_or xs n []
+pub list_at : {A : Type 0} (xs : List (List A)) (n m : ℕ) (x : List A) → m ≡ n → n < length xs → x ≡ get_or xs m x
+    → x ≡ slice_index_or xs n []
 list_at xs n m x same within read =
     let inside : m < length xs = omega arith in
     get_or_read xs m x inside read [] ∙ ap (λ (k : ℕ). slice_index_or xs k []) same
@@ -33,19 +35,34 @@ source_within relations copy m among is =
     subst (λ (n : ℕ). n < length relations) (sym is) (slice_get_within relations copy.source.0 among.source among.is_source)
 
 -- the two relations of a copy function, and the places of their rows
-pub record AreOfCopy (relations : List Relation) (places : List Places) (copy : CopyFunction) (target source : Relation) (target_places source_places : Places) : Type 0 where
+pub record AreOfCopy (relations : List Relation) (places : List Places) (copy : CopyFunction)
+    (target source : Relation) (target_places source_places : Places) : Type 0 where
   pub is_target : slice_get relations copy.target.0 ≡ Some target
   pub is_source : slice_get relations copy.source.0 ≡ Some source
   pub in_target : target_places ≡ slice_index_or places copy.target.0 []
   pub in_source : source_places ≡ slice_index_or places copy.source.0 []
 
 -- these are what is read at the numbers of the copy function's relations
-pub are_read : (relations : List Relation) (places : List Places) (copy : CopyFunction) (m n : ℕ) (target source : Relation) (target_places source_places : Places)
-    → IsCopyAmong relations copy → length places ≡ length relations → m ≡ copy.target.0 → n ≡ copy.source.0 → target ≡ get_or relations m target → source ≡ get_or relations n source
-    → target_places ≡ get_or places m target_places → source_places ≡ get_or places n source_places → AreOfCopy relations places copy target source target_places source_places
-are_read relations places copy m n target source target_places source_places among count is_m is_n read_target read_source read_target_places read_source_places =
-    let target_within : copy.target.0 < length places = omega (arith, count, slice_get_within relations copy.target.0 among.target among.is_target) in
-    let source_within : copy.source.0 < length places = omega (arith, count, slice_get_within relations copy.source.0 among.source among.is_source) in
+pub are_read : (relations : List Relation) (places : List Places) (copy : CopyFunction) (m n : ℕ)
+    (target source : Relation) (target_places source_places : Places)
+    → IsCopyAmong relations copy → length places ≡ length relations → m ≡ copy.target.0 → n ≡ copy.source.0
+    → target ≡ get_or relations m target → source ≡ get_or relations n source
+    → target_places ≡ get_or places m target_places → source_places ≡ get_or places n source_places
+    → AreOfCopy relations places copy target source target_places source_places
+are_read relations places copy m n target source target_places source_places among count is_m is_n read_target
+    read_source read_target_places read_source_places =
+    let target_within : copy.target.0 < length places = omega (
+      arith,
+      count,
+      slice_get_within relations copy.target.0
+          among.target among.is_target,
+    ) in
+    let source_within : copy.source.0 < length places = omega (
+      arith,
+      count,
+      slice_get_within relations copy.source.0
+          among.source among.is_source,
+    ) in
     record {
       is_target = read_at relations copy.target.0 m target among.target is_m among.is_target read_target;
       is_source = read_at relations copy.source.0 n source among.source is_n among.is_source read_source;
@@ -75,7 +92,8 @@ copied_between relations places copy target source target_places source_places a
     subst (λ (r : Relation). IsCopied copy target.rows r.rows) one_source
     (subst (λ (r : Relation). IsCopied copy r.rows among.source.rows) one_target among.copied)
 
-tried_same : (relations : List Relation) (places : List Places) (copy : CopyFunction) (target source : Relation) (target_places source_places : Places)
+tried_same : (relations : List Relation) (places : List Places) (copy : CopyFunction) (target source : Relation)
+    (target_places source_places : Places)
     → AreOfCopy relations places copy target source target_places source_places
     → tried_between copy target source target_places source_places ≡ copy_tried copy target source places
 tried_same relations places copy target source target_places source_places are =
@@ -83,9 +101,11 @@ tried_same relations places copy target source target_places source_places are =
     ∙ ap (λ (p : Places). tried_between copy target source (slice_index_or places copy.target.0 []) p) are.in_source
 
 -- what two rows of these break first
-pub breaks_first : (relations : List Relation) (places : List Places) (copy : CopyFunction) (target source : Relation) (target_places source_places : Places) (at : ℕ) (first second : RowId)
+pub breaks_first : (relations : List Relation) (places : List Places) (copy : CopyFunction)
+    (target source : Relation) (target_places source_places : Places) (at : ℕ) (first second : RowId)
     → AreOfCopy relations places copy target source target_places source_places
-    → IsFirstPlaceBreak (tried_between copy target source target_places source_places) at first second → BreaksCopyFirst relations places copy at first second
+    → IsFirstPlaceBreak (tried_between copy target source target_places source_places) at first second
+    → BreaksCopyFirst relations places copy at first second
 breaks_first relations places copy target source target_places source_places at first second are found =
     record {
       target = target;
@@ -96,7 +116,8 @@ breaks_first relations places copy target source target_places source_places at 
     }
 
 -- or that they break none
-pub none_breaks : (relations : List Relation) (places : List Places) (copy : CopyFunction) (target source : Relation) (target_places source_places : Places)
+pub none_breaks : (relations : List Relation) (places : List Places) (copy : CopyFunction) (target source : Relation)
+    (target_places source_places : Places)
     → AreOfCopy relations places copy target source target_places source_places
     → NoPlaceBreaks (tried_between copy target source target_places source_places) → NoneBreaksCopy relations places copy
 none_breaks relations places copy target source target_places source_places are none target' source' at_target at_source =

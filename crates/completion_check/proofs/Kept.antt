@@ -34,11 +34,13 @@ entity_within (r ∷ rows) n (suc row) all below =
     entity_within rows n row (All-tail (λ q. q.entity.0 < n) r rows all) (omega arith)
 
 -- a list with an item is one of the lists
-list_within : {A : Type 0} (lists : List (List A)) (ent i : ℕ) (x : A) → slice_get (slice_index_or lists ent []) i ≡ Some x → ent < length lists
+list_within : {A : Type 0} (lists : List (List A)) (ent i : ℕ) (x : A) → slice_get (slice_index_or lists ent []) i ≡
+    Some x → ent < length lists
 list_within {A} lists ent i x at =
     ⊎_elim
     (λ (h : ent < length lists). h)
-    (λ (h : length lists ≤ ent). absurd (none-some x (sym (ap (λ (l : List A). slice_get l i) (get_or_past lists ent [] h)) ∙ at)))
+    (λ (h : length lists ≤ ent). absurd
+    (none-some x (sym (ap (λ (l : List A). slice_get l i) (get_or_past lists ent [] h)) ∙ at)))
     (cases_lt ent (length lists))
 
 -- of two rows of one entity, the one with the smaller place stands before the other

@@ -16,30 +16,37 @@ use Rattle.spec_model.specs.declared.relation.Relation.{Relation}
 use Rattle.completion_check.proofs.Places.{get_in_take, same_row}
 
 -- rows that break the order of their sources do not keep it
-not_both : (c : Copying) (place : Place) (first second : RowId) → BreaksSourceOrder c place first second → KeepsSourceOrder c place first second → ⊥
+not_both : (c : Copying) (place : Place) (first second : RowId) → BreaksSourceOrder c place first second
+    → KeepsSourceOrder c place first second → ⊥
 not_both c place first second broken keeps = broken.targets (keeps broken.rows broken.sources)
 
 -- a completion that is compatible with all copy functions breaks none
-pub no_copy_broken : (s : Spec) (c : Rankings) (k at : ℕ) (first second : RowId) → IsCompatibleWith s.relations s.copies c → IsFirstCopyBroken s c k at first second → ⊥
+pub no_copy_broken : (s : Spec) (c : Rankings) (k at : ℕ) (first second : RowId) → IsCompatibleWith s.relations
+    s.copies c → IsFirstCopyBroken s c k at first second → ⊥
 no_copy_broken s c k at first second is f =
     not_both (copying f.copy f.target f.source c) f.place first second f.broken
     (is k f.copy f.is_copy f.target f.source f.is_target f.is_source at f.place f.is_place first second)
 
 -- no copy function before the first broken one is broken
-no_earlier_copy : (s : Spec) (c : Rankings) (k k' at at' : ℕ) (t u t' u' : RowId) → IsFirstCopyBroken s c k at t u → IsFirstCopyBroken s c k' at' t' u' → k < k' → ⊥
+no_earlier_copy : (s : Spec) (c : Rankings) (k k' at at' : ℕ) (t u t' u' : RowId) → IsFirstCopyBroken s c k at t u
+    → IsFirstCopyBroken s c k' at' t' u' → k < k' → ⊥
 no_earlier_copy s c k k' at at' t u t' u' f g below =
     not_both (copying f.copy f.target f.source c) f.place t u f.broken
-    (g.earlier_copies k f.copy (get_in_take s.copies k' k f.copy f.is_copy below) f.target f.source f.is_target f.is_source at f.place f.is_place t u)
+    (g.earlier_copies k f.copy (get_in_take s.copies k' k f.copy f.is_copy below) f.target f.source f.is_target
+    f.is_source at f.place f.is_place t u)
 
 -- the first broken copy function and its relations are one
-one_copying : (s : Spec) (c : Rankings) (k at at' : ℕ) (t u t' u' : RowId) (f : IsFirstCopyBroken s c k at t u) (g : IsFirstCopyBroken s c k at' t' u')
+one_copying : (s : Spec) (c : Rankings) (k at at' : ℕ) (t u t' u' : RowId) (f : IsFirstCopyBroken s c k at t u)
+    (g : IsFirstCopyBroken s c k at' t' u')
     → copying f.copy f.target f.source c ≡ copying g.copy g.target g.source c
 one_copying s c k at at' t u t' u' f g =
     let copy : f.copy ≡ g.copy = same_Some f.copy g.copy (sym f.is_copy ∙ g.is_copy) in
     let target : f.target ≡ g.target =
-    same_Some f.target g.target (sym f.is_target ∙ (ap (λ (q : CopyFunction). slice_get s.relations q.target.0) copy ∙ g.is_target)) in
+    same_Some f.target g.target (sym f.is_target ∙ (ap (λ (q : CopyFunction). slice_get s.relations q.target.0) copy
+    ∙ g.is_target)) in
     let source : f.source ≡ g.source =
-    same_Some f.source g.source (sym f.is_source ∙ (ap (λ (q : CopyFunction). slice_get s.relations q.source.0) copy ∙ g.is_source)) in
+    same_Some f.source g.source (sym f.is_source ∙ (ap (λ (q : CopyFunction). slice_get s.relations q.source.0) copy
+    ∙ g.is_source)) in
     ap (λ (q : CopyFunction). copying q f.target f.source c) copy
     ∙ (ap (λ (r : Relation). copying g.copy r f.source c) target ∙ ap (λ (r : Relation). copying g.copy g.target r c) source)
 
@@ -49,20 +56,25 @@ record BreaksAt (c : Copying) (at : ℕ) (first second : RowId) : Type 0 where
   is_place : slice_get c.copy.places at ≡ Some place
   broken : BreaksSourceOrder c place first second
 
-broken_at : (s : Spec) (c : Rankings) (k at at' : ℕ) (t u t' u' : RowId) → IsFirstCopyBroken s c k at t u → (g : IsFirstCopyBroken s c k at' t' u')
+broken_at : (s : Spec) (c : Rankings) (k at at' : ℕ) (t u t' u' : RowId) → IsFirstCopyBroken s c k at t u →
+    (g : IsFirstCopyBroken s c k at' t' u')
     → BreaksAt (copying g.copy g.target g.source c) at t u
 broken_at s c k at at' t u t' u' f g =
-    let here : BreaksAt (copying f.copy f.target f.source c) at t u = record { place = f.place; is_place = f.is_place; broken = f.broken } in
+    let here : BreaksAt (copying f.copy f.target f.source c) at t u =
+    record { place = f.place; is_place = f.is_place; broken = f.broken } in
     subst (λ (x : Copying). BreaksAt x at t u) (one_copying s c k at at' t u t' u' f g) here
 
 -- no place before the first broken one is broken
-no_earlier_place : (s : Spec) (c : Rankings) (k at at' : ℕ) (t u t' u' : RowId) → IsFirstCopyBroken s c k at t u → IsFirstCopyBroken s c k at' t' u' → at < at' → ⊥
+no_earlier_place : (s : Spec) (c : Rankings) (k at at' : ℕ) (t u t' u' : RowId) → IsFirstCopyBroken s c k at t u
+    → IsFirstCopyBroken s c k at' t' u' → at < at' → ⊥
 no_earlier_place s c k at at' t u t' u' f g below =
     let there = broken_at s c k at at' t u t' u' f g in
-    not_both (copying g.copy g.target g.source c) there.place t u there.broken (g.earlier_places at there.place below there.is_place t u)
+    not_both (copying g.copy g.target g.source c) there.place t u there.broken
+    (g.earlier_places at there.place below there.is_place t u)
 
 -- nor rows before the first in its own
-no_earlier_pair : (s : Spec) (c : Rankings) (k at : ℕ) (t u t' u' : RowId) → IsFirstCopyBroken s c k at t u → IsFirstCopyBroken s c k at t' u' → IsRowPairBefore t u t' u' → ⊥
+no_earlier_pair : (s : Spec) (c : Rankings) (k at : ℕ) (t u t' u' : RowId) → IsFirstCopyBroken s c k at t u
+    → IsFirstCopyBroken s c k at t' u' → IsRowPairBefore t u t' u' → ⊥
 no_earlier_pair s c k at t u t' u' f g before =
     let there = broken_at s c k at at t u t' u' f g in
     let same : there.place ≡ g.place = same_Some there.place g.place (sym there.is_place ∙ g.is_place) in
@@ -92,7 +104,8 @@ pairs_order t u t' u' =
     (cases_order t.0 t'.0)
 
 -- the first broken copy function, its first broken place and the first rows are one
-same_copy : (s : Spec) (c : Rankings) (k k' at at' : ℕ) (t u t' u' : RowId) → IsFirstCopyBroken s c k at t u → IsFirstCopyBroken s c k' at' t' u' → k ≡ k'
+same_copy : (s : Spec) (c : Rankings) (k k' at at' : ℕ) (t u t' u' : RowId) → IsFirstCopyBroken s c k at t u
+    → IsFirstCopyBroken s c k' at' t' u' → k ≡ k'
 same_copy s c k k' at at' t u t' u' f g =
     ⊎_elim
     (λ (is : k ≡ k'). is)
@@ -104,7 +117,8 @@ same_copy s c k k' at at' t u t' u' f g =
     apart))
     (cases_order k k')
 
-same_place : (s : Spec) (c : Rankings) (k at at' : ℕ) (t u t' u' : RowId) → IsFirstCopyBroken s c k at t u → IsFirstCopyBroken s c k at' t' u' → at ≡ at'
+same_place : (s : Spec) (c : Rankings) (k at at' : ℕ) (t u t' u' : RowId) → IsFirstCopyBroken s c k at t u
+    → IsFirstCopyBroken s c k at' t' u' → at ≡ at'
 same_place s c k at at' t u t' u' f g =
     ⊎_elim
     (λ (is : at ≡ at'). is)
@@ -116,7 +130,8 @@ same_place s c k at at' t u t' u' f g =
     apart))
     (cases_order at at')
 
-same_pair : (s : Spec) (c : Rankings) (k at : ℕ) (t u t' u' : RowId) → IsFirstCopyBroken s c k at t u → IsFirstCopyBroken s c k at t' u' → (t ≡ t') × (u ≡ u')
+same_pair : (s : Spec) (c : Rankings) (k at : ℕ) (t u t' u' : RowId) → IsFirstCopyBroken s c k at t u
+    → IsFirstCopyBroken s c k at t' u' → (t ≡ t') × (u ≡ u')
 same_pair s c k at t u t' u' f g =
     ⊎_elim
     (λ (is : (t ≡ t') × (u ≡ u')). is)
@@ -128,7 +143,8 @@ same_pair s c k at t u t' u' f g =
     apart))
     (pairs_order t u t' u')
 
-pub one_copy_broken : (s : Spec) (c : Rankings) (k k' : CopyId) (at at' : ℕ) (t u t' u' : RowId) → IsFirstCopyBroken s c k.0 at t u → IsFirstCopyBroken s c k'.0 at' t' u'
+pub one_copy_broken : (s : Spec) (c : Rankings) (k k' : CopyId) (at at' : ℕ) (t u t' u' : RowId)
+    → IsFirstCopyBroken s c k.0 at t u → IsFirstCopyBroken s c k'.0 at' t' u'
     → CopyBroken k at t u ≡ CopyBroken k' at' t' u'
 one_copy_broken s c k k' at at' t u t' u' f g =
     let copy = same_copy s c k.0 k'.0 at at' t u t' u' f g in

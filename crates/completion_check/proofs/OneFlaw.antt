@@ -23,7 +23,8 @@ use Rattle.completion_check.proofs.Places.{get_in_take, contains_at}
 
 -- of two places one stands before the other, or they are one
 places_order : (rel attr ent rel' attr' ent' : ℕ)
-    → ((rel ≡ rel') × (attr ≡ attr') × (ent ≡ ent')) ⊎ (IsPlaceBefore rel attr ent rel' attr' ent' ⊎ IsPlaceBefore rel' attr' ent' rel attr ent)
+    → ((rel ≡ rel') × (attr ≡ attr') × (ent ≡ ent')) ⊎ (IsPlaceBefore rel attr ent rel' attr' ent' ⊎ IsPlaceBefore
+    rel' attr' ent' rel attr ent)
 places_order rel attr ent rel' attr' ent' =
     ⊎_elim
     (λ (r : rel ≡ rel').
@@ -57,7 +58,8 @@ none_before rs c rel attr ent rel' attr' ent' f g before =
     f.broken (g.earlier rel f.relation f.is_relation attr ent f.attr_within f.ent_within before)
 
 one_unranked : (rs : List Relation) (c : Rankings) (rel rel' : RelId) (attr attr' : AttrId) (ent ent' : EntId)
-    → IsFirstUnranked rs c rel.0 attr.0 ent.0 → IsFirstUnranked rs c rel'.0 attr'.0 ent'.0 → NotARanking rel attr ent ≡ NotARanking rel' attr' ent'
+    → IsFirstUnranked rs c rel.0 attr.0 ent.0 → IsFirstUnranked rs c rel'.0 attr'.0 ent'.0 → NotARanking rel attr
+    ent ≡ NotARanking rel' attr' ent'
 one_unranked rs c rel rel' attr attr' ent ent' f g =
     ⊎_elim
     (λ (same : (rel.0 ≡ rel'.0) × (attr.0 ≡ attr'.0) × (ent.0 ≡ ent'.0)).
@@ -68,33 +70,42 @@ one_unranked rs c rel rel' attr attr' ent ent' f g =
     (λ (apart : IsPlaceBefore rel.0 attr.0 ent.0 rel'.0 attr'.0 ent'.0 ⊎ IsPlaceBefore rel'.0 attr'.0 ent'.0 rel.0 attr.0 ent.0).
     absurd
     (⊎_elim
-    (λ (b : IsPlaceBefore rel.0 attr.0 ent.0 rel'.0 attr'.0 ent'.0). none_before rs c rel.0 attr.0 ent.0 rel'.0 attr'.0 ent'.0 f g b)
-    (λ (b : IsPlaceBefore rel'.0 attr'.0 ent'.0 rel.0 attr.0 ent.0). none_before rs c rel'.0 attr'.0 ent'.0 rel.0 attr.0 ent.0 g f b)
+    (λ (b : IsPlaceBefore rel.0 attr.0 ent.0 rel'.0 attr'.0 ent'.0). none_before rs c rel.0 attr.0 ent.0 rel'.0
+    attr'.0 ent'.0 f g b)
+    (λ (b : IsPlaceBefore rel'.0 attr'.0 ent'.0 rel.0 attr.0 ent.0). none_before rs c rel'.0 attr'.0 ent'.0 rel.0
+    attr.0 ent.0 g f b)
     apart))
     (places_order rel.0 attr.0 ent.0 rel'.0 attr'.0 ent'.0)
 
 -- no relation before the first broken pair's has one
-no_earlier_relation : (rs : List Relation) (c : Rankings) (rel rel' : ℕ) (p q : Pair) → IsFirstBroken rs c rel p → IsFirstBroken rs c rel' q
+no_earlier_relation : (rs : List Relation) (c : Rankings) (rel rel' : ℕ) (p q : Pair) → IsFirstBroken rs c rel p
+    → IsFirstBroken rs c rel' q
     → rel < rel' → ⊥
 no_earlier_relation rs c rel rel' p q f g below =
     f.broken
-    (g.earlier_relations rel f.relation (get_in_take rs rel' rel f.relation f.is_relation below) p (contains_at f.relation.given f.place p f.is_pair))
+    (g.earlier_relations rel f.relation (get_in_take rs rel' rel f.relation f.is_relation below) p
+    (contains_at f.relation.given f.place p f.is_pair))
 
 -- nor a pair before it in its own
-no_earlier_pair : (rs : List Relation) (c : Rankings) (rel : ℕ) (p q : Pair) (f : IsFirstBroken rs c rel p) (g : IsFirstBroken rs c rel q)
+no_earlier_pair : (rs : List Relation) (c : Rankings) (rel : ℕ) (p q : Pair) (f : IsFirstBroken rs c rel p)
+    (g : IsFirstBroken rs c rel q)
     → f.place < g.place → ⊥
 no_earlier_pair rs c rel p q f g below =
     let same : f.relation ≡ g.relation = same_Some f.relation g.relation (sym f.is_relation ∙ g.is_relation) in
-    let there : slice_get g.relation.given f.place ≡ Some p = subst (λ (r : Relation). slice_get r.given f.place ≡ Some p) same f.is_pair in
-    f.broken (g.earlier_pairs p (contains_at (take g.place g.relation.given) f.place p (get_in_take g.relation.given g.place f.place p there below)))
+    let there : slice_get g.relation.given f.place ≡ Some p =
+    subst (λ (r : Relation). slice_get r.given f.place ≡ Some p) same f.is_pair in
+    f.broken (g.earlier_pairs p (contains_at (take g.place g.relation.given) f.place p
+    (get_in_take g.relation.given g.place f.place p there below)))
 
-same_pair : (rs : List Relation) (c : Rankings) (rel : ℕ) (p q : Pair) → IsFirstBroken rs c rel p → IsFirstBroken rs c rel q → p ≡ q
+same_pair : (rs : List Relation) (c : Rankings) (rel : ℕ) (p q : Pair) → IsFirstBroken rs c rel p
+    → IsFirstBroken rs c rel q → p ≡ q
 same_pair rs c rel p q f g =
     ⊎_elim
     (λ (is : f.place ≡ g.place).
     let same : f.relation ≡ g.relation = same_Some f.relation g.relation (sym f.is_relation ∙ g.is_relation) in
     let there : slice_get g.relation.given g.place ≡ Some p =
-    subst (λ (k : ℕ). slice_get g.relation.given k ≡ Some p) is (subst (λ (r : Relation). slice_get r.given f.place ≡ Some p) same f.is_pair) in
+    subst (λ (k : ℕ). slice_get g.relation.given k ≡ Some p) is
+    (subst (λ (r : Relation). slice_get r.given f.place ≡ Some p) same f.is_pair) in
     same_Some p q (sym there ∙ g.is_pair))
     (λ (apart : (f.place < g.place) ⊎ (g.place < f.place)).
     absurd
@@ -104,7 +115,8 @@ same_pair rs c rel p q f g =
     apart))
     (cases_order f.place g.place)
 
-one_broken : (rs : List Relation) (c : Rankings) (rel rel' : RelId) (p q : Pair) → IsFirstBroken rs c rel.0 p → IsFirstBroken rs c rel'.0 q
+one_broken : (rs : List Relation) (c : Rankings) (rel rel' : RelId) (p q : Pair) → IsFirstBroken rs c rel.0 p
+    → IsFirstBroken rs c rel'.0 q
     → GivenBroken rel p ≡ GivenBroken rel' q
 one_broken rs c rel rel' p q f g =
     ⊎_elim
@@ -150,30 +162,36 @@ rows_order (x ∷ xs) (y ∷ ys) same =
     (cases_order x.0 y.0)
 
 -- rows that break a rule do not satisfy it
-not_both : (table : List Row) (lists : Lists) (rule : Rule) (rows : List RowId) → IsBrokenBy table lists rule rows → IsSatisfiedBy table lists rule rows → ⊥
+not_both : (table : List Row) (lists : Lists) (rule : Rule) (rows : List RowId) → IsBrokenBy table lists rule rows
+    → IsSatisfiedBy table lists rule rows → ⊥
 not_both table lists rule rows broken satisfied = broken.conclusion (satisfied broken.predicates)
 
 -- no rule before the first broken one is broken
-no_earlier_rule : (s : Spec) (c : Rankings) (k k' : ℕ) (xs ys : List RowId) → IsFirstRuleBroken s c k xs → IsFirstRuleBroken s c k' ys → k < k' → ⊥
+no_earlier_rule : (s : Spec) (c : Rankings) (k k' : ℕ) (xs ys : List RowId) → IsFirstRuleBroken s c k xs
+    → IsFirstRuleBroken s c k' ys → k < k' → ⊥
 no_earlier_rule s c k k' xs ys f g below =
     not_both f.relation.rows (slice_index_or c f.rule.relation.0 []) f.rule xs f.broken
     (g.earlier_rules k f.rule (get_in_take s.rules k' k f.rule f.is_rule below) f.relation f.is_relation xs f.broken.choice)
 
 -- nor rows before the first in its own
-no_earlier_rows : (s : Spec) (c : Rankings) (k : ℕ) (xs ys : List RowId) → IsFirstRuleBroken s c k xs → IsFirstRuleBroken s c k ys → AreRowsBefore xs ys → ⊥
+no_earlier_rows : (s : Spec) (c : Rankings) (k : ℕ) (xs ys : List RowId) → IsFirstRuleBroken s c k xs
+    → IsFirstRuleBroken s c k ys → AreRowsBefore xs ys → ⊥
 no_earlier_rows s c k xs ys f g before =
     let rule : f.rule ≡ g.rule = same_Some f.rule g.rule (sym f.is_rule ∙ g.is_rule) in
-    let at : slice_get s.relations g.rule.relation.0 ≡ Some f.relation = subst (λ (q : Rule). slice_get s.relations q.relation.0 ≡ Some f.relation) rule f.is_relation in
+    let at : slice_get s.relations g.rule.relation.0 ≡ Some f.relation =
+    subst (λ (q : Rule). slice_get s.relations q.relation.0 ≡ Some f.relation) rule f.is_relation in
     let relation : f.relation ≡ g.relation = same_Some f.relation g.relation (sym at ∙ g.is_relation) in
     let broken : IsBrokenBy g.relation.rows (slice_index_or c g.rule.relation.0 []) g.rule xs =
     subst (λ (r : Relation). IsBrokenBy r.rows (slice_index_or c g.rule.relation.0 []) g.rule xs) relation
     (subst (λ (q : Rule). IsBrokenBy f.relation.rows (slice_index_or c q.relation.0 []) q xs) rule f.broken) in
     not_both g.relation.rows (slice_index_or c g.rule.relation.0 []) g.rule xs broken (g.earlier_rows xs before broken.choice)
 
-same_rows : (s : Spec) (c : Rankings) (k : ℕ) (xs ys : List RowId) → IsFirstRuleBroken s c k xs → IsFirstRuleBroken s c k ys → xs ≡ ys
+same_rows : (s : Spec) (c : Rankings) (k : ℕ) (xs ys : List RowId) → IsFirstRuleBroken s c k xs → IsFirstRuleBroken s
+    c k ys → xs ≡ ys
 same_rows s c k xs ys f g =
     let rule : f.rule ≡ g.rule = same_Some f.rule g.rule (sym f.is_rule ∙ g.is_rule) in
-    let count : length xs ≡ length ys = f.broken.choice.one_each ∙ ap (λ (q : Rule). q.vars) rule ∙ sym g.broken.choice.one_each in
+    let count : length xs ≡ length ys = f.broken.choice.one_each ∙ ap (λ (q : Rule). q.vars) rule
+    ∙ sym g.broken.choice.one_each in
     ⊎_elim
     (λ (is : xs ≡ ys). is)
     (λ (apart : AreRowsBefore xs ys ⊎ AreRowsBefore ys xs).
@@ -184,7 +202,8 @@ same_rows s c k xs ys f g =
     apart))
     (rows_order xs ys count)
 
-one_rule_broken : (s : Spec) (c : Rankings) (k k' : RuleId) (xs ys : List RowId) → IsFirstRuleBroken s c k.0 xs → IsFirstRuleBroken s c k'.0 ys → RuleBroken k xs ≡ RuleBroken k' ys
+one_rule_broken : (s : Spec) (c : Rankings) (k k' : RuleId) (xs ys : List RowId) → IsFirstRuleBroken s c k.0 xs
+    → IsFirstRuleBroken s c k'.0 ys → RuleBroken k xs ≡ RuleBroken k' ys
 one_rule_broken s c k k' xs ys f g =
     ⊎_elim
     (λ (is : k.0 ≡ k'.0).
@@ -204,24 +223,30 @@ no_broken : (rs : List Relation) (c : Rankings) (rel : ℕ) (p : Pair) → Keeps
 no_broken rs c rel p kept f = f.broken (kept rel f.relation f.is_relation p (contains_at f.relation.given f.place p f.is_pair))
 
 -- rules that are satisfied are not broken
-no_rule_broken : (s : Spec) (c : Rankings) (k : ℕ) (rows : List RowId) → SatisfiesRules s.relations s.rules c → IsFirstRuleBroken s c k rows → ⊥
+no_rule_broken : (s : Spec) (c : Rankings) (k : ℕ) (rows : List RowId) → SatisfiesRules s.relations s.rules c
+    → IsFirstRuleBroken s c k rows → ⊥
 no_rule_broken s c k rows is f =
-    not_both f.relation.rows (slice_index_or c f.rule.relation.0 []) f.rule rows f.broken (is k f.rule f.is_rule f.relation f.is_relation rows f.broken.choice)
+    not_both f.relation.rows (slice_index_or c f.rule.relation.0 []) f.rule rows f.broken
+    (is k f.rule f.is_rule f.relation f.is_relation rows f.broken.choice)
 
 pub one_flaw : (s : Spec) (c : Rankings) (flaw other : Flaw) → IsFirstFlaw s c flaw → IsFirstFlaw s c other → flaw ≡ other
-one_flaw s c (NotARanking rel attr ent) (NotARanking rel' attr' ent') f g = one_unranked s.relations c rel rel' attr attr' ent ent' f g
+one_flaw s c (NotARanking rel attr ent) (NotARanking rel' attr' ent') f g = one_unranked s.relations c rel rel' attr
+    attr' ent ent' f g
 one_flaw s c (NotARanking rel attr ent) (GivenBroken rel' q) f g = absurd (no_unranked s.relations c rel.0 attr.0 ent.0 g.0 f)
 one_flaw s c (NotARanking rel attr ent) (RuleBroken k rows) f g = absurd (no_unranked s.relations c rel.0 attr.0 ent.0 g.0 f)
 one_flaw s c (NotARanking rel attr ent) (CopyBroken k at t u) f g = absurd (no_unranked s.relations c rel.0 attr.0 ent.0 g.0 f)
-one_flaw s c (GivenBroken rel p) (NotARanking rel' attr' ent') f g = absurd (no_unranked s.relations c rel'.0 attr'.0 ent'.0 f.0 g)
+one_flaw s c (GivenBroken rel p) (NotARanking rel' attr' ent') f g =
+    absurd (no_unranked s.relations c rel'.0 attr'.0 ent'.0 f.0 g)
 one_flaw s c (GivenBroken rel p) (GivenBroken rel' q) f g = one_broken s.relations c rel rel' p q f.1 g.1
 one_flaw s c (GivenBroken rel p) (RuleBroken k rows) f g = absurd (no_broken s.relations c rel.0 p g.1 f.1)
 one_flaw s c (GivenBroken rel p) (CopyBroken k at t u) f g = absurd (no_broken s.relations c rel.0 p g.1 f.1)
-one_flaw s c (RuleBroken k rows) (NotARanking rel' attr' ent') f g = absurd (no_unranked s.relations c rel'.0 attr'.0 ent'.0 f.0 g)
+one_flaw s c (RuleBroken k rows) (NotARanking rel' attr' ent') f g =
+    absurd (no_unranked s.relations c rel'.0 attr'.0 ent'.0 f.0 g)
 one_flaw s c (RuleBroken k rows) (GivenBroken rel' q) f g = absurd (no_broken s.relations c rel'.0 q f.1 g.1)
 one_flaw s c (RuleBroken k xs) (RuleBroken k' ys) f g = one_rule_broken s c k k' xs ys f.2 g.2
 one_flaw s c (RuleBroken k rows) (CopyBroken k' at t u) f g = absurd (no_rule_broken s c k.0 rows g.2 f.2)
-one_flaw s c (CopyBroken k at t u) (NotARanking rel' attr' ent') f g = absurd (no_unranked s.relations c rel'.0 attr'.0 ent'.0 f.0 g)
+one_flaw s c (CopyBroken k at t u) (NotARanking rel' attr' ent') f g =
+    absurd (no_unranked s.relations c rel'.0 attr'.0 ent'.0 f.0 g)
 one_flaw s c (CopyBroken k at t u) (GivenBroken rel' q) f g = absurd (no_broken s.relations c rel'.0 q f.1 g.1)
 one_flaw s c (CopyBroken k at t u) (RuleBroken k' rows) f g = absurd (no_rule_broken s c k'.0 rows f.2 g.2)
 one_flaw s c (CopyBroken k at t u) (CopyBroken k' at' t' u') f g = one_copy_broken s c k k' at at' t u t' u' f.3 g.3

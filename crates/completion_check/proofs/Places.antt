@@ -16,7 +16,8 @@ get_push [] y zero x e = inr (refl, sym (same_Some y x e))
 get_push [] y (suc i) x e = absurd (none-some x e)
 get_push (z ∷ xs) y zero x e = inl e
 get_push (z ∷ xs) y (suc i) x e =
-    ⊎_elim (λ (h : slice_get xs i ≡ Some x). inl h) (λ (h : (i ≡ length xs) × (x ≡ y)). inr (ap suc h.0, h.1)) (get_push xs y i x e)
+    ⊎_elim (λ (h : slice_get xs i ≡ Some x). inl h) (λ (h : (i ≡ length xs) × (x ≡ y)). inr (ap suc h.0, h.1))
+    (get_push xs y i x e)
 
 push_get : {A : Type 0} (xs : List A) (y : A) → slice_get (xs ++ y ∷ []) (length xs) ≡ Some y
 push_get [] y = refl
@@ -28,13 +29,15 @@ get_left (z ∷ xs) ys zero x e = e
 get_left (z ∷ xs) ys (suc i) x e = get_left xs ys i x e
 
 -- an item of the front of a list
-pub get_of_take : {A : Type 0} (xs : List A) (n i : ℕ) (x : A) → slice_get (take n xs) i ≡ Some x → (i < n) × (slice_get xs i ≡ Some x)
+pub get_of_take : {A : Type 0} (xs : List A) (n i : ℕ) (x : A) → slice_get (take n xs) i ≡ Some x →
+    (i < n) × (slice_get xs i ≡ Some x)
 get_of_take xs zero i x e = absurd (none-some x e)
 get_of_take [] (suc n) i x e = absurd (none-some x e)
 get_of_take (z ∷ xs) (suc n) zero x e = (omega arith, e)
 get_of_take (z ∷ xs) (suc n) (suc i) x e = let h = get_of_take xs n i x e in (omega (arith, h.0), h.1)
 
-pub get_in_take : {A : Type 0} (xs : List A) (n i : ℕ) (x : A) → slice_get xs i ≡ Some x → i < n → slice_get (take n xs) i ≡ Some x
+pub get_in_take : {A : Type 0} (xs : List A) (n i : ℕ) (x : A) → slice_get xs i ≡ Some x → i < n
+    → slice_get (take n xs) i ≡ Some x
 get_in_take xs zero i x e below = absurd (omega arith)
 get_in_take [] (suc n) i x e below = absurd (none-some x e)
 get_in_take (z ∷ xs) (suc n) zero x e below = e
@@ -78,7 +81,8 @@ marks_more rows ent list places row marks of_ent free within =
           let last : i ≡ length list = omega arith in
           rw (last, same_row r row same) (push_get list row))
           (λ (other : r.0 ≡ row.0 → ⊥).
-          get_left list (row ∷ []) i r (marks.marked i r of_ent' (sym (get_or-set_other places row.0 r.0 (length list + 1) 0 other) ∙ at)))
+          get_left list (row ∷ []) i r (marks.marked i r of_ent'
+          (sym (get_or-set_other places row.0 r.0 (length list + 1) 0 other) ∙ at)))
           (cases_eq r.0 row.0);
     }
 
@@ -90,8 +94,10 @@ elsewhere_more rows ent row v old places same of_ent r not_of_ent =
     get_or-set_other places row r v 0 other ∙ same r not_of_ent
 
 -- a row that is not free shows that the list is no ranking
-pub refused_at : (rows : List Row) (ent n : ℕ) (list : List RowId) (places : List ℕ) (row : RowId) → AreMarksOf rows ent (take n list) places
-    → slice_get list n ≡ Some row → ((entity_of rows row.0 ≡ Some ent) × (slice_index places row.0 ≡ 0) → ⊥) → IsRanking rows ent list → ⊥
+pub refused_at : (rows : List Row) (ent n : ℕ) (list : List RowId) (places : List ℕ) (row : RowId)
+    → AreMarksOf rows ent (take n list) places
+    → slice_get list n ≡ Some row → ((entity_of rows row.0 ≡ Some ent) × (slice_index places row.0 ≡ 0) → ⊥)
+    → IsRanking rows ent list → ⊥
 refused_at rows ent n list places row marks at taken ranking =
     let of_ent = ranking.only row (contains_at list n row at) in
     go (slice_index places row.0) refl of_ent
@@ -110,7 +116,8 @@ row_within (r ∷ rows) zero ent e = omega arith
 row_within (r ∷ rows) (suc row) ent e = omega (arith, row_within rows row ent e)
 
 -- one more row of a list whose front is marked
-pub marks_next : (rows : List Row) (ent n : ℕ) (list : List RowId) (places : List ℕ) (row : RowId) → AreMarksOf rows ent (take n list) places
+pub marks_next : (rows : List Row) (ent n : ℕ) (list : List RowId) (places : List ℕ) (row : RowId)
+    → AreMarksOf rows ent (take n list) places
     → slice_get list n ≡ Some row → entity_of rows row.0 ≡ Some ent → slice_index places row.0 ≡ 0 → length rows ≤ length places
     → AreMarksOf rows ent (take (n + 1) list) (slice_set places row.0 (n + 1))
 marks_next rows ent n list places row marks at of_ent free room =
@@ -121,7 +128,8 @@ marks_next rows ent n list places row marks at of_ent free room =
     rw (take_more_at list n row at) (rw front at more)
 
 -- the marks of another entity stay
-pub marks_kept : (rows : List Row) (ent other : ℕ) (list : List RowId) (old new : List ℕ) → SameElsewhere rows ent old new → (other ≡ ent → ⊥)
+pub marks_kept : (rows : List Row) (ent other : ℕ) (list : List RowId) (old new : List ℕ) → SameElsewhere rows ent
+    old new → (other ≡ ent → ⊥)
     → AreMarksOf rows other list old → AreMarksOf rows other list new
 marks_kept rows ent other list old new same apart marks =
     let elsewhere : (row : ℕ) → entity_of rows row ≡ Some other → slice_index new row ≡ slice_index old row =

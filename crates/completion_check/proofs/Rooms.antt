@@ -10,7 +10,8 @@ use Rattle.completion_check.specs.Room.{HasPlaces, HasAllPlaces, HasMembers}
 use Rattle.completion_check.proofs.Places.{get_of_take, get_in_take}
 
 -- the item at a place of a list with one more at its end
-push_front : {A : Type 0} (xs : List A) (y d : A) (i : ℕ) → i < length xs → slice_index_or (xs ++ y ∷ []) i d ≡ slice_index_or xs i d
+push_front : {A : Type 0} (xs : List A) (y d : A) (i : ℕ) → i < length xs → slice_index_or (xs ++ y ∷ []) i d ≡
+    slice_index_or xs i d
 push_front [] y d i below = absurd (omega arith)
 push_front (x ∷ xs) y d zero below = refl
 push_front (x ∷ xs) y d (suc i) below = push_front xs y d i (omega arith)
@@ -20,7 +21,8 @@ push_end [] y d = refl
 push_end (x ∷ xs) y d = push_end xs y d
 
 -- what holds of each relation and what is kept for it holds with one more
-pub each_next : {A B : Type 0} (P : A → B → Type 0) (rs : List A) (xs : List B) (n : ℕ) (r : A) (x d : B) → n < length rs → r ≡ get_or rs n r → length xs ≡ n → P r x
+pub each_next : {A B : Type 0} (P : A → B → Type 0) (rs : List A) (xs : List B) (n : ℕ) (r : A) (x d : B)
+    → n < length rs → r ≡ get_or rs n r → length xs ≡ n → P r x
     → ((rel : ℕ) (q : A) → slice_get (take n rs) rel ≡ Some q → P q (slice_index_or xs rel d))
     → (rel : ℕ) (q : A) → slice_get (take (n + 1) rs) rel ≡ Some q → P q (slice_index_or (xs ++ x ∷ []) rel d)
 each_next P rs xs n r x d within read count here before rel q at =
@@ -29,7 +31,8 @@ each_next P rs xs n r x d within read count here before rel q at =
     ⊎_elim
     (λ (is : rel ≡ n).
     let same : r ≡ q = same_Some r q (sym at_n ∙ ap (slice_get rs) (sym is) ∙ found.1) in
-    let value : slice_index_or (xs ++ x ∷ []) rel d ≡ x = ap (λ (k : ℕ). slice_index_or (xs ++ x ∷ []) k d) (is ∙ sym count) ∙ push_end xs x d in
+    let value : slice_index_or (xs ++ x ∷ []) rel d ≡ x = ap (λ (k : ℕ). slice_index_or (xs ++ x ∷ []) k d)
+    (is ∙ sym count) ∙ push_end xs x d in
     subst (P q) (sym value) (rw same at here))
     (λ (apart : rel ≡ n → ⊥).
     let below : rel < n = omega (arith, found.0) in
@@ -88,20 +91,23 @@ pub members_all : (rs : List Relation) (ms : List (List (List RowId))) (n : ℕ)
 members_all rs ms n past room = subst (λ (all : List Relation). HasMembers all ms) (take_all n rs past) room
 
 -- what holds of each relation and what is kept for it holds after what is kept for one more was written
-pub each_written : {A B : Type 0} (P : ℕ → A → B → Type 0) (rs : List A) (xs : List B) (n : ℕ) (r : A) (x d : B) → n < length xs → slice_get rs n ≡ Some r → P n r x
+pub each_written : {A B : Type 0} (P : ℕ → A → B → Type 0) (rs : List A) (xs : List B) (n : ℕ) (r : A) (x d : B)
+    → n < length xs → slice_get rs n ≡ Some r → P n r x
     → ((rel : ℕ) (q : A) → rel < n → slice_get rs rel ≡ Some q → P rel q (slice_index_or xs rel d))
     → (rel : ℕ) (q : A) → rel < n + 1 → slice_get rs rel ≡ Some q → P rel q (slice_index_or (slice_set xs n x) rel d)
 each_written {A} P rs xs n r x d within at_n here before rel q below at =
     ⊎_elim
     (λ (is : rel ≡ n).
     let same : r ≡ q = same_Some r q (sym at_n ∙ ap (slice_get rs) (sym is) ∙ at) in
-    let value : slice_index_or (slice_set xs n x) rel d ≡ x = ap (λ (k : ℕ). slice_index_or (slice_set xs n x) k d) is ∙ get_or-set_same xs n x d within in
+    let value : slice_index_or (slice_set xs n x) rel d ≡ x = ap (λ (k : ℕ). slice_index_or (slice_set xs n x) k d)
+    is ∙ get_or-set_same xs n x d within in
     subst (P rel q) (sym value) (subst (λ (s : A). P rel s x) same (subst (λ (k : ℕ). P k r x) (sym is) here)))
     (λ (apart : rel ≡ n → ⊥). subst (P rel q) (sym (get_or-set_other xs n rel x d apart)) (before rel q (omega arith) at))
     (cases_eq rel n)
 
 -- there is room for each relation after the places of one were written
-pub has_all_places_set : (rs : List Relation) (ps : List (List (List ℕ))) (n : ℕ) (r : Relation) (new : List (List ℕ)) → n < length ps → slice_get rs n ≡ Some r → HasPlaces r new
+pub has_all_places_set : (rs : List Relation) (ps : List (List (List ℕ))) (n : ℕ) (r : Relation)
+    (new : List (List ℕ)) → n < length ps → slice_get rs n ≡ Some r → HasPlaces r new
     → HasAllPlaces rs ps → HasAllPlaces rs (slice_set ps n new)
 has_all_places_set rs ps n r new within at_n here room =
     record {
@@ -110,7 +116,8 @@ has_all_places_set rs ps n r new within at_n here room =
           ⊎_elim
           (λ (is : rel ≡ n).
           let same : r ≡ q = same_Some r q (sym at_n ∙ ap (slice_get rs) (sym is) ∙ at) in
-          let value : slice_index_or (slice_set ps n new) rel [] ≡ new = ap (λ (k : ℕ). slice_index_or (slice_set ps n new) k []) is ∙ get_or-set_same ps n new [] within in
+          let value : slice_index_or (slice_set ps n new) rel [] ≡ new =
+          ap (λ (k : ℕ). slice_index_or (slice_set ps n new) k []) is ∙ get_or-set_same ps n new [] within in
           subst (HasPlaces q) (sym value) (subst (λ (s : Relation). HasPlaces s new) same here))
           (λ (apart : rel ≡ n → ⊥). subst (HasPlaces q) (sym (get_or-set_other ps n rel new [] apart)) (room.each rel q at))
           (cases_eq rel n);

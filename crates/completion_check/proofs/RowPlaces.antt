@@ -8,7 +8,8 @@ use Rattle.completion_check.specs.Marks.{AreMarked}
 use Rattle.completion_check.specs.Room.{HasPlaces}
 
 -- the length of the list at a place after a write of one as long
-length_at_set : {A : Type 0} (xs : List (List A)) (i j : ℕ) (new : List A) → i < length xs → length new ≡ length (slice_index_or xs i [])
+length_at_set : {A : Type 0} (xs : List (List A)) (i j : ℕ) (new : List A) → i < length xs → length new ≡ length
+    (slice_index_or xs i [])
     → length (slice_index_or (slice_set xs i new) j []) ≡ length (slice_index_or xs j [])
 length_at_set {A} xs i j new within same =
     ⊎_elim
@@ -19,7 +20,8 @@ length_at_set {A} xs i j new within same =
     (cases_eq j i)
 
 -- there is room for the relation's rows after the places of one attribute were written
-pub has_places_set : (r : Relation) (ps : List (List ℕ)) (attr : ℕ) (new : List ℕ) → attr < length r.attrs → length new ≡ length (slice_index_or ps attr [])
+pub has_places_set : (r : Relation) (ps : List (List ℕ)) (attr : ℕ) (new : List ℕ) → attr < length r.attrs
+    → length new ≡ length (slice_index_or ps attr [])
     → HasPlaces r ps → HasPlaces r (slice_set ps attr new)
 has_places_set r ps attr new within same room =
     let here : attr < length ps = omega (arith, room.per_attr) in
@@ -29,7 +31,8 @@ has_places_set r ps attr new within same room =
     }
 
 -- the places in one more attribute
-pub marked_next : (r : Relation) (lists : Lists) (ps : List (List ℕ)) (n : ℕ) (new : List ℕ) → n < length ps → AreMarked r.rows (slice_index_or lists n []) new
+pub marked_next : (r : Relation) (lists : Lists) (ps : List (List ℕ)) (n : ℕ) (new : List ℕ) → n < length ps
+    → AreMarked r.rows (slice_index_or lists n []) new
     → ((attr : ℕ) → attr < n → AreMarked r.rows (slice_index_or lists attr []) (slice_index_or ps attr []))
     → (attr : ℕ) → attr < n + 1 → AreMarked r.rows (slice_index_or lists attr []) (slice_index_or (slice_set ps n new) attr [])
 marked_next r lists ps n new within here before attr below =

@@ -14,7 +14,8 @@ use Rattle.completion_check.proofs.Fronts.{test_front}
 
 -- the predicates of one more variable hold
 pub tested_next : (t : Tried) (depth : ℕ) (front : List RowId) → 0 < depth → AreTested t (depth - 1) front
-    → ((k : ℕ) (p : Predicate) → slice_get t.rule.predicates k ≡ Some p → last_var p ≡ depth - 1 → predicate_test t.table t.places front p ≡ true)
+    → ((k : ℕ) (p : Predicate) → slice_get t.rule.predicates k ≡ Some p → last_var p ≡ depth - 1
+    → predicate_test t.table t.places front p ≡ true)
     → AreTested t depth front
 tested_next t depth front some tested here k p at below =
     ⊎_elim
@@ -23,7 +24,8 @@ tested_next t depth front some tested here k p at below =
     (cases_eq (last_var p) (depth - 1))
 
 -- and they do when a row follows
-pub tested_push : (t : Tried) (depth : ℕ) (front : List RowId) (row : RowId) → length front ≡ depth → AreTested t depth front → AreTested t depth (front ++ row ∷ [])
+pub tested_push : (t : Tried) (depth : ℕ) (front : List RowId) (row : RowId) → length front ≡ depth
+    → AreTested t depth front → AreTested t depth (front ++ row ∷ [])
 tested_push t depth front row count tested k p at below =
     test_front t.table t.places front (row ∷ []) p (omega (arith, count)) ∙ tested k p at below
 
@@ -31,12 +33,18 @@ tested_push t depth front row count tested k p at below =
 after : (front : List RowId) (row : RowId) (more : List RowId) → (front ++ row ∷ []) ++ more ≡ front ++ (row ∷ more)
 after front row more = append_assoc front (row ∷ []) more
 
-first_of_more : (members : List RowId) (left : ℕ) (row : RowId) (more : List RowId) → AreMore members (left + 1) (row ∷ more) → AreMore members left more
-first_of_more members left row more are = record { count = omega (arith, are.count); among = All-tail (Contains members) row more are.among }
+first_of_more : (members : List RowId) (left : ℕ) (row : RowId) (more : List RowId) → AreMore members (left + 1)
+    (row ∷ more) → AreMore members left more
+first_of_more members left row more are = record {
+  count = omega (arith, are.count);
+  among = All-tail
+      (Contains members) row more are.among;
+}
 
 -- where no next row leads to a break there is none
 pub none_next : (t : Tried) (members front : List RowId) (left : ℕ)
-    → ((k : ℕ) (row : RowId) → k < length members → slice_get members k ≡ Some row → NoneBreaks t members left (front ++ row ∷ []))
+    → ((k : ℕ) (row : RowId) → k < length members → slice_get members k ≡ Some row → NoneBreaks t members left
+    (front ++ row ∷ []))
     → NoneBreaks t members (left + 1) front
 none_next t members front left each [] are = absurd (omega (arith, are.count))
 none_next t members front left each (row ∷ more) are =
@@ -45,19 +53,22 @@ none_next t members front left each (row ∷ more) are =
     ∙ each at.0 row (slice_get_within members at.0 row at.1) at.1 more (first_of_more members left row more are)
 
 -- a row before another of the members stands at a smaller place
-pub stands_before : (members : List RowId) (i k : ℕ) (row r : RowId) → Ascend members → slice_get members i ≡ Some row → slice_get members k ≡ Some r → r.0 < row.0 → k < i
+pub stands_before : (members : List RowId) (i k : ℕ) (row r : RowId) → Ascend members → slice_get members i ≡ Some
+    row → slice_get members k ≡ Some r → r.0 < row.0 → k < i
 stands_before members i k row r ascend at at_k less =
     ⊎_elim
     (λ (h : k < i). h)
     (λ (above : i ≤ k).
     ⊎_elim
-    (λ (is : k ≡ i). let same : r ≡ row = same_Some r row (sym at_k ∙ (ap (slice_get members) is ∙ at)) in absurd (omega (arith, ap (λ (q : RowId). q.0) same)))
+    (λ (is : k ≡ i). let same : r ≡ row = same_Some r row (sym at_k ∙ (ap (slice_get members) is ∙ at)) in absurd
+    (omega (arith, ap (λ (q : RowId). q.0) same)))
     (λ (apart : k ≡ i → ⊥). absurd (omega (arith, ascend i k row r at at_k (omega arith))))
     (cases_eq k i))
     (cases_lt k i)
 
 -- the first row that leads to a break leads to the first one
-pub first_next : (t : Tried) (members front found : List RowId) (left i : ℕ) (row : RowId) → Ascend members → slice_get members i ≡ Some row
+pub first_next : (t : Tried) (members front found : List RowId) (left i : ℕ) (row : RowId) → Ascend members
+    → slice_get members i ≡ Some row
     → ((k : ℕ) (r : RowId) → k < i → slice_get members k ≡ Some r → NoneBreaks t members left (front ++ r ∷ []))
     → BreaksFirst t members left (front ++ row ∷ []) found → BreaksFirst t members (left + 1) front found
 first_next t members front found left i row ascend at before first =
@@ -72,7 +83,8 @@ first_next t members front found left i row ascend at before first =
       earlier = λ others. earlier others;
     }
   where
-    earlier : (others : List RowId) → AreRowsBefore others (row ∷ first.more) → AreMore members (left + 1) others → breaks_it t (front ++ others) ≡ false
+    earlier : (others : List RowId) → AreRowsBefore others (row ∷ first.more) → AreMore members (left + 1) others
+        → breaks_it t (front ++ others) ≡ false
     earlier [] before_it are = absurd before_it
     earlier (r ∷ others) before_it are =
         let there = at_contains members r (All-head (Contains members) r others are.among) in
@@ -86,5 +98,7 @@ first_next t members front found left i row ascend at before first =
         before_it
 
 -- rows and one more are rows of the table
-pub rows_push : (n : ℕ) (front : List RowId) (row : RowId) → All (λ r. r.0 < n) front → row.0 < n → All (λ r. r.0 < n) (front ++ row ∷ [])
-rows_push n front row all here = All-append (λ r. r.0 < n) front (row ∷ []) all (All-cons (λ r. r.0 < n) row [] here (λ k d below. absurd (omega arith)))
+pub rows_push : (n : ℕ) (front : List RowId) (row : RowId) → All (λ r. r.0 < n) front → row.0 < n
+    → All (λ r. r.0 < n) (front ++ row ∷ [])
+rows_push n front row all here = All-append (λ r. r.0 < n) front (row ∷ []) all
+    (All-cons (λ r. r.0 < n) row [] here (λ k d below. absurd (omega arith)))

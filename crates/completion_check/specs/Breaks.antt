@@ -82,7 +82,8 @@ pub record BreaksFirst (t : Tried) (members : List RowId) (left : ℕ) (front fo
   pub found_is : found ≡ front ++ more
   pub are_more : AreMore members left more
   pub breaks : breaks_it t found ≡ true
-  pub earlier : (others : List RowId) → AreRowsBefore others more → AreMore members left others → breaks_it t (front ++ others) ≡ false
+  pub earlier : (others : List RowId) → AreRowsBefore others more → AreMore members left others → breaks_it t
+      (front ++ others) ≡ false
 
 -- no choice of rows breaks the rule
 abbrev pub NoChoiceBreaks : Tried → Type 0
@@ -92,7 +93,8 @@ NoChoiceBreaks t = (rows : List RowId) → IsChoice t.table t.rule.vars rows →
 pub record IsFirstBreak (t : Tried) (found : List RowId) : Type 0 where
   pub choice : IsChoice t.table t.rule.vars found
   pub breaks : breaks_it t found ≡ true
-  pub earlier : (others : List RowId) → AreRowsBefore others found → IsChoice t.table t.rule.vars others → breaks_it t others ≡ false
+  pub earlier : (others : List RowId) → AreRowsBefore others found → IsChoice t.table t.rule.vars others
+      → breaks_it t others ≡ false
 
 -- ---- all rules of a specification
 
@@ -103,10 +105,12 @@ tried rule r places = record { rule = rule; table = r.rows; places = places }
 -- no choice of rows breaks one of these rules
 abbrev pub NoRuleBreaks : List Relation → List Rule → List Places → Type 0
 NoRuleBreaks relations rules places = (k : ℕ) (rule : Rule) → slice_get rules k ≡ Some rule
-    → (r : Relation) → slice_get relations rule.relation.0 ≡ Some r → NoChoiceBreaks (tried rule r (slice_index_or places rule.relation.0 []))
+    → (r : Relation) → slice_get relations rule.relation.0 ≡ Some r → NoChoiceBreaks
+    (tried rule r (slice_index_or places rule.relation.0 []))
 
 -- the first choice of rows that breaks one of these rules
-pub record IsFirstRuleBreak (relations : List Relation) (rules : List Rule) (places : List Places) (k : ℕ) (rows : List RowId) : Type 0 where
+pub record IsFirstRuleBreak (relations : List Relation) (rules : List Rule) (places : List Places) (k : ℕ)
+    (rows : List RowId) : Type 0 where
   pub rule : Rule
   pub is_rule : slice_get rules k ≡ Some rule
   pub relation : Relation

@@ -19,8 +19,10 @@ pub record IsPlaceAmong (targets sources : ℕ) (place : Place) : Type 0 where
 -- a copy function whose rows and attributes all have places
 pub record IsCopyTrial (t : CopyTried) : Type 0 where
   pub places : All (IsPlaceAmong (length t.target_places) (length t.source_places)) t.copy.places
-  pub target_room : (attr : ℕ) → attr < length t.target_places → length (slice_index_or t.target_places attr []) ≡ length t.target_rows
-  pub source_room : (attr : ℕ) → attr < length t.source_places → length (slice_index_or t.source_places attr []) ≡ length t.source_rows
+  pub target_room : (attr : ℕ) → attr < length t.target_places → length (slice_index_or t.target_places attr []) ≡
+      length t.target_rows
+  pub source_room : (attr : ℕ) → attr < length t.source_places → length (slice_index_or t.source_places attr []) ≡
+      length t.source_rows
   pub target_row : (row source : RowId) → source_at t.copy row ≡ Some source → row.0 < length t.target_rows
   pub source_row : (row source : RowId) → source_at t.copy row ≡ Some source → source.0 < length t.source_rows
 
@@ -37,7 +39,8 @@ pub record IsFirstPartner (t : CopyTried) (place : Place) (first : RowId) (membe
 
 -- no two rows of one entity break a place
 abbrev pub NoPairBreaks : CopyTried → Place → Type 0
-NoPairBreaks t place = (ent : ℕ) (first second : RowId) → entity_of t.target_rows first.0 ≡ Some ent → entity_of t.target_rows second.0 ≡ Some ent
+NoPairBreaks t place = (ent : ℕ) (first second : RowId) → entity_of t.target_rows first.0 ≡ Some ent
+    → entity_of t.target_rows second.0 ≡ Some ent
     → breaks_copy t place first second ≡ false
 
 -- the first two rows of one entity that break a place
@@ -46,7 +49,8 @@ pub record IsFirstPairBreak (t : CopyTried) (place : Place) (first second : RowI
   pub first_of : entity_of t.target_rows first.0 ≡ Some ent
   pub second_of : entity_of t.target_rows second.0 ≡ Some ent
   pub breaks : breaks_copy t place first second ≡ true
-  pub earlier : (ent' : ℕ) (first' second' : RowId) → IsRowPairBefore first' second' first second → entity_of t.target_rows first'.0 ≡ Some ent'
+  pub earlier : (ent' : ℕ) (first' second' : RowId) → IsRowPairBefore first' second' first second
+      → entity_of t.target_rows first'.0 ≡ Some ent'
       → entity_of t.target_rows second'.0 ≡ Some ent' → breaks_copy t place first' second' ≡ false
 
 -- no two rows break any place
@@ -83,7 +87,8 @@ NoneBreaksCopy relations places copy = (target source : Relation) → slice_get 
     → slice_get relations copy.source.0 ≡ Some source → NoPlaceBreaks (copy_tried copy target source places)
 
 -- the first place and the first two rows that break a copy function
-pub record BreaksCopyFirst (relations : List Relation) (places : List Places) (copy : CopyFunction) (at : ℕ) (first second : RowId) : Type 0 where
+pub record BreaksCopyFirst (relations : List Relation) (places : List Places) (copy : CopyFunction) (at : ℕ)
+    (first second : RowId) : Type 0 where
   pub target : Relation
   pub source : Relation
   pub is_target : slice_get relations copy.target.0 ≡ Some target
@@ -92,10 +97,12 @@ pub record BreaksCopyFirst (relations : List Relation) (places : List Places) (c
 
 -- no two rows break one of these copy functions
 abbrev pub NoCopyBreaks : List Relation → List CopyFunction → List Places → Type 0
-NoCopyBreaks relations copies places = (k : ℕ) (copy : CopyFunction) → slice_get copies k ≡ Some copy → NoneBreaksCopy relations places copy
+NoCopyBreaks relations copies places = (k : ℕ) (copy : CopyFunction) → slice_get copies k ≡ Some copy
+    → NoneBreaksCopy relations places copy
 
 -- the first place and the first two rows that break one of these copy functions
-pub record IsFirstCopyBreak (relations : List Relation) (copies : List CopyFunction) (places : List Places) (k at : ℕ) (first second : RowId) : Type 0 where
+pub record IsFirstCopyBreak (relations : List Relation) (copies : List CopyFunction) (places : List Places)
+    (k at : ℕ) (first second : RowId) : Type 0 where
   pub copy : CopyFunction
   pub is_copy : slice_get copies k ≡ Some copy
   pub breaks : BreaksCopyFirst relations places copy at first second

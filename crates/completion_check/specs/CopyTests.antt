@@ -26,7 +26,8 @@ are_of_one_entity rows a b = is_one_entity (entity_of rows a.0) (entity_of rows 
 
 -- the first of two rows has the smaller place in an attribute
 abbrev pub is_lower : Places → ℕ → RowId → RowId → Bool
-is_lower places attr a b = nat_lt (slice_index (slice_index_or places attr []) a.0) (slice_index (slice_index_or places attr []) b.0)
+is_lower places attr a b = nat_lt (slice_index (slice_index_or places attr []) a.0)
+    (slice_index (slice_index_or places attr []) b.0)
 
 -- two source rows are of one entity, and the first has the smaller place in the source attribute
 abbrev pub is_source_lower : CopyTried → Place → RowId → RowId → Bool
@@ -34,7 +35,8 @@ is_source_lower t place a b = are_of_one_entity t.source_rows a b && is_lower t.
 
 -- two rows with these sources, if they have any, break the place
 abbrev pub breaks_with : CopyTried → Place → RowId → RowId → Option RowId → Option RowId → Bool
-breaks_with t place first second (Some a) (Some b) = is_source_lower t place a b && not (is_lower t.target_places place.target.0 first second)
+breaks_with t place first second (Some a) (Some b) = is_source_lower t place a b
+    && not (is_lower t.target_places place.target.0 first second)
 breaks_with t place first second a b = false
 
 -- two rows break the place: their sources are of one entity, the first one's has the smaller place in the source

@@ -25,14 +25,16 @@ IsUnrankedFlaw relations c flaw = ⊥
 
 -- the given pairs of each relation are in order
 abbrev pub AreAllInOrder : List Relation → List Places → Type 0
-AreAllInOrder relations places = (rel : ℕ) (r : Relation) → slice_get relations rel ≡ Some r → AreInOrder (slice_index_or places rel []) r.given
+AreAllInOrder relations places = (rel : ℕ) (r : Relation) → slice_get relations rel ≡ Some r → AreInOrder
+    (slice_index_or places rel []) r.given
 
 -- the first given pair of a relation that is not in order, no earlier relation having one
 pub record IsFirstPairOut (relations : List Relation) (places : List Places) (rel : ℕ) (pair : Pair) : Type 0 where
   pub relation : Relation
   pub is_relation : slice_get relations rel ≡ Some relation
   pub first : IsFirstOutOfOrder (slice_index_or places rel []) relation.given pair
-  pub earlier : (other : ℕ) (r : Relation) → other < rel → slice_get relations other ≡ Some r → AreInOrder (slice_index_or places other []) r.given
+  pub earlier : (other : ℕ) (r : Relation) → other < rel → slice_get relations other ≡ Some r → AreInOrder
+      (slice_index_or places other []) r.given
 
 -- the flaw is the first given pair that is not in order
 abbrev pub IsPairFlaw : List Relation → List Places → Flaw → Type 0
@@ -46,5 +48,6 @@ IsRuleFlaw relations rules places flaw = ⊥
 
 -- the flaw is the first two rows that break a copy function
 abbrev pub IsCopyFlaw : List Relation → List CopyFunction → List Places → Flaw → Type 0
-IsCopyFlaw relations copies places (CopyBroken copy place first second) = IsFirstCopyBreak relations copies places copy.0 place first second
+IsCopyFlaw relations copies places (CopyBroken copy place first second) = IsFirstCopyBreak relations copies places
+    copy.0 place first second
 IsCopyFlaw relations copies places flaw = ⊥

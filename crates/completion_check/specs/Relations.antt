@@ -18,11 +18,13 @@ pub record FitsRelation (r : Relation) (lists : Lists) : Type 0 where
 
 -- each list is a ranking
 abbrev pub IsRanked : Relation → Lists → Type 0
-IsRanked r lists = (attr ent : ℕ) → attr < length r.attrs → ent < length r.entities → IsRanking r.rows ent (list_of lists attr ent)
+IsRanked r lists = (attr ent : ℕ) → attr < length r.attrs → ent < length r.entities → IsRanking r.rows ent
+    (list_of lists attr ent)
 
 -- each row has its place in its entity's list, in each attribute
 abbrev pub AreAllMarked : Relation → Lists → List (List ℕ) → Type 0
-AreAllMarked r lists places = (attr : ℕ) → attr < length r.attrs → AreMarked r.rows (slice_index_or lists attr []) (slice_index_or places attr [])
+AreAllMarked r lists places = (attr : ℕ) → attr < length r.attrs → AreMarked r.rows (slice_index_or lists attr [])
+    (slice_index_or places attr [])
 
 -- the first list that is no ranking
 pub record IsFirstUnrankedOf (r : Relation) (lists : Lists) (attr ent : ℕ) : Type 0 where
@@ -34,7 +36,8 @@ pub record IsFirstUnrankedOf (r : Relation) (lists : Lists) (attr ent : ℕ) : T
 
 -- the earlier row of a pair has the smaller place in its attribute
 abbrev pub IsInOrder : List (List ℕ) → Pair → Type 0
-IsInOrder places p = slice_index (slice_index_or places p.attr.0 []) p.earlier.0 < slice_index (slice_index_or places p.attr.0 []) p.later.0
+IsInOrder places p = slice_index (slice_index_or places p.attr.0 []) p.earlier.0 < slice_index
+    (slice_index_or places p.attr.0 []) p.later.0
 
 -- the same of each of these pairs
 abbrev pub AreInOrder : List (List ℕ) → List Pair → Type 0

@@ -24,12 +24,14 @@ is_before places earlier later = false
 
 -- the row of the atom's earlier variable has the smaller place in its attribute
 abbrev pub atom_test : Places → List RowId → OrderAtom → Bool
-atom_test places rows atom = is_before (slice_index_or places atom.attr.0 []) (slice_get rows atom.earlier) (slice_get rows atom.later)
+atom_test places rows atom = is_before (slice_index_or places atom.attr.0 []) (slice_get rows atom.earlier)
+    (slice_get rows atom.later)
 
 -- the predicate holds
 abbrev pub predicate_test : List Row → Places → List RowId → Predicate → Bool
 predicate_test table places rows (Order atom) = atom_test places rows atom
-predicate_test table places rows (Compare left cmp right) = is_compared (operand_value table rows left) cmp (operand_value table rows right)
+predicate_test table places rows (Compare left cmp right) = is_compared (operand_value table rows left) cmp
+    (operand_value table rows right)
 
 -- the conclusion holds
 abbrev pub conclusion_test : Places → List RowId → Conclusion → Bool
@@ -38,7 +40,8 @@ conclusion_test places rows (conclusion.Order atom) = atom_test places rows atom
 
 -- the rows break the rule: all predicates hold, and the conclusion does not
 unfoldable pub breaks : List Row → Places → Rule → List RowId → Bool
-breaks table places rule rows = list_all (predicate_test table places rows) rule.predicates && not (conclusion_test places rows rule.conclusion)
+breaks table places rule rows = list_all (predicate_test table places rows) rule.predicates
+    && not (conclusion_test places rows rule.conclusion)
 
 -- the variable of an operand, and 0 for a constant
 abbrev pub operand_var : Operand → ℕ

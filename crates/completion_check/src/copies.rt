@@ -82,8 +82,10 @@ fn broken_between(
     requires target_places { HasPlaces target.now target_places.now }
     requires source_places { HasPlaces source.now source_places.now }
     requires members { AreEntityRows target.now.rows (length target.now.entities) members.now }
-    ensures none { IfNone result (NoPlaceBreaks (tried_between copy.now target.now source.now target_places.now source_places.now)) }
-    ensures some { IfSome result (λ b. IsFirstPlaceBreak (tried_between copy.now target.now source.now target_places.now source_places.now) b.place b.first b.second) }
+    ensures none { IfNone result (NoPlaceBreaks (tried_between copy.now target.now source.now target_places.now
+        source_places.now)) }
+    ensures some { IfSome result (λ b. IsFirstPlaceBreak
+        (tried_between copy.now target.now source.now target_places.now source_places.now) b.place b.first b.second) }
 {
     let trial = CopyTrial {
         copy,

@@ -26,9 +26,22 @@ impl<'a> Model for CopyTrial<'a> {
 
     ghost Value = { CopyTried };
 
-    ghost view = { λ t. record { copy = t.copy.now; target_rows = t.target_rows.now; source_rows = t.source_rows.now; target_places = t.target_places.now; source_places = t.source_places.now } };
+    ghost view = { λ t. record {
+      copy = t.copy.now;
+      target_rows = t.target_rows.now;
+      source_rows = t.source_rows.now;
+      target_places = t.target_places.now;
+      source_places = t.source_places.now;
+    } };
 
-    ghost invariant = { λ t. IsCopyTrial (record { copy = t.copy.now; target_rows = t.target_rows.now; source_rows = t.source_rows.now; target_places = t.target_places.now; source_places = t.source_places.now }) };
+    ghost invariant = { λ t. IsCopyTrial (record {
+      copy = t.copy.now;
+      target_rows = t.target_rows.now;
+      source_rows =
+          t.source_rows.now;
+      target_places = t.target_places.now;
+      source_places = t.source_places.now;
+    }) };
 }
 
 impl CopyTrial<'_> {

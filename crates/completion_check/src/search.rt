@@ -52,7 +52,8 @@ fn first_from(
     requires rows { AreRows trial.now.table (take depth choice) }
     requires tested { AreTested trial.now (depth - 1) (take depth choice) }
     ensures none { IfNone result (NoneBreaks trial.now members.now (trial.now.rule.vars - depth) (take depth choice)) }
-    ensures some { IfSome result (λ found. BreaksFirst trial.now members.now (trial.now.rule.vars - depth) (take depth choice) (take trial.now.rule.vars found)) }
+    ensures some { IfSome result (λ found. BreaksFirst trial.now members.now (trial.now.rule.vars - depth)
+        (take depth choice) (take trial.now.rule.vars found)) }
 {
     let vars = trial.vars();
     if !trial.passes(&choice[..depth], depth - 1) {

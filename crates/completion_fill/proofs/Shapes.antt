@@ -15,7 +15,8 @@ use Rattle.completion_fill.proofs.Merged.{length-merged, get_or-merged}
 
 -- what holds of as many attributes as a relation has, and of none, holds of a place's
 each_attr : (relations : List Relation) (c : Rankings) (rel : ℕ) (P : ℕ → Type 0) → HasShape relations c
-    → ((r : Relation) → slice_get relations rel ≡ Some r → P (length r.attrs)) → (length c ≤ rel → P 0) → P (length (get_or c rel []))
+    → ((r : Relation) → slice_get relations rel ≡ Some r → P (length r.attrs)) → (length c ≤ rel → P 0)
+    → P (length (get_or c rel []))
 each_attr relations c rel P shape here past =
     ⊎_elim
     (λ (w : (r : Relation) × (rel < length relations) × (slice_get relations rel ≡ Some r) × (get_or relations rel r ≡ r)).
@@ -60,7 +61,8 @@ alike relations first c of_first of_c =
     }
 
 -- rankings that are alike have one shape
-pub shape_alike : (relations : List Relation) (first c : Rankings) → HasShape relations first → AreAlike first c → HasShape relations c
+pub shape_alike : (relations : List Relation) (first c : Rankings) → HasShape relations first → AreAlike first c
+    → HasShape relations c
 shape_alike relations first c shape h = record {
   per_relation = sym h.per_relation ∙ shape.per_relation;
   per_attr = λ rel r at. sym (h.per_attr rel) ∙ shape.per_attr rel r at;
@@ -68,16 +70,19 @@ shape_alike relations first c shape h = record {
 }
 
 -- a relation of a specification is one
-pub is_relation_at : (relations : List Relation) (rel : ℕ) (r : Relation) → AreRelations relations → slice_get relations rel ≡ Some r → IsRelation r
+pub is_relation_at : (relations : List Relation) (rel : ℕ) (r : Relation) → AreRelations relations
+    → slice_get relations rel ≡ Some r → IsRelation r
 is_relation_at relations rel r h at =
-    subst IsRelation (get_or_from_slice_get relations rel r r at) (All-get_or IsRelation relations rel r (slice_get_within relations rel r at) h.each)
+    subst IsRelation (get_or_from_slice_get relations rel r r at)
+    (All-get_or IsRelation relations rel r (slice_get_within relations rel r at) h.each)
 
 -- the places of rankings of a specification are numbers of 32 bits
 pub narrow : (relations : List Relation) (c : Rankings) → AreRelations relations → HasShape relations c → IsNarrow c
 narrow relations c are shape = record {
   per_relation = omega (arith, are.few, shape.per_relation);
   per_attr = λ rel.
-      each_attr relations c rel (λ n. n < 2 ^ 32) shape (λ r at. omega (arith, (is_relation_at relations rel r are at).few_attrs)) (λ h. omega arith);
+      each_attr relations c rel (λ n. n < 2 ^ 32) shape
+      (λ r at. omega (arith, (is_relation_at relations rel r are at).few_attrs)) (λ h. omega arith);
   per_entity = λ rel attr.
       each_entity relations c rel attr (λ n. n < 2 ^ 32) shape
       (λ r at below. omega (arith, (is_relation_at relations rel r are at).few_entities)) (λ h. omega arith);
@@ -106,10 +111,12 @@ filled_alike first c h = record {
   per_relation = h.per_relation ∙ sym (length-merged (merged (merged list_or)) first c h.per_relation);
   per_attr = λ rel.
       h.per_attr rel
-      ∙ sym (ap length (filled_attrs first c rel h) ∙ length-merged (merged list_or) (get_or first rel []) (get_or c rel []) (h.per_attr rel));
+      ∙ sym (ap length (filled_attrs first c rel h) ∙ length-merged (merged list_or) (get_or first rel [])
+      (get_or c rel []) (h.per_attr rel));
   per_entity = λ rel attr.
       h.per_entity rel attr
-      ∙ sym (ap length (filled_lists first c rel attr h) ∙ length-merged list_or (lists_of first rel attr) (lists_of c rel attr) (h.per_entity rel attr));
+      ∙ sym (ap length (filled_lists first c rel attr h) ∙ length-merged list_or (lists_of first rel attr)
+      (lists_of c rel attr) (h.per_entity rel attr));
 }
 
 -- two rankings of one shape, filled: their shape, and what stands at a place
@@ -118,19 +125,23 @@ pub filled_shape : (relations : List Relation) (first c : Rankings) → HasShape
 filled_shape relations first c of_first of_c =
     shape_alike relations first (filled first c) of_first (filled_alike first c (alike relations first c of_first of_c))
 
-pub filled_ranking : (relations : List Relation) (first c : Rankings) → HasShape relations first → HasShape relations c → (rel attr ent : ℕ)
+pub filled_ranking : (relations : List Relation) (first c : Rankings) → HasShape relations first → HasShape relations
+    c → (rel attr ent : ℕ)
     → ranking_of (filled first c) rel attr ent ≡ list_or (ranking_of first rel attr ent) (ranking_of c rel attr ent)
-filled_ranking relations first c of_first of_c rel attr ent = filled_list first c rel attr ent (alike relations first c of_first of_c)
+filled_ranking relations first c of_first of_c rel attr ent = filled_list first c rel attr ent
+    (alike relations first c of_first of_c)
 
 -- lists with the same items at all places
 same_items : {A : Type 0} (xs ys : List (List A)) → length xs ≡ length ys → ((i : ℕ) → get_or xs i [] ≡ get_or ys i []) → xs ≡ ys
 same_items [] [] e same = refl
 same_items [] (y ∷ ys) e same = absurd (omega arith)
 same_items (x ∷ xs) [] e same = absurd (omega arith)
-same_items (x ∷ xs) (y ∷ ys) e same = let rest = same_items xs ys (omega arith) (λ i. same (suc i)) in let first : x ≡ y = same 0 in cc
+same_items (x ∷ xs) (y ∷ ys) e same = let rest = same_items xs ys (omega arith)
+    (λ i. same (suc i)) in let first : x ≡ y = same 0 in cc
 
 -- rankings that are alike are the same where their lists are
-same_lists : (a b : Rankings) → AreAlike a b → ((rel attr ent : ℕ) → ranking_of a rel attr ent ≡ ranking_of b rel attr ent) → a ≡ b
+same_lists : (a b : Rankings) → AreAlike a b → ((rel attr ent : ℕ) → ranking_of a rel attr ent ≡ ranking_of b rel
+    attr ent) → a ≡ b
 same_lists a b h same =
     same_items a b h.per_relation
     (λ rel. same_items (get_or a rel []) (get_or b rel []) (h.per_attr rel)

@@ -27,7 +27,8 @@ pub record Spells (t : Trail) (point : ℕ) (leaves : List ℕ) (lits : List Lit
   pub has : (q : ℕ) → Contains leaves q → Contains others q
   pub once : OnlyOnce leaves → OnlyOnce others
 
-pub spells : (t : Trail) (point : ℕ) (leaves : List ℕ) (lits : List Lit) (back : ℕ) → IsWritten t point leaves lits back → Spells t point leaves lits
+pub spells : (t : Trail) (point : ℕ) (leaves : List ℕ) (lits : List Lit) (back : ℕ) → IsWritten t point leaves lits
+    back → Spells t point leaves lits
 spells t point leaves lits back (alone none is level) =
     record {
       others = [];
@@ -50,14 +51,16 @@ spells t point leaves lits back (followed second h is level) =
     from q (inr there) = (in_filter _ leaves q there).0
 
     has : (q : ℕ) → Contains leaves q → (q ≡ second) ⊎ (q ≡ second → ⊥) → Contains (second ∷ without second leaves) q
-    has q there (inl same) = subst (λ p. Contains (second ∷ without second leaves) p) (sym same) (here_in second (without second leaves))
+    has q there (inl same) = subst (λ p. Contains (second ∷ without second leaves) p) (sym same)
+        (here_in second (without second leaves))
     has q there (inr differs) = later_in second (without second leaves) q (not_out second leaves q there differs)
 
 -- ---- what is open
 
 module _ (t : Trail) (are : AreEntries t) where
   -- before a place that is not after a point, no literal of its variable is true
-  none_before : (n point : ℕ) (l : Lit) → n ≤ point → point < length t.entries → var_of l ≡ var_of (lit_at t.entries point) → Contains (take n (lits_of t)) l → ⊥
+  none_before : (n point : ℕ) (l : Lit) → n ≤ point → point < length t.entries → var_of l ≡ var_of
+      (lit_at t.entries point) → Contains (take n (lits_of t)) l → ⊥
   none_before n point l low within var there =
       let at = place_in (take n (lits_of t)) l there in
       let taken = get_take n at.0 (lits_of t) l at.1 in
@@ -67,28 +70,36 @@ module _ (t : Trail) (are : AreEntries t) where
   pub open_before : (n point : ℕ) → n ≤ point → point < length t.entries → IsOpen (take n (lits_of t)) (negated t.entries point)
   open_before n point low within =
       record {
-        not_true = λ there. none_before n point (negated t.entries point) low within (negation_var (lit_at t.entries point)) there;
-        not_false = λ there. none_before n point (negation (negated t.entries point)) low within (negation_var (negated t.entries point) ∙ negation_var (lit_at t.entries point)) there;
+        not_true = λ there. none_before n point (negated t.entries point) low within
+            (negation_var (lit_at t.entries point)) there;
+        not_false = λ there. none_before n point (negation (negated t.entries point)) low within
+            (negation_var (negated t.entries point) ∙ negation_var (lit_at t.entries point)) there;
       }
 
-  pub unit_before : (n point : ℕ) (others : List ℕ) (lits : List Lit) → lits ≡ map (negated t.entries) (point ∷ others) → n ≤ point → point < length t.entries
+  pub unit_before : (n point : ℕ) (others : List ℕ) (lits : List Lit) → lits ≡ map (negated t.entries)
+      (point ∷ others) → n ≤ point → point < length t.entries
       → ((q : ℕ) → Contains others q → q < n) → IsUnit (take n (lits_of t)) lits (negated t.entries point)
   unit_before n point others lits is low within below =
       record {
-        is_in = subst (λ ls. Contains ls (negated t.entries point)) (sym is) (here_in (negated t.entries point) (map (negated t.entries) others));
+        is_in = subst (λ ls. Contains ls (negated t.entries point)) (sym is)
+            (here_in (negated t.entries point) (map (negated t.entries) others));
         is_open = open_before n point low within;
-        others = λ o there differs. other o (in_map (negated t.entries) (point ∷ others) o (subst (λ ls. Contains ls o) is there)) differs;
+        others = λ o there differs. other o (in_map (negated t.entries) (point ∷ others) o
+            (subst (λ ls. Contains ls o) is there)) differs;
       }
     where
-      other : (o : Lit) → ((q : ℕ) × Contains (point ∷ others) q × (negated t.entries q ≡ o)) → o ≢ negated t.entries point → Contains (take n (lits_of t)) (negation o)
+      other : (o : Lit) → ((q : ℕ) × Contains (point ∷ others) q × (negated t.entries q ≡ o)) → o ≢ negated t.entries
+          point → Contains (take n (lits_of t)) (negation o)
       other o q differs = by (cons_cases point others q.0 q.1)
         where
           by : (point ≡ q.0) ⊎ Contains others q.0 → Contains (take n (lits_of t)) (negation o)
           by (inl same) = absurd (differs (sym q.2 ∙ ap (negated t.entries) (sym same)))
           by (inr there) =
               let less = below q.0 there in
-              let at = take_get n q.0 (lits_of t) (lit_at t.entries q.0) less (get_lit t are q.0 (omega (arith, less, low, within))) in
-              subst (λ l. Contains (take n (lits_of t)) l) (sym (negation_twice (lit_at t.entries q.0)) ∙ ap negation q.2) (contains_at (take n (lits_of t)) q.0 (lit_at t.entries q.0) at)
+              let at = take_get n q.0 (lits_of t) (lit_at t.entries q.0) less
+              (get_lit t are q.0 (omega (arith, less, low, within))) in
+              subst (λ l. Contains (take n (lits_of t)) l) (sym (negation_twice (lit_at t.entries q.0))
+              ∙ ap negation q.2) (contains_at (take n (lits_of t)) q.0 (lit_at t.entries q.0) at)
 
   -- the literals up to where a level begins
   up_to : (level start : ℕ) → slice_get t.starts level ≡ Some start → lits_of (undone t level) ≡ take start (lits_of t)
@@ -126,7 +137,8 @@ module _ (t : Trail) (are : AreEntries t) (point : ℕ) (leaves : List ℕ) (lit
 
   next_low : (w : IsWritten t point leaves lits back) → (next w).0 ≤ point
   next_low w =
-      let low = in_order t are back (length t.starts - 1) (next w).0 level (let l = lower w in omega (arith, l)) (next w).1 begins in
+      let low = in_order t are back (length t.starts - 1) (next w).0 level (let l = lower w in omega (arith, l))
+      (next w).1 begins in
       omega (arith, low, above)
 
   -- the others are before it
@@ -139,29 +151,35 @@ module _ (t : Trail) (are : AreEntries t) (point : ℕ) (leaves : List ℕ) (lit
         where
           which : (second < start) ⊎ (start ≤ second) → q < start
           which (inl less) = let most = h.highest q there in omega (arith, most, less)
-          which (inr late) = let counts = begun_counts t.starts back start second are.ascend begun late in absurd (omega (arith, counts, b))
+          which (inr late) = let counts = begun_counts t.starts back start second are.ascend begun late in absurd
+              (omega (arith, counts, b))
 
   pub unit_back : (w : IsWritten t point leaves lits back) → IsUnit (lits_of (undone t back)) lits (negated t.entries point)
   unit_back w =
       let s = spells t point leaves lits back w in
       subst (λ ls. IsUnit ls lits (negated t.entries point)) (sym (up_to t are back (next w).0 (next w).1))
-      (unit_before t are (next w).0 point s.others lits s.lits_are (next_low w) within (λ q there. next_high w q (s.from q there)))
+      (unit_before t are (next w).0 point s.others lits s.lits_are (next_low w) within
+      (λ q there. next_high w q (s.from q there)))
 
   pub unit_below : (w : IsWritten t point leaves lits back) → IsUnit (lits_below t) lits (negated t.entries point)
   unit_below w =
       let s = spells t point leaves lits back w in
-      subst (λ n. IsUnit (take n (lits_of t)) lits (negated t.entries point)) (sym (get_or_from_slice_get t.starts (length t.starts - 1) level (length t.entries) begins))
+      subst (λ n. IsUnit (take n (lits_of t)) lits (negated t.entries point))
+      (sym (get_or_from_slice_get t.starts (length t.starts - 1) level (length t.entries) begins))
       (unit_before t are level point s.others lits s.lits_are above within (λ q there. below q (s.from q there)))
 
   -- the second literal is of the level to which it leads back
-  not_sooner : (second start : ℕ) → back ≡ level_at t second → second < length t.entries → (i : ℕ) → slice_get (take back t.starts) i ≡ Some start
-      → Contains (take start (lits_of (undone t back))) (lit_at t.entries second) → (next_start : ℕ) → slice_get t.starts back ≡ Some next_start → ⊥
+  not_sooner : (second start : ℕ) → back ≡ level_at t second → second < length t.entries → (i : ℕ)
+      → slice_get (take back t.starts) i ≡ Some start
+      → Contains (take start (lits_of (undone t back))) (lit_at t.entries second) → (next_start : ℕ)
+      → slice_get t.starts back ≡ Some next_start → ⊥
   not_sooner second start b inside i begun there next_start after =
       let taken = get_take back i t.starts start begun in
       let low = counts_begun t.starts i start second are.ascend taken.1 (omega (arith, taken.0, b)) in
       let at = place_in (take start (lits_of (undone t back))) (lit_at t.entries second) there in
       let first = get_take start at.0 (lits_of (undone t back)) (lit_at t.entries second) at.1 in
-      let all = get_take next_start at.0 (lits_of t) (lit_at t.entries second) (ap (λ ls. slice_get ls at.0) (sym (up_to t are back next_start after)) ∙ first.1) in
+      let all = get_take next_start at.0 (lits_of t) (lit_at t.entries second)
+      (ap (λ ls. slice_get ls at.0) (sym (up_to t are back next_start after)) ∙ first.1) in
       let same = one_place t are second at.0 (lit_at t.entries second) inside all.1 refl in
       omega (arith, same, first.0, low)
 
@@ -176,7 +194,8 @@ module _ (t : Trail) (are : AreEntries t) (point : ℕ) (leaves : List ℕ) (lit
   due (followed place h is b) first second rest two = (
     subst (λ l. IsOpen (lits_of (undone t back)) l) head (unit_back (followed place h is b)).is_open,
     λ i start begun there. not_sooner place start b (let low = below place h.is_in in omega (arith, low, above, within)) i begun
-        (subst (λ l. Contains (take start (lits_of (undone t back))) l) (ap negation (sym tail) ∙ negation_twice (lit_at t.entries place)) there) (next (followed place h is b)).0 (next (followed place h is b)).1,
+        (subst (λ l. Contains (take start (lits_of (undone t back))) l) (ap negation (sym tail) ∙ negation_twice
+        (lit_at t.entries place)) there) (next (followed place h is b)).0 (next (followed place h is b)).1,
   )
     where
       head : negated t.entries point ≡ first

@@ -8,16 +8,25 @@ use Rattle.conflict_analysis.specs.Steps.{AreMet, ClosesAll, Completes, Fate, Ha
 use Rattle.conflict_analysis.specs.Steps.Fate.{is_kept, is_resolved, is_leaf, waits}
 
 module _ (a : Arena) (es : List Entry) (base level at : ℕ) where
-  pub kept_inside : (s : State) → AreMet a es base level at s → level ≤ at → at ≤ length es → All (λ place. place < length es) s.kept
-  kept_inside s m above inside k d within = let below = (m.kept (get_or s.kept k d) (Contains-get_or s.kept k d within)).below in omega (arith, below, above, inside)
+  pub kept_inside : (s : State) → AreMet a es base level at s → level ≤ at → at ≤ length es
+      → All (λ place. place < length es) s.kept
+  kept_inside s m above inside k d within = let below =
+      (m.kept (get_or s.kept k d) (Contains-get_or s.kept k d within)).below in omega (arith, below, above, inside)
 
   -- a state that is like another, but for the order of the resolved places
-  ended_like : (s t : State) → AreMet a es base level at s → ((place : ℕ) → Contains s.resolved place → HasSeen a es s.seen 0 place) → s.kept ≡ [] → Sorts s t → IsEnded a es base level at t
+  ended_like : (s t : State) → AreMet a es base level at s →
+      ((place : ℕ) → Contains s.resolved place → HasSeen a es s.seen 0 place) → s.kept ≡ [] → Sorts s t
+      → IsEnded a es base level at t
   ended_like s t m closed none x =
       record {
         none_kept = x.kept ∙ none;
         fate = λ q h. fate q (m.fate q (back q h));
-        leaves = λ q h. let k = m.leaves q (subst (λ ps. Contains ps q) x.leaves h) in record { seen = ahead q k.seen; below = k.below; left = k.left };
+        leaves = λ q h. let k = m.leaves q (subst (λ ps. Contains ps q) x.leaves h) in record {
+          seen =
+              ahead q k.seen;
+          below = k.below;
+          left = k.left;
+        };
         leaves_once = subst OnlyOnce (sym x.leaves) m.leaves_once;
         rises = x.rises m.resolved_once;
         closed = λ q h. subst (λ bs. HasSeen a es bs 0 q) (sym x.seen) (closed q (x.none_new q h));
@@ -37,7 +46,8 @@ module _ (a : Arena) (es : List Entry) (base level at : ℕ) where
       fate q (is_leaf h) = is_leaf (subst (λ ps. Contains ps q) (sym x.leaves) h)
       fate q (waits h g) = waits h g
 
-  pub completes : (old mid closed new : State) → Settles a es base level old mid → mid.kept ≡ [] → ClosesAll a es base level at mid closed → Sorts closed new
+  pub completes : (old mid closed new : State) → Settles a es base level old mid → mid.kept ≡ []
+      → ClosesAll a es base level at mid closed → Sorts closed new
       → Completes a es base level at old new
   completes old mid closed new s none c x =
       record {

@@ -29,7 +29,8 @@ module _ (lit : ℕ → Lit) (clause : ℕ → List Lit) (learned : List Lit) (p
       → ((q : ℕ) → Contains rest q → p < q) → (o : Lit) → Contains (clause p) o → o ≢ lit p → Contains falses o
   others_false p rest falses w in_places rises o in_clause differs = by (law.others p o in_places in_clause differs)
     where
-      here : (q : ℕ) → q < p → o ≡ negation (lit q) → (Contains (p ∷ rest) q ⊎ Contains falses (negation (lit q))) → Contains falses o
+      here : (q : ℕ) → q < p → o ≡ negation (lit q) → (Contains (p ∷ rest) q ⊎ Contains falses (negation (lit q)))
+          → Contains falses o
       here q less is (inr false) = subst (λ l. Contains falses l) (sym is) false
       here q less is (inl later) = late (cons_cases p rest q later)
         where
@@ -58,21 +59,26 @@ module _ (lit : ℕ → Lit) (clause : ℕ → List Lit) (learned : List Lit) (p
         where
           late : (p ≡ q) ⊎ Contains rest q → Contains rest q ⊎ Contains (falses ++ negation (lit p) ∷ []) (negation (lit q))
           late (inr after) = inl after
-          late (inl same) = inr (subst (λ r. Contains (falses ++ negation (lit p) ∷ []) (negation (lit r))) same (Contains-push falses (negation (lit p))))
+          late (inl same) = inr (subst (λ r. Contains (falses ++ negation (lit p) ∷ []) (negation (lit r))) same
+              (Contains-push falses (negation (lit p))))
 
-      said : (o : Lit) → Contains falses o ⊎ (negation (lit p) ≡ o) → Contains learned o ⊎ ((q : ℕ) × Contains places q × (o ≡ negation (lit q)))
+      said : (o : Lit) → Contains falses o ⊎ (negation (lit p) ≡ o) → Contains learned o ⊎
+          ((q : ℕ) × Contains places q × (o ≡ negation (lit q)))
       said o (inl false) = w.only o false
       said o (inr is) = inr (p, in_places, sym is)
 
-  goes : (rest : List ℕ) (falses : List Lit) → Walks lit learned places rest falses → Rises rest → ((q : ℕ) → Contains rest q → Contains places q)
+  goes : (rest : List ℕ) (falses : List Lit) → Walks lit learned places rest falses → Rises rest →
+      ((q : ℕ) → Contains rest q → Contains places q)
       → (all : List Lit) × Falsifies falses (map clause rest) all × Walks lit learned places [] all
   goes [] falses w rises within = (falses, refl, w)
-  goes (p ∷ rest) falses w rises within = by (goes rest (falses ++ negation (lit p) ∷ []) (more p rest falses w in_places) rises.1 (λ q there. within q (Contains-append_right (p ∷ []) rest q there)))
+  goes (p ∷ rest) falses w rises within = by (goes rest (falses ++ negation (lit p) ∷ [])
+      (more p rest falses w in_places) rises.1 (λ q there. within q (Contains-append_right (p ∷ []) rest q there)))
     where
       in_places : Contains places p
       in_places = within p (Contains-append_left (p ∷ []) rest p (Contains-push [] p))
 
-      by : ((all : List Lit) × Falsifies (falses ++ negation (lit p) ∷ []) (map clause rest) all × Walks lit learned places [] all)
+      by : ((all : List Lit) × Falsifies (falses ++ negation (lit p) ∷ []) (map clause rest) all × Walks lit learned
+          places [] all)
           → (all : List Lit) × Falsifies falses (map clause (p ∷ rest)) all × Walks lit learned places [] all
       by end = (
         end.0,
@@ -95,7 +101,8 @@ module _ (lit : ℕ → Lit) (clause : ℕ → List Lit) (learned : List Lit) (p
       start : Walks lit learned places places learned
       start = record { kept = λ o there. there; walked = λ q there. inl there; only = λ o there. inl there }
 
-      by : ((all : List Lit) × Falsifies learned (map clause places) all × Walks lit learned places [] all) → Follows learned (map clause places ++ last ∷ [])
+      by : ((all : List Lit) × Falsifies learned (map clause places) all × Walks lit learned places [] all)
+          → Follows learned (map clause places ++ last ∷ [])
       by end =
           record {
             front = map clause places;

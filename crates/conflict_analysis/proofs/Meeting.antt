@@ -57,12 +57,14 @@ module _ (a : Arena) (es : List Entry) (base level at : ℕ) (s : State) (met : 
   late xs all there = old_differs place (all place there) refl
 
   late_more : (xs : List ℕ) (q : ℕ) → IsSeen s.seen q → (Contains xs q → ⊥) → Contains (xs ++ place ∷ []) q → ⊥
-  late_more xs q seen without there = elim (Contains-push_cases xs place q there) [ inl h ↦ without h | inr h ↦ old_differs q seen (sym h) ]
+  late_more xs q seen without there = elim (Contains-push_cases xs place q there)
+      [ inl h ↦ without h | inr h ↦ old_differs q seen (sym h) ]
 
   reason_kept : (q : ℕ) → HasSeen a es s.seen base q → HasSeen a es (slice_set s.seen place true) base q
   reason_kept q h = reason_still a es s.seen (slice_set s.seen place true) base q still h
 
-  away_kept : (q : ℕ) → (q < level) ⊎ ((at ≤ q) × HasSeen a es s.seen 0 q) → (q < level) ⊎ ((at ≤ q) × HasSeen a es (slice_set s.seen place true) 0 q)
+  away_kept : (q : ℕ) → (q < level) ⊎ ((at ≤ q) × HasSeen a es s.seen 0 q) →
+      (q < level) ⊎ ((at ≤ q) × HasSeen a es (slice_set s.seen place true) 0 q)
   away_kept q (inl below) = inl below
   away_kept q (inr above) = inr (above.0, reason_still a es s.seen (slice_set s.seen place true) 0 q still above.1)
 
@@ -71,49 +73,106 @@ module _ (a : Arena) (es : List Entry) (base level at : ℕ) (s : State) (met : 
 
   -- the lowest place stays, where the new one is below the level
   low_stays : place < level → (q : ℕ) → IsSeen (slice_set s.seen place true) q → level ≤ q → s.low ≤ q
-  low_stays less q seen top = elim (seen_before s.seen place q seen) [ inl same ↦ absurd (omega (arith, same, less, top)) | inr was ↦ met.lowest q was top ]
+  low_stays less q seen top = elim (seen_before s.seen place q seen)
+      [ inl same ↦ absurd (omega (arith, same, less, top)) | inr was ↦ met.lowest q was top ]
 
   -- the place is of the current level
   met_waiting : level ≤ place → place < at
-      → AreMet a es base level at (record { seen = slice_set s.seen place true; kept = s.kept; resolved = s.resolved; leaves = s.leaves; low = min s.low place })
+      → AreMet a es base level at (record {
+        seen = slice_set s.seen place true;
+        kept = s.kept;
+        resolved =
+            s.resolved;
+        leaves = s.leaves;
+        low = min s.low place;
+      })
   met_waiting top less =
       record {
         fate = λ q seen. by q (seen_before s.seen place q seen);
-        kept = λ q there. let k = met.kept q there in record { seen = still q k.seen; above = k.above; below = k.below; not_resolved = k.not_resolved; no_leaf = k.no_leaf };
-        resolved = λ q there. let k = met.resolved q there in record { seen = still q k.seen; reason = reason_kept q k.reason; away = away_kept q k.away };
+        kept = λ q there. let k = met.kept q there in record {
+          seen = still q k.seen;
+          above = k.above;
+          below =
+              k.below;
+          not_resolved = k.not_resolved;
+          no_leaf = k.no_leaf;
+        };
+        resolved = λ q there. let k = met.resolved q there in record {
+          seen = still q k.seen;
+          reason =
+              reason_kept q k.reason;
+          away = away_kept q k.away;
+        };
         leaves = λ q there. let k = met.leaves q there in record { seen = still q k.seen; below = k.below; left = k.left };
         kept_once = met.kept_once;
         resolved_once = met.resolved_once;
         leaves_once = met.leaves_once;
-        lowest = λ q seen high. elim (seen_before s.seen place q seen) [ inl same ↦ omega (arith, same) | inr was ↦ omega (arith, met.lowest q was high) ];
+        lowest = λ q seen high. elim (seen_before s.seen place q seen) [
+          | inl same ↦ omega (arith, same)
+          | inr was ↦
+              omega (arith, met.lowest q was high)
+        ];
         low_seen = λ h. low_is (cases_lt s.low place) h;
         low_above = λ h. low_high (cases_lt s.low place) h;
       }
     where
-      low_is : (s.low < place) ⊎ (place ≤ s.low) → min s.low place < length (slice_set s.seen place true) → IsSeen (slice_set s.seen place true) (min s.low place)
+      low_is : (s.low < place) ⊎ (place ≤ s.low) → min s.low place < length (slice_set s.seen place true)
+          → IsSeen (slice_set s.seen place true) (min s.low place)
       low_is (inl under) h =
           let same : min s.low place ≡ s.low = omega (arith, under) in
-          subst (λ r. IsSeen (slice_set s.seen place true) r) (sym same) (still s.low (met.low_seen (omega (arith, under, within))))
+          subst (λ r. IsSeen (slice_set s.seen place true) r) (sym same)
+          (still s.low (met.low_seen (omega (arith, under, within))))
       low_is (inr over) h =
           let same : min s.low place ≡ place = omega (arith, over) in
           subst (λ r. IsSeen (slice_set s.seen place true) r) (sym same) (seen_now s.seen place within)
 
-      low_high : (s.low < place) ⊎ (place ≤ s.low) → min s.low place < length (slice_set s.seen place true) → level ≤ min s.low place
+      low_high : (s.low < place) ⊎ (place ≤ s.low) → min s.low place < length (slice_set s.seen place true)
+          → level ≤ min s.low place
       low_high (inl under) h = let was = met.low_above (omega (arith, under, within)) in omega (arith, was, top)
       low_high (inr over) h = omega (arith, over, top)
 
-      by : (q : ℕ) → (q ≡ place) ⊎ IsSeen s.seen q → Fate level at (record { seen = slice_set s.seen place true; kept = s.kept; resolved = s.resolved; leaves = s.leaves; low = min s.low place }) q
+      by : (q : ℕ) → (q ≡ place) ⊎ IsSeen s.seen q → Fate level at
+          (record {
+            seen = slice_set s.seen place true;
+            kept = s.kept;
+            resolved = s.resolved;
+            leaves =
+                s.leaves;
+            low = min s.low place;
+          }) q
       by q (inl same) = waits (omega (arith, same, top)) (omega (arith, same, less))
-      by q (inr seen) = elim (met.fate q seen) [ is_kept h ↦ is_kept h | is_resolved h ↦ is_resolved h | is_leaf h ↦ is_leaf h | waits h g ↦ waits h g ]
+      by q (inr seen) = elim (met.fate q seen) [
+        | is_kept h ↦ is_kept h
+        | is_resolved h ↦ is_resolved h
+        | is_leaf h ↦
+            is_leaf h
+        | waits h g ↦ waits h g
+      ]
 
   -- it is below that, and may yet be dropped
   met_kept : place < level → base ≤ place
-      → AreMet a es base level at (record { seen = slice_set s.seen place true; kept = s.kept ++ place ∷ []; resolved = s.resolved; leaves = s.leaves; low = s.low })
+      → AreMet a es base level at (record {
+        seen = slice_set s.seen place true;
+        kept = s.kept ++ place
+            ∷ [];
+        resolved = s.resolved;
+        leaves = s.leaves;
+        low = s.low;
+      })
   met_kept below above =
       record {
         fate = λ q seen. by q (seen_before s.seen place q seen);
-        kept = λ q there. elim (Contains-push_cases s.kept place q there) [ inl h ↦ was q (met.kept q h) | inr same ↦ is_new q (sym same) ];
-        resolved = λ q there. let k = met.resolved q there in record { seen = still q k.seen; reason = reason_kept q k.reason; away = away_kept q k.away };
+        kept = λ q there. elim (Contains-push_cases s.kept place q there) [
+          | inl h ↦ was q (met.kept q h)
+          | inr same ↦
+              is_new q (sym same)
+        ];
+        resolved = λ q there. let k = met.resolved q there in record {
+          seen = still q k.seen;
+          reason =
+              reason_kept q k.reason;
+          away = away_kept q k.away;
+        };
         leaves = λ q there. let k = met.leaves q there in record { seen = still q k.seen; below = k.below; left = k.left };
         kept_once = once_more s.kept place met.kept_once (late s.kept (λ q h. (met.kept q h).seen));
         resolved_once = met.resolved_once;
@@ -124,11 +183,31 @@ module _ (a : Arena) (es : List Entry) (base level at : ℕ) (s : State) (met : 
       }
     where
       was : (q : ℕ) → IsKept base level s q
-          → IsKept base level (record { seen = slice_set s.seen place true; kept = s.kept ++ place ∷ []; resolved = s.resolved; leaves = s.leaves; low = s.low }) q
-      was q k = record { seen = still q k.seen; above = k.above; below = k.below; not_resolved = k.not_resolved; no_leaf = k.no_leaf }
+          → IsKept base level (record {
+            seen = slice_set s.seen place true;
+            kept = s.kept ++ place ∷ [];
+            resolved =
+                s.resolved;
+            leaves = s.leaves;
+            low = s.low;
+          }) q
+      was q k = record {
+        seen = still q k.seen;
+        above = k.above;
+        below = k.below;
+        not_resolved = k.not_resolved;
+        no_leaf = k.no_leaf;
+      }
 
       is_new : (q : ℕ) → q ≡ place
-          → IsKept base level (record { seen = slice_set s.seen place true; kept = s.kept ++ place ∷ []; resolved = s.resolved; leaves = s.leaves; low = s.low }) q
+          → IsKept base level (record {
+            seen = slice_set s.seen place true;
+            kept = s.kept ++ place ∷ [];
+            resolved =
+                s.resolved;
+            leaves = s.leaves;
+            low = s.low;
+          }) q
       is_new q same =
           record {
             seen = subst (λ r. IsSeen (slice_set s.seen place true) r) (sym same) (seen_now s.seen place within);
@@ -138,18 +217,46 @@ module _ (a : Arena) (es : List Entry) (base level at : ℕ) (s : State) (met : 
             no_leaf = λ h. old_differs q (met.leaves q h).seen same;
           }
 
-      by : (q : ℕ) → (q ≡ place) ⊎ IsSeen s.seen q → Fate level at (record { seen = slice_set s.seen place true; kept = s.kept ++ place ∷ []; resolved = s.resolved; leaves = s.leaves; low = s.low }) q
+      by : (q : ℕ) → (q ≡ place) ⊎ IsSeen s.seen q → Fate level at
+          (record {
+            seen = slice_set s.seen place true;
+            kept = s.kept ++ place ∷ [];
+            resolved = s.resolved;
+            leaves =
+                s.leaves;
+            low = s.low;
+          }) q
       by q (inl same) = is_kept (subst (λ r. Contains (s.kept ++ place ∷ []) r) (sym same) (Contains-push s.kept place))
-      by q (inr seen) = elim (met.fate q seen) [ is_kept h ↦ is_kept (Contains-append_left s.kept (place ∷ []) q h) | is_resolved h ↦ is_resolved h | is_leaf h ↦ is_leaf h | waits h g ↦ waits h g ]
+      by q (inr seen) = elim (met.fate q seen) [
+        | is_kept h ↦ is_kept (Contains-append_left s.kept (place ∷ []) q h)
+        | is_resolved h ↦ is_resolved h
+        | is_leaf h ↦ is_leaf h
+        | waits h g ↦ waits h g
+      ]
 
   -- it is resolved
   met_resolved : place < level → HasSeen a es s.seen base place
-      → AreMet a es base level at (record { seen = slice_set s.seen place true; kept = s.kept; resolved = s.resolved ++ place ∷ []; leaves = s.leaves; low = s.low })
+      → AreMet a es base level at (record {
+        seen = slice_set s.seen place true;
+        kept = s.kept;
+        resolved = s.resolved
+            ++ place ∷ [];
+        leaves = s.leaves;
+        low = s.low;
+      })
   met_resolved below reason =
       record {
         fate = λ q seen. by q (seen_before s.seen place q seen);
-        kept = λ q there. let k = met.kept q there in record { seen = still q k.seen; above = k.above; below = k.below; not_resolved = late_more s.resolved q k.seen k.not_resolved; no_leaf = k.no_leaf };
-        resolved = λ q there. elim (Contains-push_cases s.resolved place q there) [ inl h ↦ was q (met.resolved q h) | inr same ↦ subst (λ r. IsResolved a es base level at after r) same is_new ];
+        kept = λ q there. let k = met.kept q there in record {
+          seen = still q k.seen;
+          above = k.above;
+          below =
+              k.below;
+          not_resolved = late_more s.resolved q k.seen k.not_resolved;
+          no_leaf = k.no_leaf;
+        };
+        resolved = λ q there. elim (Contains-push_cases s.resolved place q there)
+            [ inl h ↦ was q (met.resolved q h) | inr same ↦ subst (λ r. IsResolved a es base level at after r) same is_new ];
         leaves = λ q there. let k = met.leaves q there in record { seen = still q k.seen; below = k.below; left = k.left };
         kept_once = met.kept_once;
         resolved_once = once_more s.resolved place met.resolved_once (late s.resolved (λ q h. (met.resolved q h).seen));
@@ -160,28 +267,86 @@ module _ (a : Arena) (es : List Entry) (base level at : ℕ) (s : State) (met : 
       }
     where
       after : State
-      after = record { seen = slice_set s.seen place true; kept = s.kept; resolved = s.resolved ++ place ∷ []; leaves = s.leaves; low = s.low }
+      after = record {
+        seen = slice_set s.seen place true;
+        kept = s.kept;
+        resolved = s.resolved ++ place
+            ∷ [];
+        leaves = s.leaves;
+        low = s.low;
+      }
 
       was : (q : ℕ) → IsResolved a es base level at s q
-          → IsResolved a es base level at (record { seen = slice_set s.seen place true; kept = s.kept; resolved = s.resolved ++ place ∷ []; leaves = s.leaves; low = s.low }) q
+          → IsResolved a es base level at
+          (record {
+            seen = slice_set s.seen place true;
+            kept = s.kept;
+            resolved = s.resolved ++ place
+                ∷ [];
+            leaves = s.leaves;
+            low = s.low;
+          }) q
       was q k = record { seen = still q k.seen; reason = reason_kept q k.reason; away = away_kept q k.away }
 
-      is_new : IsResolved a es base level at (record { seen = slice_set s.seen place true; kept = s.kept; resolved = s.resolved ++ place ∷ []; leaves = s.leaves; low = s.low }) place
+      is_new : IsResolved a es base level at
+          (record {
+            seen = slice_set s.seen place true;
+            kept = s.kept;
+            resolved = s.resolved ++ place ∷ [];
+            leaves =
+                s.leaves;
+            low = s.low;
+          }) place
       is_new = record { seen = seen_now s.seen place within; reason = reason_kept place reason; away = inl below }
 
-      by : (q : ℕ) → (q ≡ place) ⊎ IsSeen s.seen q → Fate level at (record { seen = slice_set s.seen place true; kept = s.kept; resolved = s.resolved ++ place ∷ []; leaves = s.leaves; low = s.low }) q
-      by q (inl same) = is_resolved (subst (λ r. Contains (s.resolved ++ place ∷ []) r) (sym same) (Contains-push s.resolved place))
-      by q (inr seen) = elim (met.fate q seen) [ is_kept h ↦ is_kept h | is_resolved h ↦ is_resolved (Contains-append_left s.resolved (place ∷ []) q h) | is_leaf h ↦ is_leaf h | waits h g ↦ waits h g ]
+      by : (q : ℕ) → (q ≡ place) ⊎ IsSeen s.seen q → Fate level at
+          (record {
+            seen = slice_set s.seen place true;
+            kept = s.kept;
+            resolved = s.resolved ++ place ∷ [];
+            leaves =
+                s.leaves;
+            low = s.low;
+          }) q
+      by q (inl same) = is_resolved (subst (λ r. Contains (s.resolved ++ place ∷ []) r) (sym same)
+          (Contains-push s.resolved place))
+      by q (inr seen) = elim (met.fate q seen) [
+        | is_kept h ↦ is_kept h
+        | is_resolved h ↦ is_resolved
+            (Contains-append_left s.resolved (place ∷ []) q h)
+        | is_leaf h ↦ is_leaf h
+        | waits h g ↦ waits h g
+      ]
 
   -- it was assumed, and its negation is in the clause
   met_leaf : place < level → reason_of es place ≡ None
-      → AreMet a es base level at (record { seen = slice_set s.seen place true; kept = s.kept; resolved = s.resolved; leaves = s.leaves ++ place ∷ []; low = s.low })
+      → AreMet a es base level at (record {
+        seen = slice_set s.seen place true;
+        kept = s.kept;
+        resolved =
+            s.resolved;
+        leaves = s.leaves ++ place ∷ [];
+        low = s.low;
+      })
   met_leaf below none =
       record {
         fate = λ q seen. by q (seen_before s.seen place q seen);
-        kept = λ q there. let k = met.kept q there in record { seen = still q k.seen; above = k.above; below = k.below; not_resolved = k.not_resolved; no_leaf = late_more s.leaves q k.seen k.no_leaf };
-        resolved = λ q there. let k = met.resolved q there in record { seen = still q k.seen; reason = reason_kept q k.reason; away = away_kept q k.away };
-        leaves = λ q there. elim (Contains-push_cases s.leaves place q there) [ inl h ↦ was q (met.leaves q h) | inr same ↦ subst (λ r. IsLeaf es base level after r) same is_new ];
+        kept = λ q there. let k = met.kept q there in record {
+          seen = still q k.seen;
+          above = k.above;
+          below =
+              k.below;
+          not_resolved = k.not_resolved;
+          no_leaf = late_more s.leaves q k.seen k.no_leaf;
+        };
+        resolved = λ q there. let k = met.resolved q there in record {
+          seen = still q k.seen;
+          reason =
+              reason_kept q k.reason;
+          away = away_kept q k.away;
+        };
+        leaves = λ q there. elim (Contains-push_cases s.leaves place q there)
+            [ inl h ↦ was q (met.leaves q h) | inr same ↦ subst (λ r. IsLeaf es base level after r) same is_new ];
         kept_once = met.kept_once;
         resolved_once = met.resolved_once;
         leaves_once = once_more s.leaves place met.leaves_once (late s.leaves (λ q h. (met.leaves q h).seen));
@@ -191,25 +356,62 @@ module _ (a : Arena) (es : List Entry) (base level at : ℕ) (s : State) (met : 
       }
     where
       after : State
-      after = record { seen = slice_set s.seen place true; kept = s.kept; resolved = s.resolved; leaves = s.leaves ++ place ∷ []; low = s.low }
+      after = record {
+        seen = slice_set s.seen place true;
+        kept = s.kept;
+        resolved = s.resolved;
+        leaves = s.leaves
+            ++ place ∷ [];
+        low = s.low;
+      }
 
       was : (q : ℕ) → IsLeaf es base level s q
-          → IsLeaf es base level (record { seen = slice_set s.seen place true; kept = s.kept; resolved = s.resolved; leaves = s.leaves ++ place ∷ []; low = s.low }) q
+          → IsLeaf es base level (record {
+            seen = slice_set s.seen place true;
+            kept = s.kept;
+            resolved =
+                s.resolved;
+            leaves = s.leaves ++ place ∷ [];
+            low = s.low;
+          }) q
       was q k = record { seen = still q k.seen; below = k.below; left = k.left }
 
-      is_new : IsLeaf es base level (record { seen = slice_set s.seen place true; kept = s.kept; resolved = s.resolved; leaves = s.leaves ++ place ∷ []; low = s.low }) place
+      is_new : IsLeaf es base level (record {
+        seen = slice_set s.seen place true;
+        kept = s.kept;
+        resolved =
+            s.resolved;
+        leaves = s.leaves ++ place ∷ [];
+        low = s.low;
+      }) place
       is_new = record { seen = seen_now s.seen place within; below = below; left = inr none }
 
-      by : (q : ℕ) → (q ≡ place) ⊎ IsSeen s.seen q → Fate level at (record { seen = slice_set s.seen place true; kept = s.kept; resolved = s.resolved; leaves = s.leaves ++ place ∷ []; low = s.low }) q
+      by : (q : ℕ) → (q ≡ place) ⊎ IsSeen s.seen q → Fate level at
+          (record {
+            seen = slice_set s.seen place true;
+            kept = s.kept;
+            resolved = s.resolved;
+            leaves = s.leaves
+                ++ place ∷ [];
+            low = s.low;
+          }) q
       by q (inl same) = is_leaf (subst (λ r. Contains (s.leaves ++ place ∷ []) r) (sym same) (Contains-push s.leaves place))
-      by q (inr seen) = elim (met.fate q seen) [ is_kept h ↦ is_kept h | is_resolved h ↦ is_resolved h | is_leaf h ↦ is_leaf (Contains-append_left s.leaves (place ∷ []) q h) | waits h g ↦ waits h g ]
+      by q (inr seen) = elim (met.fate q seen) [
+        | is_kept h ↦ is_kept h
+        | is_resolved h ↦ is_resolved h
+        | is_leaf h ↦
+            is_leaf (Contains-append_left s.leaves (place ∷ []) q h)
+        | waits h g ↦ waits h g
+      ]
 
   -- so it is wherever it goes
-  pub met_taking : place < at → (is_some (reason_of es place) ≡ true → place < base → HasSeen a es s.seen base place) → base ≤ level
+  pub met_taking : place < at → (is_some (reason_of es place) ≡ true → place < base → HasSeen a es s.seen base place)
+      → base ≤ level
       → AreMet a es base level at (taking es base level place s)
   met_taking less reason order =
       cond_both (leb level place) _ _ (AreMet a es base level at) (λ top. met_waiting (leb-true level place top) less)
-      (λ under. cond_both (leb base place) _ _ (AreMet a es base level at) (λ above. met_kept (leb-false level place under) (leb-true base place above))
+      (λ under. cond_both (leb base place) _ _ (AreMet a es base level at)
+      (λ above. met_kept (leb-false level place under) (leb-true base place above))
       (λ low. cond_both (is_some (reason_of es place)) _ _ (AreMet a es base level at)
       (λ some. met_resolved (leb-false level place under) (reason some (leb-false base place low)))
       (λ none. met_leaf (leb-false level place under) (none_is (reason_of es place) none))))

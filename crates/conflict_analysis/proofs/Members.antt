@@ -37,7 +37,8 @@ snoc_at (z ∷ zs) x (suc i) y at = elim (snoc_at zs x i y at) [ inl here ↦ in
 pub once_more : {A : Type 0} (xs : List A) (x : A) → OnlyOnce xs → (Contains xs x → ⊥) → OnlyOnce (xs ++ x ∷ [])
 once_more {A} xs x once new i j y at_i at_j = cases (snoc_at xs x i y at_i) (snoc_at xs x j y at_j)
   where
-    cases : (slice_get xs i ≡ Some y) ⊎ ((i ≡ length xs) × (x ≡ y)) → (slice_get xs j ≡ Some y) ⊎ ((j ≡ length xs) × (x ≡ y)) → i ≡ j
+    cases : (slice_get xs i ≡ Some y) ⊎ ((i ≡ length xs) × (x ≡ y)) → (slice_get xs j ≡ Some y) ⊎
+        ((j ≡ length xs) × (x ≡ y)) → i ≡ j
     cases (inl a) (inl b) = once i j y a b
     cases (inl a) (inr b) = absurd (new (subst (λ (z : A). Contains xs z) (sym b.1) (contains_at xs i y a)))
     cases (inr a) (inl b) = absurd (new (subst (λ (z : A). Contains xs z) (sym a.1) (contains_at xs j y b)))

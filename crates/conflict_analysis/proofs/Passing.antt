@@ -14,7 +14,8 @@ use Rattle.conflict_analysis.proofs.Entries.{VarsOnce, before, lits_below, negat
 use Rattle.conflict_analysis.proofs.Members.{once_more}
 
 -- the entry whose reason is at a place
-pub reasoned_entry : (es : List Entry) (place clause : ℕ) → reason_of es place ≡ Some clause → (e : Entry) × (slice_get es place ≡ Some e) × (e.reason ≡ Some clause)
+pub reasoned_entry : (es : List Entry) (place clause : ℕ) → reason_of es place ≡ Some clause →
+    (e : Entry) × (slice_get es place ≡ Some e) × (e.reason ≡ Some clause)
 reasoned_entry es place clause is = by (slice_get es place) refl
   where
     by : (o : Option Entry) → slice_get es place ≡ o → (e : Entry) × (slice_get es place ≡ Some e) × (e.reason ≡ Some clause)
@@ -22,15 +23,19 @@ reasoned_entry es place clause is = by (slice_get es place) refl
     by None at = let there : reason_of es place ≡ None = rw at refl in absurd (cc)
 
 -- the literals of a reason have entries
-pub lits_assigned : (a : Arena) (t : Trail) → AreReasons a t.entries → (place clause : ℕ) → reason_of t.entries place ≡ Some clause
+pub lits_assigned : (a : Arena) (t : Trail) → AreReasons a t.entries → (place clause : ℕ) → reason_of t.entries
+    place ≡ Some clause
     → (lits : List Lit) → slice_get a.clauses clause ≡ Some lits → All (IsAssigned t) lits
 lits_assigned a t reasons place clause is lits is_clause k d within =
     let e = reasoned_entry t.entries place clause is in
     let r = reasons place e.0 clause e.1 e.2 in
-    by e.0 e.1 (get_or lits k d) (λ other. r.is_reason.others (get_or lits k d) (subst (λ ls. Contains ls (get_or lits k d)) (same_Some _ _ (sym is_clause ∙ r.is_clause)) (Contains-get_or lits k d within)) other)
+    by e.0 e.1 (get_or lits k d) (λ other. r.is_reason.others (get_or lits k d)
+    (subst (λ ls. Contains ls (get_or lits k d)) (same_Some _ _ (sym is_clause ∙ r.is_clause))
+    (Contains-get_or lits k d within)) other)
     (cases_eq (var_of e.0.lit) (var_of (get_or lits k d)))
   where
-    by : (e : Entry) → slice_get t.entries place ≡ Some e → (o : Lit) → (o ≢ e.lit → Contains (lits_before t.entries place) (negation o))
+    by : (e : Entry) → slice_get t.entries place ≡ Some e → (o : Lit) →
+        (o ≢ e.lit → Contains (lits_before t.entries place) (negation o))
         → (var_of e.lit ≡ var_of o) ⊎ (var_of e.lit ≡ var_of o → ⊥) → IsAssigned t o
     by e at o other (inl same) = (place, record { entry = e; is_entry = at; is_of = same })
     by e at o other (inr differs) =
@@ -60,7 +65,8 @@ module _ (a : Arena) (es : List Entry) (base level place : ℕ) where
             low_above = m.low_above;
           }
         where
-          away : (q : ℕ) → (q < level) ⊎ ((place + 1 ≤ q) × HasSeen a es s.seen 0 q) → (q < level) ⊎ ((place ≤ q) × HasSeen a es s.seen 0 q)
+          away : (q : ℕ) → (q < level) ⊎ ((place + 1 ≤ q) × HasSeen a es s.seen 0 q) →
+              (q < level) ⊎ ((place ≤ q) × HasSeen a es s.seen 0 q)
           away q (inl h) = inl h
           away q (inr h) = inr (omega (arith, h.0), h.1)
 
@@ -75,9 +81,15 @@ module _ (a : Arena) (es : List Entry) (base level place : ℕ) where
               by (inr differs) = omega (arith, differs, g)
 
   -- it was met, and is resolved
-  pub passes_met : (old mid : State) → VarsOnce es → AreReasons a es → base ≤ level → level ≤ place → IsSeen old.seen place → MeetsReason a es base level place old mid
+  pub passes_met : (old mid : State) → VarsOnce es → AreReasons a es → base ≤ level → level ≤ place
+      → IsSeen old.seen place → MeetsReason a es base level place old mid
       → Passes a es base level place old (resolving mid place)
-  passes_met old mid once reasons order top seen r = record { low = r.meets.low; still = r.meets.still; met = λ m. resolved (r.meets.met a (place + 1) reasons order m (upto m)) }
+  passes_met old mid once reasons order top seen r = record {
+    low = r.meets.low;
+    still = r.meets.still;
+    met =
+        λ m. resolved (r.meets.met a (place + 1) reasons order m (upto m));
+  }
     where
       here : place < place + 1
       here = omega arith
@@ -99,15 +111,27 @@ module _ (a : Arena) (es : List Entry) (base level place : ℕ) where
             is_reason = r.is_reason;
             lits = r.lits;
             is_clause = r.is_clause;
-            are_seen = λ o there q d at var. elim (r.meets.seen o there q d at var) [ inl h ↦ inl h | inr h ↦ absurd (omega (arith, h)) ];
+            are_seen = λ o there q d at var. elim (r.meets.seen o there q d at var) [
+              | inl h ↦ inl h
+              | inr h ↦ absurd
+                  (omega (arith, h))
+            ];
           }
 
       resolved : AreMet a es base level (place + 1) mid → AreMet a es base level place (resolving mid place)
       resolved m =
           record {
             fate = λ q h. fate q (m.fate q h);
-            kept = λ q there. let k = m.kept q there in record { seen = k.seen; above = k.above; below = k.below; not_resolved = not_resolved q k; no_leaf = k.no_leaf };
-            resolved = λ q there. elim (Contains-push_cases mid.resolved place q there) [ inl h ↦ was q (m.resolved q h) | inr same ↦ subst (λ p. IsResolved a es base level place after p) same is_new ];
+            kept = λ q there. let k = m.kept q there in record {
+              seen = k.seen;
+              above = k.above;
+              below =
+                  k.below;
+              not_resolved = not_resolved q k;
+              no_leaf = k.no_leaf;
+            };
+            resolved = λ q there. elim (Contains-push_cases mid.resolved place q there)
+                [ inl h ↦ was q (m.resolved q h) | inr same ↦ subst (λ p. IsResolved a es base level place after p) same is_new ];
             leaves = λ q there. let k = m.leaves q there in record { seen = k.seen; below = k.below; left = k.left };
             kept_once = m.kept_once;
             resolved_once = once_more mid.resolved place m.resolved_once not_yet;
@@ -125,10 +149,16 @@ module _ (a : Arena) (es : List Entry) (base level place : ℕ) where
               by (inr h) = omega (arith, h.0)
 
           not_resolved : (q : ℕ) → IsKept base level mid q → Contains (mid.resolved ++ place ∷ []) q → ⊥
-          not_resolved q k there = elim (Contains-push_cases mid.resolved place q there) [ inl h ↦ k.not_resolved h | inr same ↦ omega (arith, same, top, k.below) ]
+          not_resolved q k there = elim (Contains-push_cases mid.resolved place q there)
+              [ inl h ↦ k.not_resolved h | inr same ↦ omega (arith, same, top, k.below) ]
 
           was : (q : ℕ) → IsResolved a es base level (place + 1) mid q → IsResolved a es base level place (resolving mid place) q
-          was q k = record { seen = k.seen; reason = k.reason; away = elim k.away [ inl h ↦ inl h | inr h ↦ inr (lower q place h.0, h.1) ] }
+          was q k = record {
+            seen = k.seen;
+            reason = k.reason;
+            away =
+                elim k.away [ inl h ↦ inl h | inr h ↦ inr (lower q place h.0, h.1) ];
+          }
 
           is_new : IsResolved a es base level place (resolving mid place) place
           is_new = record { seen = r.meets.still place seen; reason = closed base; away = inr (omega arith, closed 0) }
@@ -140,5 +170,6 @@ module _ (a : Arena) (es : List Entry) (base level place : ℕ) where
           fate q (waits h g) = by (cases_eq place q)
             where
               by : (place ≡ q) ⊎ (place ≡ q → ⊥) → Fate level place (resolving mid place) q
-              by (inl same) = is_resolved (subst (λ p. Contains (mid.resolved ++ place ∷ []) p) same (Contains-push mid.resolved place))
+              by (inl same) = is_resolved (subst (λ p. Contains (mid.resolved ++ place ∷ []) p) same
+                  (Contains-push mid.resolved place))
               by (inr differs) = waits h (omega (arith, differs, g))

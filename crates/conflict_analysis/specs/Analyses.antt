@@ -9,8 +9,8 @@ use Rattle.refutation_log.specs.Follows.{AreEarlier, Follows, clauses_at}
 use Rattle.refutation_log.specs.Counted.{IsUnit}
 use Rattle.watch_propagate.specs.WatchRule.{IsDueTo}
 
--- over so many variables: a clause, the numbers of the clauses by which it follows, in the order in which they are used, the level to
--- which it leads back, and the places of the trail's literals that were resolved
+-- over so many variables: a clause, the numbers of the clauses by which it follows, in the order in which they are
+-- used, the level to which it leads back, and the places of the trail's literals that were resolved
 pub record Learned : Type 0 where
   pub vars : ℕ
   pub lits : List Lit
@@ -48,8 +48,9 @@ pub record IsDerived (a : Arena) (t : Trail) (lits : List Lit) (hints : List ℕ
   pub lits_once : OnlyOnce lits
   pub within : All (λ lit. var_of lit < t.vars) lits
 
--- the clause of a conflict at the current level: it follows; its first literal is open and the others are false, below that level and
--- at the level to which it leads back; and its second literal is false by that level alone, so that the first two may be watched there
+-- the clause of a conflict at the current level: it follows; its first literal is open and the others are false, below
+-- that level and at the level to which it leads back; and its second literal is false by that level alone, so that the
+-- first two may be watched there
 pub record IsLearned (a : Arena) (t : Trail) (l : Learned) : Type 0 where
   pub derived : IsDerived a t l.lits l.hints
   pub lower : l.back < length t.starts

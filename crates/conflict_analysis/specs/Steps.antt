@@ -18,8 +18,8 @@ Rises (p ∷ ps) = ((q : ℕ) → Contains ps q → p < q) × Rises ps
 
 -- ---- what has been met
 
--- by place of the trail, whether it was met; the places between two bounds, which may yet be dropped; those that were resolved with
--- their reasons; those whose negations are in the clause; and the lowest one of the current level
+-- by place of the trail, whether it was met; the places between two bounds, which may yet be dropped; those that were
+-- resolved with their reasons; those whose negations are in the clause; and the lowest one of the current level
 pub record State : Type 0 where
   pub seen : List Bool
   pub kept : List ℕ
@@ -38,10 +38,38 @@ IsSeen seen place = slice_index_or seen place false ≡ true
 -- a place that is new goes into one of the lists, or lowers the mark
 abbrev pub taking : List Entry → ℕ → ℕ → ℕ → State → State
 taking entries base level place s =
-    if nat_le level place then record { seen = slice_set s.seen place true; kept = s.kept; resolved = s.resolved; leaves = s.leaves; low = min s.low place }
-    else (if nat_le base place then record { seen = slice_set s.seen place true; kept = s.kept ++ place ∷ []; resolved = s.resolved; leaves = s.leaves; low = s.low }
-    else (if is_some (reason_of entries place) then record { seen = slice_set s.seen place true; kept = s.kept; resolved = s.resolved ++ place ∷ []; leaves = s.leaves; low = s.low }
-    else record { seen = slice_set s.seen place true; kept = s.kept; resolved = s.resolved; leaves = s.leaves ++ place ∷ []; low = s.low }))
+    if nat_le level place then record {
+      seen = slice_set s.seen place true;
+      kept = s.kept;
+      resolved =
+          s.resolved;
+      leaves = s.leaves;
+      low = min s.low place;
+    }
+    else (if nat_le base place then record {
+      seen = slice_set s.seen place true;
+      kept = s.kept ++ place
+          ∷ [];
+      resolved = s.resolved;
+      leaves = s.leaves;
+      low = s.low;
+    }
+    else (if is_some (reason_of entries place) then record {
+      seen = slice_set s.seen place true;
+      kept =
+          s.kept;
+      resolved = s.resolved ++ place ∷ [];
+      leaves = s.leaves;
+      low = s.low;
+    }
+    else record {
+      seen = slice_set s.seen place true;
+      kept = s.kept;
+      resolved = s.resolved;
+      leaves = s.leaves
+          ++ place ∷ [];
+      low = s.low;
+    }))
 
 -- a place is met, where it has not been yet
 abbrev pub meeting : List Entry → ℕ → ℕ → ℕ → State → State
@@ -74,7 +102,8 @@ pub data Fate (level at : ℕ) (s : State) (place : ℕ) : Type 0 where
 
 -- the variables of a clause's literals were met, or stand below a place
 abbrev pub AreSeen : List Entry → List Bool → ℕ → List Lit → Type 0
-AreSeen entries seen below lits = (o : Lit) → Contains lits o → (place : ℕ) (e : Entry) → slice_get entries place ≡ Some e → var_of e.lit ≡ var_of o
+AreSeen entries seen below lits = (o : Lit) → Contains lits o → (place : ℕ) (e : Entry) → slice_get entries place ≡
+    Some e → var_of e.lit ≡ var_of o
     → IsSeen seen place ⊎ (place < below)
 
 -- so it is with the clause that implied the entry at a place
@@ -126,8 +155,8 @@ pub record AreMet (a : Arena) (entries : List Entry) (base level at : ℕ) (s : 
 abbrev pub IsAssigned : Trail → Lit → Type 0
 IsAssigned t lit = (place : ℕ) × StandsAt t (var_of lit) place
 
--- the places of a clause's literals are met, and all else stays true; where those that were not are below the base, no place is kept
--- and the mark stays
+-- the places of a clause's literals are met, and all else stays true; where those that were not are below the base, no
+-- place is kept and the mark stays
 pub record MeetsAll (entries : List Entry) (base level : ℕ) (lits : List Lit) (old new : State) : Type 0 where
   pub long : length new.seen ≡ length old.seen
   pub seen : AreSeen entries new.seen 0 lits
@@ -136,7 +165,8 @@ pub record MeetsAll (entries : List Entry) (base level : ℕ) (lits : List Lit) 
   pub resolved : new.resolved ≡ old.resolved ++ added
   pub low : new.low ≤ old.low
   pub quiet : AreSeen entries old.seen base lits → base ≤ level → (new.kept ≡ old.kept) × (new.low ≡ old.low)
-  pub met : (a : Arena) (at : ℕ) → AreReasons a entries → base ≤ level → AreMet a entries base level at old → AreSeen entries old.seen at lits
+  pub met : (a : Arena) (at : ℕ) → AreReasons a entries → base ≤ level → AreMet a entries base level at old
+      → AreSeen entries old.seen at lits
       → AreMet a entries base level at new
 
 -- the entry at a place was implied
@@ -218,7 +248,8 @@ pub record Starts (a : Arena) (entries : List Entry) (base level clause : ℕ) (
   pub is_clause : slice_get a.clauses clause ≡ Some lits
   pub seen : AreSeen entries s.seen 0 lits
 
--- in the end each place that was met is resolved, with its reason's, or is in the clause, or is of the current level and below a place
+-- in the end each place that was met is resolved, with its reason's, or is in the clause, or is of the current level
+-- and below a place
 pub record IsEnded (a : Arena) (entries : List Entry) (base level at : ℕ) (s : State) : Type 0 where
   pub none_kept : s.kept ≡ []
   pub fate : (place : ℕ) → IsSeen s.seen place → Fate level at s place
@@ -268,8 +299,8 @@ pub record IsHighest (places : List ℕ) (place : ℕ) : Type 0 where
   pub is_in : Contains places place
   pub highest : (q : ℕ) → Contains places q → q ≤ place
 
--- a clause has the negation of the literal at a point alone, or with it those at other places, the highest one first; and the level of
--- that place
+-- a clause has the negation of the literal at a point alone, or with it those at other places, the highest one first;
+-- and the level of that place
 pub data IsWritten (t : Trail) (point : ℕ) (leaves : List ℕ) (lits : List Lit) (back : ℕ) : Type 0 where
   alone : leaves ≡ [] → lits ≡ negated t.entries point ∷ [] → back ≡ 0 → IsWritten t point leaves lits back
   followed : (second : ℕ) → IsHighest leaves second

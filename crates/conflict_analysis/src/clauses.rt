@@ -12,7 +12,8 @@ fn meet_lit(found: &mut Resolution, trail: &Trail, bounds: Bounds, lit: Lit) -> 
     requires long { length trail.now.entries ≤ length found.old.seen }
     requires assigned { IsAssigned trail.now lit }
     ensures long { length found.new.seen ≡ length found.old.seen }
-    ensures ok { OnOk result ((front : List Lit) (old : State) → MeetsAll trail.now.entries bounds.base bounds.level front old found.old
+    ensures ok { OnOk result ((front : List Lit) (old : State) → MeetsAll trail.now.entries bounds.base bounds.level
+        front old found.old
         → MeetsAll trail.now.entries bounds.base bounds.level (front ++ lit ∷ []) old found.new) }
 {
     trail.are_entries();

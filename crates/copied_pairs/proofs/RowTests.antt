@@ -59,7 +59,8 @@ same_test ent = by (eqb_tells ent ent)
     by (inl e) = e.0
     by (inr e) = absurd (e.1 refl)
 
-pub partner_from_test : (copy : CopyFunction) (source : List Row) (from second : RowId) → goes_with source from (source_at copy second) ≡ true
+pub partner_from_test : (copy : CopyFunction) (source : List Row) (from second : RowId) → goes_with source from
+    (source_at copy second) ≡ true
     → IsPartner copy source from second
 partner_from_test copy source from second h = by (source_at copy second) refl h
   where
@@ -106,7 +107,8 @@ joined_cases (x ∷ front) rest (suc i) p at = by (joined_cases front rest i p a
     by (inl h) = inl (h.0, omega (arith, h.1))
     by (inr h) = inr (record { place = h.place; number = omega (arith, h.number); at = h.at })
 
-left_of : (front rest : List CopiedPair) (i : ℕ) (p : CopiedPair) → slice_get front i ≡ Some p → slice_get (front ++ rest) i ≡ Some p
+left_of : (front rest : List CopiedPair) (i : ℕ) (p : CopiedPair) → slice_get front i ≡ Some p
+    → slice_get (front ++ rest) i ≡ Some p
 left_of [] rest i p at = absurd (none-some p at)
 left_of (x ∷ front) rest zero p at = at
 left_of (x ∷ front) rest (suc i) p at = left_of front rest i p at

@@ -27,7 +27,8 @@ goes_with source from (Some other) = not (other.0 == from.0) && same_entity (ent
 abbrev pub pairs_with : CopyFunction → List Row → RowId → RowId → List RowId → List CopiedPair
 pairs_with copy source first from [] = []
 pairs_with copy source first from (second ∷ rows) =
-    if goes_with source from (source_at copy second) then record { first = first; second = second } ∷ pairs_with copy source first from rows else pairs_with copy source first from rows
+    if goes_with source from (source_at copy second) then record { first = first; second = second }
+    ∷ pairs_with copy source first from rows else pairs_with copy source first from rows
 
 -- the same where the first row is mapped; else none
 abbrev pub pairs_if : CopyFunction → List Row → RowId → Option RowId → List RowId → List CopiedPair
@@ -38,7 +39,8 @@ pairs_if copy source first (Some from) rows = pairs_with copy source first from 
 abbrev pub pairs_from : CopyFunction → List Row → List ℕ → ℕ → List ℕ → List CopiedPair
 pairs_from copy source entities number [] = []
 pairs_from copy source entities number (ent ∷ rest) =
-    pairs_if copy source (record { 0 = number }) (source_at copy (record { 0 = number })) (rows_of entities ent) ++ pairs_from copy source entities (number + 1) rest
+    pairs_if copy source (record { 0 = number }) (source_at copy (record { 0 = number })) (rows_of entities ent)
+    ++ pairs_from copy source entities (number + 1) rest
 
 -- the pairs of all rows
 abbrev pub pairs_of : CopyFunction → List Row → List Row → List CopiedPair

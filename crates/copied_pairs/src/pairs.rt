@@ -56,7 +56,8 @@ fn add_pairs_of(
     requires sources { HasSources copy.now source.now }
     requires first { first.0 < length lists.now.entities }
     ensures { OnOk result ((ent : ℕ) → slice_get lists.now.entities first.0 ≡ Some ent
-        → pairs.new ≡ pairs.old ++ pairs_if copy.now source.now first (source_at copy.now first) (rows_of lists.now.entities ent)) }
+        → pairs.new ≡ pairs.old ++ pairs_if copy.now source.now first (source_at copy.now first)
+        (rows_of lists.now.entities ent)) }
 {
     let Some(from) = copy.source_of(first) else {
         return Ok(());

@@ -18,7 +18,8 @@ use Rattle.spec_names.specs.declared.names.RelationNames.{RelationNames}
 use Rattle.copy_bind.specs.Heads.{side_of, side_with}
 
 -- the names of a specification, its relations as they are listed, and one of these at its place
-pub record IsPlace (names : NameLists) (s : Spec) (list : List (List ℕ)) (place : ℕ) (relations : List Relation) (r : Relation) : Type 0 where
+pub record IsPlace (names : NameLists) (s : Spec) (list : List (List ℕ)) (place : ℕ) (relations : List Relation)
+    (r : Relation) : Type 0 where
   pub all : names ≡ all_names_of s
   pub listed : list ≡ names.relations
   pub within : place < length list
@@ -30,23 +31,28 @@ pub listed_names : (names : NameLists) (s : Spec) (list : List (List ℕ)) → n
 listed_names names s list all listed = listed ∙ ap (λ (n : NameLists). n.relations) all
 
 -- the place is one of the relations
-pub place_within : (names : NameLists) (s : Spec) (list : List (List ℕ)) (place : ℕ) → names ≡ all_names_of s → list ≡ names.relations
+pub place_within : (names : NameLists) (s : Spec) (list : List (List ℕ)) (place : ℕ) → names ≡ all_names_of s
+    → list ≡ names.relations
     → place < length list → place < length s.relations
 place_within names s list place all listed within =
     omega (arith, ap length (listed_names names s list all listed), length-map s.relations (λ (r : Relation). r.name), within)
 
 -- a place is a number of 32 bits
-pub place_fits : (names : NameLists) (s : Spec) (list : List (List ℕ)) (place : ℕ) → names ≡ all_names_of s → list ≡ names.relations
+pub place_fits : (names : NameLists) (s : Spec) (list : List (List ℕ)) (place : ℕ) → names ≡ all_names_of s
+    → list ≡ names.relations
     → place < length list → AreRelations s.relations → place < 4294967296
-place_fits names s list place all listed within facts = let few = facts.few in omega (arith, place_within names s list place all listed within)
+place_fits names s list place all listed within facts = let few = facts.few in omega
+    (arith, place_within names s list place all listed within)
 
 pub relation_at : (names : NameLists) (s : Spec) (list : List (List ℕ)) (place : ℕ) (relations : List Relation) (r : Relation)
     → IsPlace names s list place relations r → slice_get s.relations place ≡ Some r
 relation_at names s list place relations r p =
-    slice_get_read s.relations (length s.relations) place r refl (place_within names s list place p.all p.listed p.within) (p.is ∙ ap (λ rs. get_or rs place r) p.are)
+    slice_get_read s.relations (length s.relations) place r refl
+    (place_within names s list place p.all p.listed p.within) (p.is ∙ ap (λ rs. get_or rs place r) p.are)
 
 -- the names of its parts
-pub parts_at : (names : NameLists) (s : Spec) (list : List (List ℕ)) (place : ℕ) (relations : List Relation) (r : Relation) (parts : RelationNames)
+pub parts_at : (names : NameLists) (s : Spec) (list : List (List ℕ)) (place : ℕ) (relations : List Relation)
+    (r : Relation) (parts : RelationNames)
     → IsPlace names s list place relations r → slice_get names.each place ≡ Some parts → parts ≡ names_of r
 parts_at names s list place relations r parts p at =
     same_Some parts (names_of r) (sym at ∙ ap (λ (n : NameLists). slice_get n.each place) p.all
@@ -74,8 +80,10 @@ found_ok None fault place is = absurd (cc)
 found_ok (Some q) fault place is = cc
 
 -- an unknown relation is due
-pub unknown_relation : (names : NameLists) (s : Spec) (list : List (List ℕ)) (name : Named) (attrs : List Named) (e : BindFault) → names ≡ all_names_of s
-    → list ≡ names.relations → ◌≡◌ {A = Result ℕ BindFault} (Err e) (found_or (place_of list name.name) (refused_at UnknownName name) Ok)
+pub unknown_relation : (names : NameLists) (s : Spec) (list : List (List ℕ)) (name : Named) (attrs : List Named)
+    (e : BindFault) → names ≡ all_names_of s
+    → list ≡ names.relations → ◌≡◌ {A = Result ℕ BindFault} (Err e)
+    (found_or (place_of list name.name) (refused_at UnknownName name) Ok)
     → side_of s.relations name attrs ≡ Err e
 unfolding side_of
 unknown_relation names s list name attrs e all listed is =
@@ -85,7 +93,8 @@ unknown_relation names s list name attrs e all listed is =
     rw at (ap Err missing.1)
 
 -- what is due of the relation that is found is due of the side
-pub due_at : (names : NameLists) (s : Spec) (list : List (List ℕ)) (place : ℕ) (relations : List Relation) (r : Relation) (name : Named) (attrs : List Named)
+pub due_at : (names : NameLists) (s : Spec) (list : List (List ℕ)) (place : ℕ) (relations : List Relation)
+    (r : Relation) (name : Named) (attrs : List Named)
     → IsPlace names s list place relations r
     → ◌≡◌ {A = Result ℕ BindFault} (Ok place) (found_or (place_of list name.name) (refused_at UnknownName name) Ok)
     → side_of s.relations name attrs ≡ side_with attrs place r

@@ -19,21 +19,26 @@ use Rattle.copy_bind.specs.declared.mapping.Mapping.{Mapping}
 
 row_reads : (document : Option (List ℕ)) (rows : List (List ℕ)) (named : Named) → ReadsNothing (row_named document rows named)
 row_reads document rows named =
-    found_reads (place_of rows named.name) (refused_of document code.UnknownRow named) (λ place. Ok record { 0 = place }) (record { none = λ h. h })
+    found_reads (place_of rows named.name) (refused_of document code.UnknownRow named)
+    (λ place. Ok record { 0 = place }) (record { none = λ h. h })
     (λ k. record { none = λ h. h })
 
-mapping_reads : (document : Option (List ℕ)) (targets sources : List (List ℕ)) (pair : NamedPair) → ReadsNothing (mapping_named document targets sources pair)
+mapping_reads : (document : Option (List ℕ)) (targets sources : List (List ℕ)) (pair : NamedPair) → ReadsNothing
+    (mapping_named document targets sources pair)
 mapping_reads document targets sources pair =
     then_reads (row_named document targets pair.first) _ (row_reads document targets pair.first) (λ target.
-    then_reads (row_named document sources pair.second) (λ source. Ok record { target = target; source = source; line = pair.first.line })
+    then_reads (row_named document sources pair.second)
+    (λ source. Ok record { target = target; source = source; line = pair.first.line })
     (row_reads document sources pair.second) (λ source. record { none = λ h. h }))
 
-refusal_reads : (document : Option (List ℕ)) (line : ℕ) (fault : CopyFault) → ReadsNothing {A = CopyFunction} (Err (refusal_of document line fault))
+refusal_reads : (document : Option (List ℕ)) (line : ℕ) (fault : CopyFault) → ReadsNothing {A = CopyFunction}
+    (Err (refusal_of document line fault))
 refusal_reads document line copy_fault.CopyTwice = record { none = λ h. h }
 refusal_reads document line (copy_fault.CopyDiffers place target source) = record { none = λ h. h }
 refusal_reads document line copy_fault.NoMemory = record { none = λ h. h }
 
-some_reads : (document : Option (List ℕ)) (line : ℕ) (fault : Option CopyFault) (e : BindFault) → option_map (refusal_of document line) fault ≡ Some e
+some_reads : (document : Option (List ℕ)) (line : ℕ) (fault : Option CopyFault) (e : BindFault) → option_map
+    (refusal_of document line) fault ≡ Some e
     → ReadsNothing {A = CopyFunction} (Err e)
 some_reads document line None e is = absurd (cc)
 some_reads document line (Some fault) e is =
@@ -44,11 +49,13 @@ mappings_read : (document : Option (List ℕ)) (targets sources : List Row) (cop
     → ReadsNothing (with_mappings document targets sources copy ms)
 mappings_read document targets sources copy [] = record { none = λ h. h }
 mappings_read document targets sources copy (m ∷ more) =
-    unless_reads (fault_of document targets sources copy m) (with_mappings document targets sources (with_source copy m.target m.source) more)
+    unless_reads (fault_of document targets sources copy m)
+    (with_mappings document targets sources (with_source copy m.target m.source) more)
     (some_reads document m.line (fault_due copy targets sources m.target m.source))
     (mappings_read document targets sources (with_source copy m.target m.source) more)
 
-pub copied_reads : (name : List ℕ) (head : CopyHead) (document : Option (List ℕ)) (pairs : List NamedPair) → ReadsNothing (copied name head document pairs)
+pub copied_reads : (name : List ℕ) (head : CopyHead) (document : Option (List ℕ)) (pairs : List NamedPair)
+    → ReadsNothing (copied name head document pairs)
 unfolding copied
 copied_reads name head document pairs =
     then_reads (mappings_of head document pairs)

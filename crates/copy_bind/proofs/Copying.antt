@@ -35,7 +35,8 @@ row_found : (place : Option ℕ) (fault : BindFault) (row : RowId)
 row_found None fault row is = absurd (cc)
 row_found (Some k) fault row is = let same : ◌≡◌ {A = RowId} (record { 0 = k }) row = cc in ap (λ (r : RowId). Some r.0) same
 
-row_within : (document : Option (List ℕ)) (r : Relation) (named : Named) (row : RowId) → row_named document (names_of_rows r) named ≡ Ok row
+row_within : (document : Option (List ℕ)) (r : Relation) (named : Named) (row : RowId) → row_named document
+    (names_of_rows r) named ≡ Ok row
     → row.0 < length r.rows
 row_within document r named row is =
     let found = row_found (place_of (names_of_rows r) named.name) (refused_of document code.UnknownRow named) row is in
@@ -53,7 +54,8 @@ mapping_within document target source pair m is =
     })
 
 mappings_within : (document : Option (List ℕ)) (target source : Relation) (pairs : List NamedPair) (mappings : List Mapping)
-    → all_of (mapping_named document (names_of_rows target) (names_of_rows source)) pairs ≡ Ok mappings → All (IsWithin target source) mappings
+    → all_of (mapping_named document (names_of_rows target) (names_of_rows source)) pairs ≡ Ok mappings
+    → All (IsWithin target source) mappings
 mappings_within document target source [] mappings is =
     let made : [] ≡ mappings = cc in
     subst (All (IsWithin target source)) made (All-nil (IsWithin target source))
@@ -72,32 +74,39 @@ pub record AreRowNames (head : CopyHead) (targets sources : List (List ℕ)) : T
   pub of_target : targets ≡ names_of_rows head.target.relation
   pub of_source : sources ≡ names_of_rows head.source.relation
 
-mappings_are : (head : CopyHead) (document : Option (List ℕ)) (pairs : List NamedPair) (targets sources : List (List ℕ)) → AreRowNames head targets sources
+mappings_are : (head : CopyHead) (document : Option (List ℕ)) (pairs : List NamedPair)
+    (targets sources : List (List ℕ)) → AreRowNames head targets sources
     → mappings_of head document pairs ≡ all_of (mapping_named document targets sources) pairs
 mappings_are head document pairs targets sources are =
     ap (λ ts. all_of (mapping_named document ts (names_of_rows head.source.relation)) pairs) (sym are.of_target)
     ∙ ap (λ ss. all_of (mapping_named document targets ss) pairs) (sym are.of_source)
 
-pub all_within : (head : CopyHead) (document : Option (List ℕ)) (pairs : List NamedPair) (targets sources : List (List ℕ)) (mappings listed : List Mapping)
+pub all_within : (head : CopyHead) (document : Option (List ℕ)) (pairs : List NamedPair)
+    (targets sources : List (List ℕ)) (mappings listed : List Mapping)
     → AreRowNames head targets sources → all_of (mapping_named document targets sources) pairs ≡ Ok mappings → listed ≡ mappings
     → All (IsWithin head.target.relation head.source.relation) listed
 all_within head document pairs targets sources mappings listed are is same =
     subst (All (IsWithin head.target.relation head.source.relation)) (sym same)
-    (mappings_within document head.target.relation head.source.relation pairs mappings (mappings_are head document pairs targets sources are ∙ is))
+    (mappings_within document head.target.relation head.source.relation pairs mappings
+    (mappings_are head document pairs targets sources are ∙ is))
 
 -- a pair that is refused
-pub pairs_refused : (name : List ℕ) (head : CopyHead) (document : Option (List ℕ)) (pairs : List NamedPair) (targets sources : List (List ℕ)) (e : BindFault)
+pub pairs_refused : (name : List ℕ) (head : CopyHead) (document : Option (List ℕ)) (pairs : List NamedPair)
+    (targets sources : List (List ℕ)) (e : BindFault)
     → AreRowNames head targets sources → IsDue (all_of (mapping_named document targets sources) pairs) (Err e)
     → IsDue (copied name head document pairs) (Err e)
 unfolding copied
 pairs_refused name head document pairs targets sources e are due =
     due_through (all_of (mapping_named document targets sources) pairs) (copied name head document pairs) e due
-    (λ is. ap (λ ms. and_then ms (with_mappings document head.target.relation.rows head.source.relation.rows (empty_copy name head)))
+    (λ is. ap (λ ms. and_then ms (with_mappings document head.target.relation.rows head.source.relation.rows
+    (empty_copy name head)))
     (mappings_are head document pairs targets sources are ∙ is))
 
 -- what is due once the mappings are there
-pub pairs_there : (name : List ℕ) (head : CopyHead) (document : Option (List ℕ)) (pairs : List NamedPair) (targets sources : List (List ℕ))
-    (mappings listed : List Mapping) (copy : CopyFunction) (result : Result CopyFunction BindFault) → AreRowNames head targets sources
+pub pairs_there : (name : List ℕ) (head : CopyHead) (document : Option (List ℕ)) (pairs : List NamedPair)
+    (targets sources : List (List ℕ))
+    (mappings listed : List Mapping) (copy : CopyFunction) (result : Result CopyFunction BindFault)
+    → AreRowNames head targets sources
     → all_of (mapping_named document targets sources) pairs ≡ Ok mappings → listed ≡ mappings → copy ≡ empty_copy name head
     → IsDue (with_mappings document head.target.relation.rows head.source.relation.rows copy listed) result
     → IsDue (copied name head document pairs) result
@@ -110,8 +119,16 @@ pairs_there name head document pairs targets sources mappings listed copy result
     subst (λ (d : Result CopyFunction BindFault). IsDue d result) (sym made) due
 
 -- a copy function that maps no row
-pub is_empty : (name named : List ℕ) (head : CopyHead) (target source : RelId) (copy : CopyFunction) → named ≡ name → target ≡ head.target.id
-    → source ≡ head.source.id → copy ≡ record { name = named; target = target; source = source; places = head.places; sources = [] }
+pub is_empty : (name named : List ℕ) (head : CopyHead) (target source : RelId) (copy : CopyFunction) → named ≡ name
+    → target ≡ head.target.id
+    → source ≡ head.source.id → copy ≡ record {
+      name = named;
+      target = target;
+      source = source;
+      places =
+          head.places;
+      sources = [];
+    }
     → copy ≡ empty_copy name head
 is_empty name named head target source copy same_name same_target same_source is =
     is ∙ ap (λ n. record { name = n; target = target; source = source; places = head.places; sources = [] }) same_name
@@ -131,7 +148,8 @@ copy_among relations name head copy among of = record {
   copied = of.copied;
 }
 
-pub result_among : (relations : List Relation) (name : List ℕ) (head : CopyHead) (result : Result CopyFunction BindFault) → IsHeadAmong relations head
+pub result_among : (relations : List Relation) (name : List ℕ) (head : CopyHead)
+    (result : Result CopyFunction BindFault) → IsHeadAmong relations head
     → IfOk result (IsCopyOfHead name head) → IfOk result (IsCopyAmong relations)
 result_among relations name head (Err fault) among of = tt
 result_among relations name head (Ok copy) among of = copy_among relations name head copy among of

@@ -31,11 +31,13 @@ due_through first due (ReadFault name) is on = on is
 due_through first due NoMemory is on = tt
 
 -- a check that refuses, and one that does not
-pub is_refused : (refused : Option BindFault) (e : BindFault) → ◌≡◌ {A = Result (Unit {0}) BindFault} (unless refused (Ok tt)) (Err e) → refused ≡ Some e
+pub is_refused : (refused : Option BindFault) (e : BindFault) → ◌≡◌ {A = Result (Unit {0}) BindFault}
+    (unless refused (Ok tt)) (Err e) → refused ≡ Some e
 is_refused None e is = absurd (cc)
 is_refused (Some fault) e is = cc
 
-pub is_free : (refused : Option BindFault) (u : Unit {0}) → ◌≡◌ {A = Result (Unit {0}) BindFault} (unless refused (Ok tt)) (Ok u) → refused ≡ None
+pub is_free : (refused : Option BindFault) (u : Unit {0}) → ◌≡◌ {A = Result (Unit {0}) BindFault}
+    (unless refused (Ok tt)) (Ok u) → refused ≡ None
 is_free None u is = refl
 is_free (Some fault) u is = absurd (cc)
 
@@ -45,11 +47,13 @@ is_free (Some fault) u is = absurd (cc)
 abbrev pub copies_of : Spec → List (List ℕ)
 copies_of s = map (λ c. c.name) s.copies
 
-pub target_refused : (s : Spec) (tree : CopyTree) (e : BindFault) → side_of s.relations tree.target tree.target_attrs ≡ Err e → head_of s tree ≡ Err e
+pub target_refused : (s : Spec) (tree : CopyTree) (e : BindFault) → side_of s.relations tree.target
+    tree.target_attrs ≡ Err e → head_of s tree ≡ Err e
 unfolding head_of
 target_refused s tree e is = rw is refl
 
-pub source_refused : (s : Spec) (tree : CopyTree) (target : Side) (e : BindFault) → side_of s.relations tree.target tree.target_attrs ≡ Ok target
+pub source_refused : (s : Spec) (tree : CopyTree) (target : Side) (e : BindFault) → side_of s.relations tree.target
+    tree.target_attrs ≡ Ok target
     → side_of s.relations tree.source tree.source_attrs ≡ Err e → head_of s tree ≡ Err e
 unfolding head_of
 source_refused s tree target e first is = rw (first, is) refl
@@ -61,7 +65,8 @@ pub record AreSides (s : Spec) (tree : CopyTree) (target source : Side) : Type 0
 
 -- the same, where the attributes are listed elsewhere
 pub are_sides : (s : Spec) (tree : CopyTree) (targets sources : List Named) (target source : Side) → targets ≡ tree.target_attrs
-    → sources ≡ tree.source_attrs → side_of s.relations tree.target targets ≡ Ok target → side_of s.relations tree.source sources ≡ Ok source
+    → sources ≡ tree.source_attrs → side_of s.relations tree.target targets ≡ Ok target → side_of s.relations
+    tree.source sources ≡ Ok source
     → AreSides s tree target source
 are_sides s tree targets sources target source same_targets same_sources is_target is_source = record {
   is_target = ap (side_of s.relations tree.target) (sym same_targets) ∙ is_target;
@@ -69,7 +74,8 @@ are_sides s tree targets sources target source same_targets same_sources is_targ
 }
 
 -- what the names of copies are refused for, where these are listed elsewhere
-pub of_copies : (names : NameLists) (s : Spec) (copies : List (List ℕ)) (tree : CopyTree) (refused : Option BindFault) → names ≡ all_names_of s
+pub of_copies : (names : NameLists) (s : Spec) (copies : List (List ℕ)) (tree : CopyTree)
+    (refused : Option BindFault) → names ≡ all_names_of s
     → copies ≡ names.copies → names_refused copies tree ≡ refused → names_refused (copies_of s) tree ≡ refused
 of_copies names s copies tree refused all listed is =
     ap (λ ns. names_refused ns tree) (sym (listed ∙ ap (λ (n : NameLists). n.copies) all)) ∙ is

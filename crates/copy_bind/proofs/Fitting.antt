@@ -31,12 +31,14 @@ and_then_ok (Err e) next y is = absurd (cc)
 with_is : (attrs : List Named) (place : ℕ) (r : Relation) (side : Side) → side_with attrs place r ≡ Ok side
     → (side.id.0 ≡ place) × (side.relation ≡ r)
 with_is attrs place r side is =
-    let a = and_then_ok (all_of (attr_named (names_of_attrs r)) attrs) (λ ids. Ok record { id = record { 0 = place }; relation = r; attrs = ids }) side is in
+    let a = and_then_ok (all_of (attr_named (names_of_attrs r)) attrs)
+    (λ ids. Ok record { id = record { 0 = place }; relation = r; attrs = ids }) side is in
     let made : ◌≡◌ {A = Side} (record { id = record { 0 = place }; relation = r; attrs = a.0 }) side = cc in
     (ap (λ (x : Side). x.id.0) (sym made), ap (λ (x : Side). x.relation) (sym made))
 
 at_is : (relations : List Relation) (name : Named) (attrs : List Named) (place : ℕ) (there : Option Relation) (side : Side)
-    → slice_get relations place ≡ there → side_at name attrs place there ≡ Ok side → slice_get relations side.id.0 ≡ Some side.relation
+    → slice_get relations place ≡ there → side_at name attrs place there ≡ Ok side → slice_get relations side.id.0 ≡
+    Some side.relation
 at_is relations name attrs place None side at is = absurd (cc)
 at_is relations name attrs place (Some r) side at is =
     let w = with_is attrs place r side is in
@@ -51,7 +53,8 @@ found_is relations name attrs (Some place) side is = at_is relations name attrs 
 side_is : (relations : List Relation) (name : Named) (attrs : List Named) (side : Side) → side_of relations name attrs ≡ Ok side
     → slice_get relations side.id.0 ≡ Some side.relation
 unfolding side_of
-side_is relations name attrs side is = found_is relations name attrs (place_of (map (λ (r : Relation). r.name) relations) name.name) side is
+side_is relations name attrs side is = found_is relations name attrs
+    (place_of (map (λ (r : Relation). r.name) relations) name.name) side is
 
 -- a kind that two attributes have
 one_kind : (a b : Option Kind) → same_kind a b ≡ true → (kind : Kind) × (a ≡ Some kind) × (b ≡ Some kind)
@@ -63,18 +66,22 @@ one_kind (Some Int) None is = absurd (cc)
 one_kind (Some Int) (Some Text) is = absurd (cc)
 one_kind (Some Int) (Some Int) is = (Int, refl, refl)
 
-place_between : (target source : Relation) (place : Place) → is_of_one_kind target source place ≡ true → IsPlaceBetween target source place
+place_between : (target source : Relation) (place : Place) → is_of_one_kind target source place ≡ true
+    → IsPlaceBetween target source place
 place_between target source place is =
     let k = one_kind (kind_at target place.target) (kind_at source place.source) is in
     record { kind = k.0; in_target = k.1; in_source = k.2 }
 
-places_between : (target source : Relation) (places : List Place) → are_of_one_kind target source places ≡ true → All (IsPlaceBetween target source) places
+places_between : (target source : Relation) (places : List Place) → are_of_one_kind target source places ≡ true
+    → All (IsPlaceBetween target source) places
 places_between target source [] is = All-nil (IsPlaceBetween target source)
 places_between target source (place ∷ places) is =
     let both = and_parts (is_of_one_kind target source place) (are_of_one_kind target source places) is in
-    All-cons (IsPlaceBetween target source) place places (place_between target source place both.0) (places_between target source places both.1)
+    All-cons (IsPlaceBetween target source) place places (place_between target source place both.0)
+    (places_between target source places both.1)
 
-if_ok : {A : Type 0} (b : Bool) (x y : A) (e : BindFault) → ◌≡◌ {A = Result A BindFault} (if b then Ok x else Err e) (Ok y) → (b ≡ true) × (y ≡ x)
+if_ok : {A : Type 0} (b : Bool) (x y : A) (e : BindFault) → ◌≡◌ {A = Result A BindFault} (if b then Ok x else Err e)
+    (Ok y) → (b ≡ true) × (y ≡ x)
 if_ok true x y e is = (refl, cc)
 if_ok false x y e is = absurd (cc)
 
@@ -88,7 +95,8 @@ matched_between name target source places is =
     (places_between target.relation source.relation (places_of target.attrs source.attrs) (and_parts _ _ m.0).1)
 
 pub head_among : (s : Spec) (tree : CopyTree) (target source : Side) (places : List Place) → AreSides s tree target source
-    → matched tree.name target source ≡ Ok places → IsHeadAmong s.relations (record { target = target; source = source; places = places })
+    → matched tree.name target source ≡ Ok places → IsHeadAmong s.relations
+    (record { target = target; source = source; places = places })
 head_among s tree target source places sides is = record {
   is_target = side_is s.relations tree.target tree.target_attrs target sides.is_target;
   is_source = side_is s.relations tree.source tree.source_attrs source sides.is_source;
@@ -104,4 +112,5 @@ neither (Some fault) b is = absurd (cc)
 pub is_fresh : (s : Spec) (tree : CopyTree) → names_refused (copies_of s) tree ≡ None → Contains (copies_of s) tree.name.name → ⊥
 unfolding names_refused
 is_fresh s tree free =
-    untaken (copies_of s) tree.name (neither (taken (copies_of s) tree.name) (or_else (repeated [] tree.target_attrs) (repeated [] tree.source_attrs)) free).0
+    untaken (copies_of s) tree.name (neither (taken (copies_of s) tree.name) (or_else (repeated [] tree.target_attrs)
+    (repeated [] tree.source_attrs)) free).0

@@ -8,7 +8,8 @@ use Rattle.copy_bind.specs.Copied.{pair_in, pairs_from}
 use Rattle.copy_bind.specs.Steps.{AreTexts}
 
 -- one pair more
-pub pair_more : (pairs : List NamedPair) (number next : ℕ) (tuple : List Value) (rest more : List (List Value)) (pair : NamedPair) (whole : List NamedPair)
+pub pair_more : (pairs : List NamedPair) (number next : ℕ) (tuple : List Value) (rest more : List (List Value))
+    (pair : NamedPair) (whole : List NamedPair)
     → rest ≡ tuple ∷ more → pair ≡ pair_in number tuple → next ≡ told (number + 1) → pairs ++ pairs_from number rest ≡ whole
     → (pairs ++ pair ∷ []) ++ pairs_from next more ≡ whole
 pair_more pairs number next tuple rest more pair whole is same follows so_far =
@@ -19,5 +20,6 @@ pair_more pairs number next tuple rest more pair whole is same follows so_far =
     ∙ so_far
 
 -- what is left is texts
-pub texts_more : (tuple : List Value) (rest more : List (List Value)) → rest ≡ tuple ∷ more → All AreTexts rest → All AreTexts more
+pub texts_more : (tuple : List Value) (rest more : List (List Value)) → rest ≡ tuple ∷ more → All AreTexts rest
+    → All AreTexts more
 texts_more tuple rest more is all = All-tail AreTexts tuple more (subst (All AreTexts) is all)

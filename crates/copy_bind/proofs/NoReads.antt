@@ -18,7 +18,8 @@ same_fault A B (ReadFault name) h = h
 same_fault A B NoMemory h = h
 
 -- so is one of a table of this name
-pub same_table : (A B : Type 0) (fault : BindFault) (table : List ℕ) → IsReadFaultOf {A = A} (Err fault) table → IsReadFaultOf {A = B} (Err fault) table
+pub same_table : (A B : Type 0) (fault : BindFault) (table : List ℕ) → IsReadFaultOf {A = A} (Err fault) table
+    → IsReadFaultOf {A = B} (Err fault) table
 same_table A B (Refused refusal) table h = h
 same_table A B (CopyDiffers document line target source) table h = h
 same_table A B (Limit k) table h = h
@@ -39,23 +40,27 @@ pub then_reads : {A B : Type 0} (first : Result A BindFault) (next : A → Resul
 then_reads (Ok x) next a b = b x
 then_reads {A} {B} (Err fault) next a b = record { none = λ h. a.none (same_fault B A fault h) }
 
-pub found_reads : {A : Type 0} (place : Option ℕ) (fault : BindFault) (next : ℕ → Result A BindFault) → ReadsNothing {A = A} (Err fault)
+pub found_reads : {A : Type 0} (place : Option ℕ) (fault : BindFault) (next : ℕ → Result A BindFault)
+    → ReadsNothing {A = A} (Err fault)
     → ((k : ℕ) → ReadsNothing (next k)) → ReadsNothing (found_or place fault next)
 found_reads None fault next a b = a
 found_reads (Some k) fault next a b = b k
 
 pub unless_reads : {A : Type 0} (refused : Option BindFault) (next : Result A BindFault)
-    → ((fault : BindFault) → refused ≡ Some fault → ReadsNothing {A = A} (Err fault)) → ReadsNothing next → ReadsNothing (unless refused next)
+    → ((fault : BindFault) → refused ≡ Some fault → ReadsNothing {A = A} (Err fault)) → ReadsNothing next
+    → ReadsNothing (unless refused next)
 unless_reads None next a b = b
 unless_reads (Some fault) next a b = a fault (λ i. Some fault)
 
-pub all_reads : {A B : Type 0} (f : A → Result B BindFault) → ((x : A) → ReadsNothing (f x)) → (xs : List A) → ReadsNothing (all_of f xs)
+pub all_reads : {A B : Type 0} (f : A → Result B BindFault) → ((x : A) → ReadsNothing (f x)) → (xs : List A)
+    → ReadsNothing (all_of f xs)
 all_reads f each [] = record { none = λ h. h }
 all_reads f each (x ∷ xs) =
     then_reads (f x) (λ y. and_then (all_of f xs) (λ ys. Ok (y ∷ ys))) (each x)
     (λ y. then_reads (all_of f xs) (λ ys. Ok (y ∷ ys)) (all_reads f each xs) (λ ys. record { none = λ h. h }))
 
-pub if_reads : {A : Type 0} (b : Bool) (x y : Result A BindFault) → ReadsNothing x → ReadsNothing y → ReadsNothing (if b then x else y)
+pub if_reads : {A : Type 0} (b : Bool) (x y : Result A BindFault) → ReadsNothing x → ReadsNothing y → ReadsNothing
+    (if b then x else y)
 if_reads true x y a c = a
 if_reads false x y a c = c
 

@@ -16,7 +16,8 @@ repeated_later : (before : List (List ℕ)) (named : Named) (more : List Named) 
 repeated_later before named more is = rw is refl
 
 -- the first repeated name, where all names before it were new
-pub repeated_at : (list : List Named) (i : ℕ) (before : List (List ℕ)) (named : Named) (place : ℕ) → i < length list → named ≡ get_or list i named
+pub repeated_at : (list : List Named) (i : ℕ) (before : List (List ℕ)) (named : Named) (place : ℕ) → i < length list
+    → named ≡ get_or list i named
     → slice_get before place ≡ Some named.name → repeated before (drop i list) ≡ repeated [] list
     → repeated [] list ≡ Some (refused_at DuplicateName named)
 repeated_at list i before named place within is at so_far =

@@ -44,23 +44,37 @@ mapping_named document targets sources pair =
 
 -- the refusal of a mapping at a line
 abbrev pub refusal_of : Option (List ℕ) → ℕ → CopyFault → BindFault
-refusal_of document line copy_fault.CopyTwice = bind_fault.Refused record { code = code.CopyTwice; document = document; line = line }
+refusal_of document line copy_fault.CopyTwice = bind_fault.Refused record {
+  code = code.CopyTwice;
+  document =
+      document;
+  line = line;
+}
 refusal_of document line (copy_fault.CopyDiffers place target source) = bind_fault.CopyDiffers document line target source
 refusal_of document line copy_fault.NoMemory = bind_fault.NoMemory
 
 -- why a mapping is not added to a copy function of these rows, if there is a cause
 abbrev pub fault_of : Option (List ℕ) → List Row → List Row → CopyFunction → Mapping → Option BindFault
-fault_of document targets sources copy m = option_map (refusal_of document m.line) (fault_due copy targets sources m.target m.source)
+fault_of document targets sources copy m = option_map (refusal_of document m.line)
+    (fault_due copy targets sources m.target m.source)
 
 -- the copy function with these mappings, or why the first that is refused is
 abbrev pub with_mappings : Option (List ℕ) → List Row → List Row → CopyFunction → List Mapping → Result CopyFunction BindFault
 with_mappings document targets sources copy [] = Ok copy
 with_mappings document targets sources copy (m ∷ more) =
-    unless (fault_of document targets sources copy m) (with_mappings document targets sources (with_source copy m.target m.source) more)
+    unless (fault_of document targets sources copy m)
+    (with_mappings document targets sources (with_source copy m.target m.source) more)
 
 -- the copy function of a name and a head that maps no row
 abbrev pub empty_copy : List ℕ → CopyHead → CopyFunction
-empty_copy name head = record { name = name; target = head.target.id; source = head.source.id; places = head.places; sources = [] }
+empty_copy name head = record {
+  name = name;
+  target = head.target.id;
+  source = head.source.id;
+  places =
+      head.places;
+  sources = [];
+}
 
 -- the mappings that pairs of names say of a head
 abbrev pub mappings_of : CopyHead → Option (List ℕ) → List NamedPair → Result (List Mapping) BindFault

@@ -31,7 +31,8 @@ names_of_attrs r = map (λ a. a.name) r.attrs
 -- the side of these attributes of a relation, which stands at this place
 abbrev pub side_with : List Named → ℕ → Relation → Result Side BindFault
 side_with attrs place r =
-    and_then (all_of (attr_named (names_of_attrs r)) attrs) (λ ids. Ok record { id = record { 0 = place }; relation = r; attrs = ids })
+    and_then (all_of (attr_named (names_of_attrs r)) attrs)
+    (λ ids. Ok record { id = record { 0 = place }; relation = r; attrs = ids })
 
 -- the same, where a relation is there
 abbrev pub side_at : Named → List Named → ℕ → Option Relation → Result Side BindFault
@@ -58,7 +59,8 @@ repeated before (named ∷ more) = or_else (taken before named) (repeated (befor
 -- the refusal of the copy's name where it is one of these, or else of a target attribute, or else of a source attribute,
 -- that is listed twice
 unfoldable pub names_refused : List (List ℕ) → CopyTree → Option BindFault
-names_refused copies tree = or_else (taken copies tree.name) (or_else (repeated [] tree.target_attrs) (repeated [] tree.source_attrs))
+names_refused copies tree = or_else (taken copies tree.name) (or_else (repeated [] tree.target_attrs)
+    (repeated [] tree.source_attrs))
 
 -- ---- attributes that match
 
@@ -87,7 +89,8 @@ are_of_one_kind target source places = list_all (is_of_one_kind target source) p
 -- as many attributes on both sides, and those that stand side by side of one kind
 abbrev pub is_matching : Side → Side → Bool
 is_matching target source =
-    (length target.attrs == length source.attrs) && are_of_one_kind target.relation source.relation (places_of target.attrs source.attrs)
+    (length target.attrs == length source.attrs) && are_of_one_kind target.relation source.relation
+    (places_of target.attrs source.attrs)
 
 -- the places of two sides, or the refusal of a copy whose attributes do not match, at its name
 unfoldable pub matched : Named → Side → Side → Result (List Place) BindFault

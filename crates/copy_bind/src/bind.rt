@@ -56,7 +56,8 @@ fn mapped<S: Shelf>(
     requires { All (IsPlaceBetween head.target.relation head.source.relation) head.places }
     ensures kept { S.texts shelf.new ≡ S.texts shelf.old }
     ensures later { S.faults shelf.old ≤ S.faults shelf.new }
-    ensures made { IsSettled result → IfSome (S.texts shelf.old) (λ told. IsMapped told tree.now.name.name head.entry tree.now.mappings result) }
+    ensures made { IsSettled result → IfSome (S.texts shelf.old) (λ told. IsMapped told tree.now.name.name head.entry
+        tree.now.mappings result) }
     ensures of { IfOk result (IsCopyOfHead tree.now.name.name head.entry) }
     ensures read_fault { IsReadFault result → Rose (S.faults shelf.old) (S.faults shelf.new) }
     ensures table { (table : List ℕ) → IsReadFaultOf result table → IsTableOf tree.now.mappings table }

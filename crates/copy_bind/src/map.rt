@@ -58,7 +58,8 @@ fn add(
 ) -> Result<(), BindFault>
     requires places { All (IsPlaceBetween target.now.relation source.now.relation) copy.old.places }
     requires within { IsWithin target.now.relation source.now.relation mapping.now }
-    ensures due { IsDue (unless (fault_of (option_map (λ n. n.now) document.entry) target.now.relation.rows source.now.relation.rows copy.old mapping.now) (Ok tt)) result }
+    ensures due { IsDue (unless (fault_of (option_map (λ n. n.now) document.entry) target.now.relation.rows
+        source.now.relation.rows copy.old mapping.now) (Ok tt)) result }
     ensures ok { OnOk result (copy.new ≡ with_source copy.old mapping.now.target mapping.now.source) }
     ensures copied { IsCopied copy.old target.now.relation.rows source.now.relation.rows
         → OnOk result (IsCopied copy.new target.now.relation.rows source.now.relation.rows) }
@@ -83,7 +84,8 @@ pub fn with_mappings(
     requires places { All (IsPlaceBetween target.now.relation source.now.relation) copy.places }
     requires within { All (IsWithin target.now.relation source.now.relation) mappings.now }
     requires copied { IsCopied copy target.now.relation.rows source.now.relation.rows }
-    ensures due { IsDue (with_mappings (option_map (λ n. n.now) document.entry) target.now.relation.rows source.now.relation.rows copy mappings.now) result }
+    ensures due { IsDue (with_mappings (option_map (λ n. n.now) document.entry) target.now.relation.rows
+        source.now.relation.rows copy mappings.now) result }
     ensures keeps { IfOk result (KeepsHead copy) }
     ensures copied { IfOk result (λ made. IsCopied made target.now.relation.rows source.now.relation.rows) }
 {

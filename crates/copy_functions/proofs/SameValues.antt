@@ -46,16 +46,20 @@ equal_at place target source in_target in_source none =
     let both : differing (Some a) (Some b) ≡ None = sym (ap₂ differing at_a at_b) ∙ none in
     record { value = a; in_target = at_a; in_source = at_b ∙ ap Some (sym (no_difference a b both)) }
 
-none_found : (at : ℕ) (here : Option (Value × Value)) (later : Option (ℕ × Value × Value)) → found_or at here later ≡ None → (here ≡ None) × (later ≡ None)
+none_found : (at : ℕ) (here : Option (Value × Value)) (later : Option (ℕ × Value × Value)) → found_or at here later ≡
+    None → (here ≡ None) × (later ≡ None)
 none_found at None later none = (refl, none)
 none_found at (Some (a, b)) later none = absurd (none-some (at, a, b) (sym none))
 
 -- where the first difference is none, the values are equal at each place
 pub equal_at_each : (at : ℕ) (places : List Place) (target source : List Value) → All (λ p. p.target.0 < length target) places
-    → All (λ p. p.source.0 < length source) places → first_difference at places target source ≡ None → All (AreEqualAt target source) places
+    → All (λ p. p.source.0 < length source) places → first_difference at places target source ≡ None
+    → All (AreEqualAt target source) places
 equal_at_each at [] target source in_target in_source none = λ k d below. absurd (omega arith)
 equal_at_each at (place ∷ places) target source in_target in_source none =
-    let split = none_found at (differing (slice_get target place.target.0) (slice_get source place.source.0)) (first_difference (at + 1) places target source) none in
+    let split = none_found at (differing (slice_get target place.target.0) (slice_get source place.source.0))
+    (first_difference (at + 1) places target source) none in
     let first = equal_at place target source (in_target 0 place (omega arith)) (in_source 0 place (omega arith)) split.0 in
-    let rest = equal_at_each (at + 1) places target source (λ k d below. in_target (suc k) d (omega arith)) (λ k d below. in_source (suc k) d (omega arith)) split.1 in
+    let rest = equal_at_each (at + 1) places target source (λ k d below. in_target (suc k) d (omega arith))
+    (λ k d below. in_source (suc k) d (omega arith)) split.1 in
     All-cons (AreEqualAt target source) place places first rest

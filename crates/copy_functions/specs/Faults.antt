@@ -24,7 +24,8 @@ found_or place (Some (a, b)) later = Some (place, a, b)
 abbrev pub first_difference : ℕ → List Place → List Value → List Value → Option (ℕ × Value × Value)
 first_difference at [] target source = None
 first_difference at (place ∷ places) target source =
-    found_or at (differing (slice_get target place.target.0) (slice_get source place.source.0)) (first_difference (at + 1) places target source)
+    found_or at (differing (slice_get target place.target.0) (slice_get source place.source.0))
+    (first_difference (at + 1) places target source)
 
 -- the fault of a difference
 abbrev pub fault_of : ℕ × Value × Value → CopyFault
@@ -38,7 +39,8 @@ twice_or None other = other
 -- why a target row is not mapped to a source row, if there is a cause: it is mapped already, or else the first difference
 abbrev pub fault_due : CopyFunction → List Row → List Row → RowId → RowId → Option CopyFault
 fault_due copy target_rows source_rows target source =
-    twice_or (source_at copy target) (option_map fault_of (first_difference 0 copy.places (values_of target_rows target) (values_of source_rows source)))
+    twice_or (source_at copy target)
+    (option_map fault_of (first_difference 0 copy.places (values_of target_rows target) (values_of source_rows source)))
 
 -- the fault is the one that is due, or memory ran out
 abbrev pub IsDue : Option CopyFault → CopyFault → Type 0

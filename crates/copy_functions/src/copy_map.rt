@@ -27,7 +27,14 @@ impl Model for CopyMap {
 
     ghost Value = { CopyFunction };
 
-    ghost view = { λ c. record { name = c.name; target = c.target; source = c.source; places = c.places; sources = c.sources.items } };
+    ghost view = { λ c. record {
+      name = c.name;
+      target = c.target;
+      source = c.source;
+      places = c.places;
+      sources =
+          c.sources.items;
+    } };
 
     ghost invariant = { λ c. length c.places < 2 ^ 32 };
 }
@@ -113,7 +120,8 @@ impl CopyMap {
         ensures value { OnOk result (self.new ≡ with_source self.old target source) }
         ensures unmapped { OnOk result (source_at self.old target ≡ None) }
         ensures equal { OnOk result (IsCopyOf self.old.places target_rows.now source_rows.now target source) }
-        ensures copied { IsCopied self.old target_rows.now source_rows.now → OnOk result (IsCopied self.new target_rows.now source_rows.now) }
+        ensures copied { IsCopied self.old target_rows.now source_rows.now → OnOk result
+            (IsCopied self.new target_rows.now source_rows.now) }
         ensures faultless { OnOk result (fault_due self.old target_rows.now source_rows.now target source ≡ None) }
         ensures twice { IsErrOf result CopyFault.CopyTwice → IsSome (source_at self.old target) }
         ensures due { IfErr result (IsDue (fault_due self.old target_rows.now source_rows.now target source)) }

@@ -39,7 +39,8 @@ pub(crate) fn first_difference<'a>(
     source: &'a [Value],
 ) -> Option<Difference<'a>>
     requires { length places.now < 2 ^ 32 }
-    ensures { option_map (λ d. (d.place, d.target.now, d.source.now)) result ≡ first_difference 0 places.now target.now source.now }
+    ensures { option_map (λ d. (d.place, d.target.now, d.source.now)) result ≡ first_difference 0 places.now
+        target.now source.now }
 {
     for (at, place) in places.iter().enumerate() {
         if let Some((a, b)) = values_that_differ(place, target, source) {
@@ -59,7 +60,8 @@ fn values_that_differ<'a>(
     target: &'a [Value],
     source: &'a [Value],
 ) -> Option<(&'a Value, &'a Value)>
-    ensures { option_map (λ v. (v.0.now, v.1.now)) result ≡ differing (slice_get target.now place.now.target.0) (slice_get source.now place.now.source.0) }
+    ensures { option_map (λ v. (v.0.now, v.1.now)) result ≡ differing (slice_get target.now place.now.target.0)
+        (slice_get source.now place.now.source.0) }
 {
     let a = target.get(place.target.0 as usize)?;
     let b = source.get(place.source.0 as usize)?;

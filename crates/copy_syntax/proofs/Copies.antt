@@ -20,7 +20,8 @@ use Rattle.copy_syntax.specs.Reading.{names_at, mapping_at, inline_at, table_at,
 
 pub reads_names : IsReader SpellsNames always names_at
 unfolding names_at
-reads_names = after_symbol (codes "(") (before_symbol (codes ")") (listed_symbol (codes ",") reads_name) (λ a t e. ap not (apart Symbol (codes ")") Symbol (codes ",") refl t e)))
+reads_names = after_symbol (codes "(") (before_symbol (codes ")") (listed_symbol (codes ",") reads_name)
+    (λ a t e. ap not (apart Symbol (codes ")") Symbol (codes ",") refl t e)))
 
 -- ---- which rows are copied
 
@@ -36,28 +37,34 @@ ends_mappings (Inline pairs) t = not (is_symbol (codes ",") t)
 ends_mappings (Table document) t = true
 
 abbrev InlineRows : Mappings → Language
-InlineRows = Image (λ (pairs : List NamedPair). Inline pairs) (λ pairs. IsSymbol (codes ":") ⋅ Listed (IsSymbol (codes ",")) SpellsMapping pairs)
+InlineRows = Image (λ (pairs : List NamedPair). Inline pairs)
+    (λ pairs. IsSymbol (codes ":") ⋅ Listed (IsSymbol (codes ",")) SpellsMapping pairs)
 
 abbrev TableRows : Mappings → Language
 TableRows = Image (λ (document : Named). Table document) (λ document. IsWord (codes "using") ⋅ SpellsString document)
 
 reads_inline : IsReader InlineRows ends_mappings inline_at
 unfolding inline_at
-reads_inline = reads_mapped (after_symbol (codes ":") (listed_symbol (codes ",") reads_mapping)) (λ (pairs : List NamedPair). Inline pairs) ends_mappings (λ pairs t. refl)
+reads_inline = reads_mapped (after_symbol (codes ":") (listed_symbol (codes ",") reads_mapping))
+    (λ (pairs : List NamedPair). Inline pairs) ends_mappings (λ pairs t. refl)
 
 reads_table : IsReader TableRows ends_mappings table_at
 unfolding table_at
-reads_table = reads_mapped (after_word (codes "using") reads_string) (λ (document : Named). Table document) ends_mappings (λ document t. refl)
+reads_table = reads_mapped (after_word (codes "using") reads_string) (λ (document : Named). Table document)
+    ends_mappings (λ document t. refl)
 
 begins_inline : Begins (is_symbol (codes ":")) true InlineRows
-begins_inline = begins_image (λ (pairs : List NamedPair). Inline pairs) (λ pairs. IsSymbol (codes ":") ⋅ Listed (IsSymbol (codes ",")) SpellsMapping pairs)
+begins_inline = begins_image (λ (pairs : List NamedPair). Inline pairs)
+    (λ pairs. IsSymbol (codes ":") ⋅ Listed (IsSymbol (codes ",")) SpellsMapping pairs)
     (is_symbol (codes ":")) true
-    (begins_fixed (λ (pairs : List NamedPair). Listed (IsSymbol (codes ",")) SpellsMapping pairs) Symbol (codes ":") (is_symbol (codes ":")) true (λ t e. e))
+    (begins_fixed (λ (pairs : List NamedPair). Listed (IsSymbol (codes ",")) SpellsMapping pairs) Symbol (codes ":")
+    (is_symbol (codes ":")) true (λ t e. e))
 
 begins_table : Begins (is_symbol (codes ":")) false TableRows
 begins_table = begins_image (λ (document : Named). Table document) (λ document. IsWord (codes "using") ⋅ SpellsString document)
     (is_symbol (codes ":")) false
-    (begins_fixed SpellsString Word (codes "using") (is_symbol (codes ":")) false (apart Word (codes "using") Symbol (codes ":") refl))
+    (begins_fixed SpellsString Word (codes "using") (is_symbol (codes ":")) false
+    (apart Word (codes "using") Symbol (codes ":") refl))
 
 mappings_spelled : (m : Mappings) (tokens : List Lexeme) → Either InlineRows TableRows m tokens → SpellsMappings m tokens
 mappings_spelled m tokens (inl h) = subst (λ (m : Mappings). SpellsMappings m tokens) h.is h.spelled
@@ -69,7 +76,8 @@ spelled_mappings (Table document) tokens h = inr (record { tree = document; is =
 
 pub reads_mappings : IsReader SpellsMappings ends_mappings mappings_at
 unfolding mappings_at
-reads_mappings = reads_same (reads_choose reads_inline reads_table (is_symbol (codes ":")) begins_inline begins_table) mappings_spelled spelled_mappings
+reads_mappings = reads_same (reads_choose reads_inline reads_table (is_symbol (codes ":")) begins_inline
+    begins_table) mappings_spelled spelled_mappings
 
 -- ---- copies
 
@@ -78,7 +86,15 @@ abbrev CopyParts : Type 0
 CopyParts = Named × (Named × (List Named × (Named × (List Named × Mappings))))
 
 abbrev copy_of : CopyParts → CopyTree
-copy_of x = record { name = x.0; target = x.1.0; target_attrs = x.1.1.0; source = x.1.1.1.0; source_attrs = x.1.1.1.1.0; mappings = x.1.1.1.1.1 }
+copy_of x = record {
+  name = x.0;
+  target = x.1.0;
+  target_attrs = x.1.1.0;
+  source = x.1.1.1.0;
+  source_attrs =
+      x.1.1.1.1.0;
+  mappings = x.1.1.1.1.1;
+}
 
 -- what ends a copy: what ends its rows
 abbrev pub ends_copy : CopyTree → Lexeme → Bool
@@ -92,10 +108,15 @@ reads_copy =
     (after_word (codes "into") (reads_two reads_name (reads_two reads_names
     (after_word (codes "from") (reads_two reads_name (reads_two reads_names reads_mappings))))))))
     copy_of ends_copy (λ a t. refl) (λ x tokens h. h)
-    (λ c tokens h. record { tree = (c.name, (c.target, (c.target_attrs, (c.source, (c.source_attrs, c.mappings))))); is = refl; spelled = h })
+    (λ c tokens h. record {
+      tree = (c.name, (c.target, (c.target_attrs, (c.source, (c.source_attrs, c.mappings)))));
+      is = refl;
+      spelled = h;
+    })
 
 -- a copy begins with the word `copy`
-pub begins_copy : (test : Lexeme → Bool) (b : Bool) → ((t : Lexeme) → is_word (codes "copy") t ≡ true → test t ≡ b) → Begins test b SpellsCopy
+pub begins_copy : (test : Lexeme → Bool) (b : Bool) → ((t : Lexeme) → is_word (codes "copy") t ≡ true → test t ≡ b)
+    → Begins test b SpellsCopy
 begins_copy test b goes = begins_fixed
     (λ (c : CopyTree). SpellsName c.name ⋅ IsWord (codes "into") ⋅ SpellsName c.target ⋅ SpellsNames c.target_attrs
     ⋅ IsWord (codes "from") ⋅ SpellsName c.source ⋅ SpellsNames c.source_attrs ⋅ SpellsMappings c.mappings)

@@ -31,7 +31,15 @@ mappings_at = choose (is_symbol (codes ":")) inline_at table_at
 -- a copy, from its word on
 unfoldable pub copy_at : Parser CopyTree
 copy_at =
-    mapped (λ x. record { name = x.0; target = x.1.0; target_attrs = x.1.1.0; source = x.1.1.1.0; source_attrs = x.1.1.1.1.0; mappings = x.1.1.1.1.1 })
+    mapped (λ x. record {
+      name = x.0;
+      target = x.1.0;
+      target_attrs = x.1.1.0;
+      source = x.1.1.1.0;
+      source_attrs =
+          x.1.1.1.1.0;
+      mappings = x.1.1.1.1.1;
+    })
     (after (is_word (codes "copy")) (both (one named)
     (after (is_word (codes "into")) (both (one named) (both names_at
     (after (is_word (codes "from")) (both (one named) (both names_at mappings_at))))))))

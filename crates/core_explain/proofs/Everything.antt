@@ -1,32 +1,20 @@
 -- With all items a specification is itself.
-use Rattle.std.proofs.Common.{◌≡◌, ◌∙◌, ◌==◌, ◌&&◌, ℕ, Bool, true, List, [], ◌∷◌, Contains, length, replicate, refl, ap, subst, sym}
-use Rattle.std.proofs.lemmas.Bool.{and_from, eq-eqb}
+use Rattle.std.proofs.Common.{◌≡◌, ◌∙◌, ℕ, Bool, true, List, [], ◌∷◌, Contains, length, replicate, refl, ap, subst, sym}
 use Rattle.std.proofs.lemmas.List.{length-replicate}
 use Rattle.std.proofs.lemmas.List.Folds.{list_any_at}
 use Rattle.report_verify.specs.Right.{EachConsistent}
 use Rattle.spec_items.specs.Items.{items_of}
 use Rattle.spec_items.specs.Laws.{AllItems}
 use Rattle.spec_items.specs.declared.item.Item.{Item}
-use Rattle.spec_items.specs.declared.item.Item.TheVariants as item
 use Rattle.spec_model.specs.Completion.{Rankings}
 use Rattle.spec_model.specs.Spec.{Spec}
 use Rattle.spec_model.specs.declared.question.Question.{Question}
 use Rattle.unit_questions.specs.Facts.{FactHolds}
+use Rattle.minimal_items.proofs.Same.{same_itself}
 use Rattle.minimal_items.specs.Among.{among, marked_items, same_item}
 use Rattle.minimal_items.specs.Reduced.{FailsWith, IsReduced}
 use Rattle.minimal_items.specs.declared.reducing.Reduced.{Reduced}
 use Rattle.minimal_items.specs.declared.reducing.Reduced.TheVariants as reduced
-
-same_itself : (i : Item) → same_item i i ≡ true
-same_itself (item.Given rel p) =
-    let one = and_from (rel.0 == rel.0) (p.attr.0 == p.attr.0) (eq-eqb rel.0 rel.0 refl) (eq-eqb p.attr.0 p.attr.0 refl) in
-    let two = and_from (rel.0 == rel.0 && p.attr.0 == p.attr.0) (p.earlier.0 == p.earlier.0) one
-    (eq-eqb p.earlier.0 p.earlier.0 refl) in
-    and_from (rel.0 == rel.0 && p.attr.0 == p.attr.0 && p.earlier.0 == p.earlier.0) (p.later.0 == p.later.0) two
-    (eq-eqb p.later.0 p.later.0 refl)
-same_itself (item.Rule k) = eq-eqb k.0 k.0 refl
-same_itself (item.Copy copy target) =
-    and_from (copy.0 == copy.0) (target.0 == target.0) (eq-eqb copy.0 copy.0 refl) (eq-eqb target.0 target.0 refl)
 
 among_all : (items : List Item) (i : Item) → Contains items i → among items i ≡ true
 among_all items i is =

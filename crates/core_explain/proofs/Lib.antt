@@ -1,5 +1,5 @@
 mod Claims
-mod Completions
+pub mod Completions
 mod Everything
 mod Reports
 mod Units

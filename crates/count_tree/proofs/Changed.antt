@@ -16,10 +16,16 @@ step_above place child last half is =
     record { steps = is.steps; is = sym half ∙ ap (λ (n : ℕ). n / 2) is.is ∙ sym (above_half is.steps last) }
 
 -- the better one of two whose counts stay is so still
-still_before : (counts : List ℕ) (number count a b : ℕ) → a ≢ number → b ≢ number → IsBefore counts a b → IsBefore (slice_set counts number count) a b
-still_before counts number count a b d e h = rw (get_or-set_other counts number a count 0 d, get_or-set_other counts number b count 0 e) h
+still_before : (counts : List ℕ) (number count a b : ℕ) → a ≢ number → b ≢ number → IsBefore counts a b
+    → IsBefore (slice_set counts number count) a b
+still_before counts number count a b d e h = rw (
+  get_or-set_other counts number a count 0 d,
+  get_or-set_other counts
+      number b count 0 e,
+) h
 
-still_better : (counts : List ℕ) (number count left right better : ℕ) → left ≢ number → right ≢ number → IsBetter counts left right better
+still_better : (counts : List ℕ) (number count left right better : ℕ) → left ≢ number → right ≢ number
+    → IsBetter counts left right better
     → IsBetter (slice_set counts number count) left right better
 still_better counts number count left right better d e is =
     record {
@@ -34,33 +40,41 @@ still_better counts number count left right better d e is =
 
 module _ (counts : List ℕ) (present : List Bool) (best : List ℕ) (tree : IsTree counts present best) (number : ℕ) where
   -- a number that is made present or taken off makes a difference to its own node
-  other_node : (now : Bool) (place : ℕ) → place ≢ length best + number → node (slice_set present number now) best place ≡ node present best place
+  other_node : (now : Bool) (place : ℕ) → place ≢ length best + number → node (slice_set present number now) best
+      place ≡ node present best place
   other_node now place differ = go (cases_lt place (length best))
     where
-      go : (place < length best) ⊎ (length best ≤ place) → node (slice_set present number now) best place ≡ node present best place
+      go : (place < length best) ⊎ (length best ≤ place) → node (slice_set present number now) best place ≡ node
+          present best place
       go (inl h) = upper (slice_set present number now) best place h ∙ sym (upper present best place h)
       go (inr h) =
           let other : place - length best ≢ number = λ e. differ (omega arith) in
-          let same : get_or (slice_set present number now) (place - length best) false ≡ get_or present (place - length best) false =
+          let same : get_or (slice_set present number now) (place - length best) false ≡ get_or present
+          (place - length best) false =
           get_or-set_other present number (place - length best) now false other in
           lower (slice_set present number now) best place h
           ∙ ap (λ (b : Bool). cond b (place - length best) no_number) same ∙ sym (lower present best place h)
 
   -- so only the nodes above it may be wrong
   pub present_below : (now : Bool) → AreRightBelow counts (slice_set present number now) best ((length best + number) / 2)
-  present_below now place pos within = go (cases_eq (2 * place) (length best + number)) (cases_eq (2 * place + 1) (length best + number))
+  present_below now place pos within = go (cases_eq (2 * place) (length best + number))
+      (cases_eq (2 * place + 1) (length best + number))
     where
-      go : (2 * place ≡ length best + number) ⊎ (2 * place ≢ length best + number) → (2 * place + 1 ≡ length best + number) ⊎ (2 * place + 1 ≢ length best + number)
+      go : (2 * place ≡ length best + number) ⊎ (2 * place ≢ length best + number) →
+          (2 * place + 1 ≡ length best + number) ⊎ (2 * place + 1 ≢ length best + number)
           → IsRight counts (slice_set present number now) best place ⊎ IsAbove place ((length best + number) / 2)
       go (inl e) right = inr (record { steps = 0; is = omega arith })
       go (inr left) (inl e) = inr (record { steps = 0; is = omega arith })
-      go (inr left) (inr right) = inl (rw (other_node now (2 * place) left, other_node now (2 * place + 1) right) (tree.right place pos within))
+      go (inr left) (inr right) = inl (rw (other_node now (2 * place) left, other_node now (2 * place + 1) right)
+          (tree.right place pos within))
 
   -- a number stands at its own node and above it
-  stands : number < length best → (place : ℕ) → 0 < place → node present best place ≡ number → IsAbove place (length best + number)
+  stands : number < length best → (place : ℕ) → 0 < place → node present best place ≡ number → IsAbove place
+      (length best + number)
   stands few place pos is = each_node counts present best tree (λ p n. n ≡ number → IsAbove p (length best + number)) last
       (λ p n h e. parent_above p (2 * p) (length best + number) (omega arith) (h e))
-      (λ p n h e. parent_above p (2 * p + 1) (length best + number) (omega arith) (h e)) (2 * length best) place (omega arith) pos is
+      (λ p n h e. parent_above p (2 * p + 1) (length best + number) (omega arith) (h e)) (2 * length best) place
+      (omega arith) pos is
     where
       last : (p : ℕ) → length best ≤ p → leaf present (p - length best) ≡ number → IsAbove p (length best + number)
       last p h e = go (cases_cond (get_or present (p - length best) false) (p - length best) no_number number (sym e))
@@ -70,16 +84,21 @@ module _ (counts : List ℕ) (present : List Bool) (best : List ℕ) (tree : IsT
           go (inr none) = absurd (omega (arith, tree.few, tree.best_length))
 
   -- where its count is changed, only the nodes above it may be wrong
-  pub count_below : number < length best → (count : ℕ) → AreRightBelow (slice_set counts number count) present best ((length best + number) / 2)
-  count_below few count place pos within = go (cases_eq (node present best (2 * place)) number) (cases_eq (node present best (2 * place + 1)) number)
+  pub count_below : number < length best → (count : ℕ) → AreRightBelow (slice_set counts number count) present best
+      ((length best + number) / 2)
+  count_below few count place pos within = go (cases_eq (node present best (2 * place)) number)
+      (cases_eq (node present best (2 * place + 1)) number)
     where
       go : (node present best (2 * place) ≡ number) ⊎ (node present best (2 * place) ≢ number)
           → (node present best (2 * place + 1) ≡ number) ⊎ (node present best (2 * place + 1) ≢ number)
           → IsRight (slice_set counts number count) present best place ⊎ IsAbove place ((length best + number) / 2)
-      go (inl e) right = inr (step_above place (2 * place) (length best + number) (omega arith) (stands few (2 * place) (omega arith) e))
-      go (inr left) (inl e) = inr (step_above place (2 * place + 1) (length best + number) (omega arith) (stands few (2 * place + 1) (omega arith) e))
+      go (inl e) right = inr (step_above place (2 * place) (length best + number) (omega arith)
+          (stands few (2 * place) (omega arith) e))
+      go (inr left) (inl e) = inr (step_above place (2 * place + 1) (length best + number) (omega arith)
+          (stands few (2 * place + 1) (omega arith) e))
       go (inr left) (inr right) =
-          inl (still_better counts number count (node present best (2 * place)) (node present best (2 * place + 1)) (get_or best place 0) left right (tree.right place pos within))
+          inl (still_better counts number count (node present best (2 * place)) (node present best (2 * place + 1))
+          (get_or best place 0) left right (tree.right place pos within))
 
   -- and where it is not present, none is
   pub count_right : number < length best → get_or present number false ≡ false → (count : ℕ)
@@ -94,6 +113,7 @@ module _ (counts : List ℕ) (present : List Bool) (best : List ℕ) (tree : IsT
           go : (node present best child ≡ no_number) ⊎ (slice_get present (node present best child) ≡ Some true) → ⊥
           go (inl none) = let none_is : number ≡ no_number = sym e ∙ none in omega (arith, tree.few, tree.best_length)
           go (inr is) =
-              let there : get_or present number false ≡ true = get_or_from_slice_get present number true false (ap (slice_get present) (sym e) ∙ is) in
+              let there : get_or present number false ≡ true = get_or_from_slice_get present number true false
+              (ap (slice_get present) (sym e) ∙ is) in
               let both : true ≡ false = sym there ∙ absent in
               cc

@@ -12,10 +12,16 @@ module _ (present : List Bool) (best : List ℕ) (here x : ℕ) where
 
   module _ (counts : List ℕ) where
     -- it is right, where the better one is written
-    pub right_here : 0 < here → here < length best → IsBetter counts (node present best (2 * here)) (node present best (2 * here + 1)) x
+    pub right_here : 0 < here → here < length best → IsBetter counts (node present best (2 * here))
+        (node present best (2 * here + 1)) x
         → IsRight counts present (slice_set best here x) here
     right_here pos within better =
-        rw (other_node (2 * here) (λ e. omega arith), other_node (2 * here + 1) (λ e. omega arith), get_or-set_same best here x 0 within) better
+        rw (
+          other_node (2 * here) (λ e. omega arith),
+          other_node (2 * here + 1) (λ e. omega arith),
+          get_or-set_same
+              best here x 0 within,
+        ) better
 
     -- the others stay right, but for the one above it
     pub right_other : (place : ℕ) → place ≢ here → 2 * place ≢ here → 2 * place + 1 ≢ here → IsRight counts present best place
@@ -24,7 +30,8 @@ module _ (present : List Bool) (best : List ℕ) (here x : ℕ) where
         rw (other_node (2 * place) left, other_node (2 * place + 1) right, get_or-set_other best here place x 0 differ) before
 
     -- so after it only the ones above it may be wrong
-    pub right_below : 0 < here → here < length best → IsBetter counts (node present best (2 * here)) (node present best (2 * here + 1)) x
+    pub right_below : 0 < here → here < length best → IsBetter counts (node present best (2 * here))
+        (node present best (2 * here + 1)) x
         → AreRightBelow counts present best here → AreRightBelow counts present (slice_set best here x) (here / 2)
     right_below pos within better below place pos_place within_place = go (cases_eq place here) (cases_eq place (here / 2))
       where
@@ -44,19 +51,23 @@ module _ (present : List Bool) (best : List ℕ) (here x : ℕ) where
         go (inr differ) (inr half) = stays differ half (below place pos_place (omega (arith, length-set best here x)))
 
     -- all that come after it are right still, and it is
-    pub right_after : 0 < here → here < length best → IsBetter counts (node present best (2 * here)) (node present best (2 * here + 1)) x
+    pub right_after : 0 < here → here < length best → IsBetter counts (node present best (2 * here))
+        (node present best (2 * here + 1)) x
         → ((place : ℕ) → here < place → place < length best → IsRight counts present best place)
-        → (place : ℕ) → here ≤ place → place < length (slice_set best here x) → IsRight counts present (slice_set best here x) place
+        → (place : ℕ) → here ≤ place → place < length (slice_set best here x) → IsRight counts present
+        (slice_set best here x) place
     right_after pos within better after place from within_place = go (cases_eq place here)
       where
         go : (place ≡ here) ⊎ (place ≢ here) → IsRight counts present (slice_set best here x) place
         go (inl e) = rw e (right_here pos within better)
         go (inr differ) =
             let later : here < place = omega arith in
-            right_other place differ (λ e. omega arith) (λ e. omega arith) (after place later (omega (arith, length-set best here x)))
+            right_other place differ (λ e. omega arith) (λ e. omega arith)
+            (after place later (omega (arith, length-set best here x)))
 
 -- no node is wrong, where none stands above the one that may be
-pub all_right : (counts : List ℕ) (present : List Bool) (best : List ℕ) (here : ℕ) → here ≡ 0 → AreRightBelow counts present best here
+pub all_right : (counts : List ℕ) (present : List Bool) (best : List ℕ) (here : ℕ) → here ≡ 0 → AreRightBelow counts
+    present best here
     → (place : ℕ) → 0 < place → place < length best → IsRight counts present best place
 all_right counts present best here none below place pos within = go (below place pos within)
   where
@@ -67,12 +78,15 @@ all_right counts present best here none below place pos within = go (below place
         absurd (omega arith)
 
 -- a vector whose items were written holds what was written
-pub put_back : {A : Type 0} (xs ys : List A) (n : ℕ) → n ≡ length xs → length ys ≡ length xs → take n (ys ++ drop (length ys) xs) ≡ ys
+pub put_back : {A : Type 0} (xs ys : List A) (n : ℕ) → n ≡ length xs → length ys ≡ length xs
+    → take n (ys ++ drop (length ys) xs) ≡ ys
 put_back xs ys n is long = let end : n ≡ length ys = is ∙ sym long in rw end (take-append_seam ys (drop (length ys) xs))
 
 -- nodes that were all set right make a tree
-pub whole : (counts : List ℕ) (present : List Bool) (best best' : List ℕ) (n : ℕ) (seen_counts : List ℕ) (seen_present : List Bool)
-    → length counts ≤ 4294967295 → length present ≡ length counts → length best ≡ length counts → n ≡ length best → length best' ≡ length best
+pub whole : (counts : List ℕ) (present : List Bool) (best best' : List ℕ) (n : ℕ) (seen_counts : List ℕ)
+    (seen_present : List Bool)
+    → length counts ≤ 4294967295 → length present ≡ length counts → length best ≡ length counts → n ≡ length best
+    → length best' ≡ length best
     → seen_counts ≡ counts → seen_present ≡ present
     → ((place : ℕ) → 0 < place → place < length best' → IsRight seen_counts seen_present best' place)
     → IsTree counts present (take n (best' ++ drop (length best') best))

@@ -1,5 +1,5 @@
--- Nodes of a tournament. Node i, from 1 on, has the one of what stands at its children 2i and 2i + 1 that comes first. The last half
--- of all nodes are the numbers themselves, where they are present.
+-- Nodes of a tournament. Node i, from 1 on, has the one of what stands at its children 2i and 2i + 1 that comes first.
+-- The last half of all nodes are the numbers themselves, where they are present.
 use Rattle.std.specs.Prelude.{◌≡◌, ◌⊎◌, ◌<◌, ◌≤◌, ◌+◌, ◌-◌, ◌*◌, ◌/◌, ℕ, zero, suc, Bool, false, cond, List, length, nat_lt, slice_index_or}
 
 -- what stands at a node with no present number below it; it comes after each number
@@ -12,7 +12,8 @@ count_at counts number = slice_index_or counts number 0
 
 -- of two numbers the first comes before the second
 abbrev pub IsBefore : List ℕ → ℕ → ℕ → Type 0
-IsBefore counts number other = (count_at counts other < count_at counts number) ⊎ ((count_at counts number ≡ count_at counts other) × (number ≤ other))
+IsBefore counts number other = (count_at counts other < count_at counts number) ⊎
+    ((count_at counts number ≡ count_at counts other) × (number ≤ other))
 
 -- what stands at the last node of a number
 abbrev pub leaf : List Bool → ℕ → ℕ
@@ -30,7 +31,8 @@ pub record IsBetter (counts : List ℕ) (left right better : ℕ) : Type 0 where
 
 -- a node has the better one of what its children have
 abbrev pub IsRight : List ℕ → List Bool → List ℕ → ℕ → Type 0
-IsRight counts present best place = IsBetter counts (node present best (2 * place)) (node present best (2 * place + 1)) (slice_index_or best place 0)
+IsRight counts present best place = IsBetter counts (node present best (2 * place))
+    (node present best (2 * place + 1)) (slice_index_or best place 0)
 
 -- all nodes of a tree are right; the first place is none
 pub record IsTree (counts : List ℕ) (present : List Bool) (best : List ℕ) : Type 0 where
@@ -51,4 +53,5 @@ pub record IsAbove (place other : ℕ) : Type 0 where
 
 -- all nodes are right but one and those above it
 abbrev pub AreRightBelow : List ℕ → List Bool → List ℕ → ℕ → Type 0
-AreRightBelow counts present best other = (place : ℕ) → 0 < place → place < length best → IsRight counts present best place ⊎ IsAbove place other
+AreRightBelow counts present best other = (place : ℕ) → 0 < place → place < length best → IsRight counts present best
+    place ⊎ IsAbove place other

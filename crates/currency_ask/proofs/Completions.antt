@@ -27,13 +27,16 @@ use Rattle.currency_ask.proofs.Places.{each_has, item_at, item_has}
 empty : Log
 empty = record { answers = []; statements = []; steps = [] }
 
-nothing_is : (log : Log) → log.answers ≡ [] → log.statements ≡ [] → log.steps ≡ [] → log ≡ record { answers = []; statements = []; steps = [] }
+nothing_is : (log : Log) → log.answers ≡ [] → log.statements ≡ [] → log.steps ≡ []
+    → log ≡ record { answers = []; statements = []; steps = [] }
 nothing_is log a b c =
     let first : log ≡ record { answers = []; statements = log.statements; steps = log.steps } =
     ap (λ (x : List (List Value)). let l : Log = record { answers = x; statements = log.statements; steps = log.steps } in l) a in
-    let second : ◌≡◌ {A = Log} (record { answers = []; statements = log.statements; steps = log.steps }) (record { answers = []; statements = []; steps = log.steps }) =
+    let second : ◌≡◌ {A = Log} (record { answers = []; statements = log.statements; steps = log.steps })
+    (record { answers = []; statements = []; steps = log.steps }) =
     ap (λ (x : List Statement). let l : Log = record { answers = []; statements = x; steps = log.steps } in l) b in
-    let third : ◌≡◌ {A = Log} (record { answers = []; statements = []; steps = log.steps }) (record { answers = []; statements = []; steps = [] }) =
+    let third : ◌≡◌ {A = Log} (record { answers = []; statements = []; steps = log.steps })
+    (record { answers = []; statements = []; steps = [] }) =
     ap (λ (x : List Step). let l : Log = record { answers = []; statements = []; steps = x } in l) c in
     first ∙ second ∙ third
 
@@ -57,7 +60,8 @@ not_empty : {A : Type 0} (xs : List A) (i : ℕ) → i < length xs → xs ≢ []
 not_empty [] i below = λ e. absurd (omega (arith, below))
 not_empty (x ∷ xs) i below = λ e. let no : ⊥ = cc in no
 
-covers : (relations : List Relation) (first c : Rankings) → IsCompletion relations first → IsCompletion relations c → Covers first c
+covers : (relations : List Relation) (first c : Rankings) → IsCompletion relations first → IsCompletion relations c
+    → Covers first c
 covers relations first c is other rel attr ent some =
     let in_ent = place_in (lists_of first rel attr) ent some in
     let in_attr = place_in (slice_index_or first rel []) attr (not_empty (lists_of first rel attr) ent in_ent) in
@@ -79,7 +83,8 @@ IsShownBy (verdict.NotCertain p) count = count ≡ 1
 IsShownBy (verdict.NotSame rel attr ent) count = count ≡ 2
 IsShownBy v count = ⊥
 
-lists_within : (s : Spec) (q : Question) (budget : ℕ) (v : Verdict) (completions : List Rankings) → IsShownBy v (length completions)
+lists_within : (s : Spec) (q : Question) (budget : ℕ) (v : Verdict) (completions : List Rankings) → IsShownBy v
+    (length completions)
     → IsAnswerWithin s q budget (record { verdict = v; completions = completions; log = empty })
 unfolding empty
 lists_within s q budget verdict.Consistent completions shown = (shown, record { statements = refl; steps = refl })
@@ -113,24 +118,28 @@ shown_one law s c within is = record {
   consistent = All-cons (IsConsistent s) c [] is (All-nil (IsConsistent s));
   writable = record {
     few = omega arith;
-    each = All-cons (IsWritableCompletion s.relations) c [] (law s c within is.completion) (All-nil (IsWritableCompletion s.relations));
+    each = All-cons (IsWritableCompletion s.relations) c [] (law s c within is.completion)
+        (All-nil (IsWritableCompletion s.relations));
   };
   cover = All-nil (Covers c);
 }
 
-pub shown_two : CompletionsAreWritable → (s : Spec) (c d : Rankings) → IsWithin s → IsConsistent s c → IsConsistent s d → AreShown s (c ∷ d ∷ [])
+pub shown_two : CompletionsAreWritable → (s : Spec) (c d : Rankings) → IsWithin s → IsConsistent s c
+    → IsConsistent s d → AreShown s (c ∷ d ∷ [])
 shown_two law s c d within is other = record {
   consistent = All-cons (IsConsistent s) c (d ∷ []) is (All-cons (IsConsistent s) d [] other (All-nil (IsConsistent s)));
   writable = record {
     few = omega arith;
     each = All-cons (IsWritableCompletion s.relations) c (d ∷ []) (law s c within is.completion)
-        (All-cons (IsWritableCompletion s.relations) d [] (law s d within other.completion) (All-nil (IsWritableCompletion s.relations)));
+        (All-cons (IsWritableCompletion s.relations) d [] (law s d within other.completion)
+        (All-nil (IsWritableCompletion s.relations)));
   };
   cover = All-cons (Covers c) d [] (covers s.relations c d is.completion other.completion) (All-nil (Covers c));
 }
 
 -- the same of any list of consistent completions that are few
-cover_all : (relations : List Relation) (completions : List Rankings) → All (IsCompletion relations) completions → AllCover completions
+cover_all : (relations : List Relation) (completions : List Rankings) → All (IsCompletion relations) completions
+    → AllCover completions
 cover_all relations [] all = tt
 cover_all relations (c ∷ completions) all =
     each_has (Covers c) completions (λ k other at.
@@ -143,7 +152,8 @@ shown_each law s completions within all few = record {
   consistent = all;
   writable = record {
     few = few;
-    each = each_has (IsWritableCompletion s.relations) completions (λ k c at. law s c within (item_has (IsConsistent s) completions all k c at).completion);
+    each = each_has (IsWritableCompletion s.relations) completions
+        (λ k c at. law s c within (item_has (IsConsistent s) completions all k c at).completion);
   };
   cover = cover_all s.relations completions
       (each_has (IsCompletion s.relations) completions (λ k c at. (item_has (IsConsistent s) completions all k c at).completion));
@@ -158,7 +168,8 @@ written_nothing = record {
   steps = record { few = omega arith; each = λ k d below. absurd (omega (arith, below)) };
 }
 
-alone_reported : (s : Spec) (q : Question) (budget : ℕ) (v : Verdict) (completions : List Rankings) → AreShown s completions → IsOneOf s q v
+alone_reported : (s : Spec) (q : Question) (budget : ℕ) (v : Verdict) (completions : List Rankings)
+    → AreShown s completions → IsOneOf s q v
     → IsSupported s q v completions empty → IsWritableVerdict s.relations v → IsShownBy v (length completions)
     → NamesFirst s q v → IsReported s q budget (record { verdict = v; completions = completions; log = empty })
 unfolding empty
@@ -171,14 +182,22 @@ alone_reported s q budget v completions are one_of supported verdict_written sho
     };
     supported = supported;
   };
-  writable = record { verdict = verdict_written; completions = are.writable; cover = are.cover; log = written_nothing; well_formed = refl };
+  writable = record {
+    verdict = verdict_written;
+    completions = are.writable;
+    cover = are.cover;
+    log =
+        written_nothing;
+    well_formed = refl;
+  };
   lists = lists_within s q budget v completions shown;
   enough = decided s q budget v completions shown;
   first = first;
 }
 
 -- a report of these completions alone
-pub listed_reported : (s : Spec) (q : Question) (budget : ℕ) (v : Verdict) (completions : List Rankings) (r : Report) → ListsAlone v completions r
+pub listed_reported : (s : Spec) (q : Question) (budget : ℕ) (v : Verdict) (completions : List Rankings) (r : Report)
+    → ListsAlone v completions r
     → AreShown s completions → IsOneOf s q v → ((log : Log) → IsSupported s q v completions log) → IsWritableVerdict s.relations v
     → IsShownBy v (length completions) → NamesFirst s q v → IsReported s q budget r
 unfolding empty
@@ -186,10 +205,18 @@ listed_reported s q budget v completions r is are one_of supported verdict_writt
     let log_is = nothing_is r.log is.answers is.statements is.steps in
     let made : Report = record { verdict = v; completions = completions; log = empty } in
     let verdict_same : r ≡ record { verdict = v; completions = r.completions; log = r.log } =
-    ap (λ (x : Verdict). let made : Report = record { verdict = x; completions = r.completions; log = r.log } in made) is.verdict in
-    let list_same : ◌≡◌ {A = Report} (record { verdict = v; completions = r.completions; log = r.log }) (record { verdict = v; completions = completions; log = r.log }) =
-    ap (λ (x : List Rankings). let made : Report = record { verdict = v; completions = x; log = r.log } in made) is.completions_are in
-    let log_same : ◌≡◌ {A = Report} (record { verdict = v; completions = completions; log = r.log }) (record { verdict = v; completions = completions; log = empty }) =
+    ap (λ (x : Verdict). let made : Report = record {
+      verdict = x;
+      completions = r.completions;
+      log =
+          r.log;
+    } in made) is.verdict in
+    let list_same : ◌≡◌ {A = Report} (record { verdict = v; completions = r.completions; log = r.log })
+    (record { verdict = v; completions = completions; log = r.log }) =
+    ap (λ (x : List Rankings). let made : Report = record { verdict = v; completions = x; log = r.log } in made)
+    is.completions_are in
+    let log_same : ◌≡◌ {A = Report} (record { verdict = v; completions = completions; log = r.log })
+    (record { verdict = v; completions = completions; log = empty }) =
     ap (λ (x : Log). let made : Report = record { verdict = v; completions = completions; log = x } in made) log_is in
     subst (IsReported s q budget) (sym (verdict_same ∙ list_same ∙ log_same))
     (alone_reported s q budget v completions are one_of (supported empty) verdict_written shown first)

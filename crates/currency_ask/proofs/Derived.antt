@@ -76,7 +76,8 @@ pub record ClaimLaws : Type 0 where
 
 -- ---- what is said stays said when answers are renumbered
 
-before_kept : (relations : List Relation) (keep : ℕ → Bool) (rel : RelId) (attr : AttrId) (a b : RowId) (st : Statement) (n : Bool)
+before_kept : (relations : List Relation) (keep : ℕ → Bool) (rel : RelId) (attr : AttrId) (a b : RowId)
+    (st : Statement) (n : Bool)
     → says_same relations (record { statement = renumbered_statement keep st; negative = n }) (before rel attr a b)
     ≡ says_same relations (record { statement = st; negative = n }) (before rel attr a b)
 before_kept relations keep rel attr a b (says.Before rel' attr' c d) n = refl
@@ -103,14 +104,17 @@ said_kept relations keep s same (Some m) = same m.statement m.negative
 
 -- what a goal's literal says for the judge
 abbrev SaysOf : Spec → List Statement → Lit → Goal → Type 0
-SaysOf s statements lit (Pair p) = lit_says s.relations statements (before p.rel p.pair.attr p.pair.earlier p.pair.later) lit ≡ true
+SaysOf s statements lit (Pair p) = lit_says s.relations statements
+    (before p.rel p.pair.attr p.pair.earlier p.pair.later) lit ≡ true
 SaysOf s statements lit (Current p) = lit_says s.relations statements (last p.rel p.attr p.row) lit ≡ true
 SaysOf s statements lit (Answer place) = meaning statements lit ≡ Some (answer place)
 
 -- a literal that is made to say that a tuple is an answer has this meaning, since there are no other words for it
 answer_told : (o : Option Statement) (negative : Bool) (place : ℕ)
-    → option_map (λ (st : Statement). let x : Said = record { statement = st; negative = negative } in x) o ≡ Some (positive (says.Answer place))
-    → option_map (λ (st : Statement). let x : Signed = record { statement = st; negative = negative } in x) o ≡ Some (answer place)
+    → option_map (λ (st : Statement). let x : Said = record { statement = st; negative = negative } in x) o ≡ Some
+    (positive (says.Answer place))
+    → option_map (λ (st : Statement). let x : Signed = record { statement = st; negative = negative } in x) o ≡ Some
+    (answer place)
 answer_told None negative place e = let no : ⊥ = cc in absurd no
 answer_told (Some st) negative place e =
     let one : ◌≡◌ {A = Said} (record { statement = st; negative = negative }) (positive (says.Answer place)) =
@@ -124,30 +128,37 @@ answer_meant statements lit place (inr told) = answer_told (slice_get statements
 
 judged : ClaimLaws → (seen : Search) (goal : Goal) (lit : Lit) → IsSearch seen → IsGoalOn seen.spec seen.wanted goal
     → Says seen.log.statements lit (said_of seen.spec goal) → SaysOf seen.spec seen.log.statements lit goal
-judged laws seen (Pair p) lit is g told = laws.orders seen.spec.relations seen.log.statements lit p.rel p.pair.attr p.pair.earlier p.pair.later told
+judged laws seen (Pair p) lit is g told = laws.orders seen.spec.relations seen.log.statements lit p.rel p.pair.attr
+    p.pair.earlier p.pair.later told
 judged laws seen (Current p) lit is g told =
-    laws.values seen.spec seen.log.statements lit p.rel p.attr p.row g.relation is.within.specification g.is_relation g.attr_within g.row_within
-    (subst (λ (o : Option Relation). Says seen.log.statements lit (made.last p.rel p.attr (name_of (rows_at o) p.attr.0 p.row))) g.is_relation told)
+    laws.values seen.spec seen.log.statements lit p.rel p.attr p.row g.relation is.within.specification g.is_relation
+    g.attr_within g.row_within
+    (subst (λ (o : Option Relation). Says seen.log.statements lit
+    (made.last p.rel p.attr (name_of (rows_at o) p.attr.0 p.row))) g.is_relation told)
 judged laws seen (Answer place) lit is g told = answer_meant seen.log.statements lit place told
 
--- a literal of a log, and its new number in what the log is trimmed to, where it says the same but for the number of an answer; the answer
--- that it names stands there at its new number
+-- a literal of a log, and its new number in what the log is trimmed to, where it says the same but for the number of an
+-- answer; the answer that it names stands there at its new number
 record IsMoved (old new : Log) (keep : ℕ → Bool) (lit renumbered : Lit) : Type 0 where
   means : meaning new.statements renumbered ≡ option_map (renumbered_signed keep) (meaning old.statements lit)
-  answers : (place : ℕ) → meaning old.statements lit ≡ Some (answer place) → slice_get new.answers (rank keep place) ≡ slice_get old.answers place
+  answers : (place : ℕ) → meaning old.statements lit ≡ Some (answer place) → slice_get new.answers
+      (rank keep place) ≡ slice_get old.answers place
 
 answer_itself : (relations : List Relation) (place : ℕ) → says_same relations (answer place) (answer place) ≡ true
 answer_itself relations place = and_from (place == place) true (eq-eqb place place refl) refl
 
 -- what it says is what is claimed
-claimed : (s : Spec) (posed : Posed) (wanted : Wanted) (old new : Log) (keep : ℕ → Bool) (goal : Goal) (claim : Claim) (lit renumbered : Lit)
+claimed : (s : Spec) (posed : Posed) (wanted : Wanted) (old new : Log) (keep : ℕ → Bool) (goal : Goal)
+    (claim : Claim) (lit renumbered : Lit)
     → IsGoalOn s wanted goal → IsClaimOf s posed goal claim → old.answers ≡ posed.answers → IsMoved old new keep lit renumbered
     → SaysOf s old.statements lit goal → SaysClaim s new renumbered claim
 claimed s posed wanted old new keep (Pair p) (Holds q) lit renumbered g same answers moved told =
     let it = before p.rel p.pair.attr p.pair.earlier p.pair.later in
-    subst (λ (x : Asked). lit_says s.relations new.statements (before x.rel x.pair.attr x.pair.earlier x.pair.later) renumbered ≡ true) same
+    subst (λ (x : Asked). lit_says s.relations new.statements (before x.rel x.pair.attr x.pair.earlier x.pair.later)
+    renumbered ≡ true) same
     (ap (is_said s.relations it) moved.means
-    ∙ said_kept s.relations keep it (before_kept s.relations keep p.rel p.pair.attr p.pair.earlier p.pair.later) (meaning old.statements lit) ∙ told)
+    ∙ said_kept s.relations keep it (before_kept s.relations keep p.rel p.pair.attr p.pair.earlier p.pair.later)
+    (meaning old.statements lit) ∙ told)
 claimed s posed wanted old new keep (Pair p) (HasValue rel attr ent v) lit renumbered g same answers moved told = absurd same
 claimed s posed wanted old new keep (Pair p) (HasAnswer tuple) lit renumbered g same answers moved told = absurd same
 claimed s posed wanted old new keep (Current p) (Holds q) lit renumbered g same answers moved told = absurd same
@@ -166,7 +177,8 @@ claimed s posed wanted old new keep (Current p) (HasValue rel attr ent v) lit re
     }))
 claimed s posed wanted old new keep (Current p) (HasAnswer tuple) lit renumbered g same answers moved told = absurd same
 claimed s posed wanted old new keep (Answer place) (Holds q) lit renumbered g same answers moved told = absurd same
-claimed s posed wanted old new keep (Answer place) (HasValue rel attr ent v) lit renumbered g same answers moved told = absurd same
+claimed s posed wanted old new keep (Answer place) (HasValue rel attr ent v) lit renumbered g same answers moved
+    told = absurd same
 claimed s posed wanted old new keep (Answer place) (HasAnswer tuple) lit renumbered g same answers moved told = record {
   place = rank keep place;
   is_tuple = moved.answers place told ∙ ap (λ (xs : List (List Value)). slice_get xs place) answers ∙ same;
@@ -182,9 +194,11 @@ unit_itself lit = rw (itself lit.0) refl
     itself : (n : ℕ) → (n == n) ≡ true
     itself n = search rules
 
-unit_there : (log : Log) (lit : Lit) (place : ℕ) → slice_get (clauses_of log.steps) place ≡ Some (lit ∷ []) → list_any (is_unit lit) (clauses_of log.steps) ≡ true
+unit_there : (log : Log) (lit : Lit) (place : ℕ) → slice_get (clauses_of log.steps) place ≡ Some (lit ∷ [])
+    → list_any (is_unit lit) (clauses_of log.steps) ≡ true
 unit_there log lit place at =
-    list_any_at (is_unit lit) (clauses_of log.steps) place (lit ∷ []) (slice_get_within (clauses_of log.steps) place (lit ∷ []) at)
+    list_any_at (is_unit lit) (clauses_of log.steps) place (lit ∷ []) (slice_get_within (clauses_of log.steps) place
+    (lit ∷ []) at)
     (ap (is_unit lit) (get_or_from_slice_get (clauses_of log.steps) place (lit ∷ []) (lit ∷ []) at) ∙ unit_itself lit)
 
 pub derived_claim : (s : Spec) (log : Log) (part : Part) (claim : Claim) (place : ℕ) → IsUnitOf s log claim place
@@ -221,7 +235,8 @@ module _ (laws : ClaimLaws) (seen : Search) (is : IsSearch seen) (few : HasFewSt
 
   module _ (trimmed : Trimmed) (t : IsTrimmed seen.log steps trimmed) where
     -- the unit of a claim stands at the new place of its step
-    unit_at : (k : ℕ) (goal : Goal) (claim : Claim) (new : ℕ) → slice_get goals k ≡ Some goal → IsClaimOf seen.spec seen.posed goal claim
+    unit_at : (k : ℕ) (goal : Goal) (claim : Claim) (new : ℕ) → slice_get goals k ≡ Some goal → IsClaimOf seen.spec
+        seen.posed goal claim
         → slice_get trimmed.goals k ≡ Some new → IsUnitOf seen.spec trimmed.log claim new
     unit_at k goal claim new at same at_new =
         let below : k < length steps = let b = slice_get_within goals k goal at in omega (arith, b, proved.as_many) in
@@ -231,10 +246,12 @@ module _ (laws : ClaimLaws) (seen : Search) (is : IsSearch seen) (few : HasFewSt
         let new_is : kept.0 ≡ new = same_Some kept.0 new (sym kept.1 ∙ at_new) in
         let lits : lits_at seen.log.steps step.0 ≡ one.lit ∷ [] =
         get_or_from_slice_get (clauses_of seen.log.steps) step.0 (one.lit ∷ []) [] one.is_unit in
-        let is_in : Contains (lits_at seen.log.steps step.0) one.lit = subst (λ (xs : List Lit). Contains xs one.lit) (sym lits) (0, omega arith, refl) in
+        let is_in : Contains (lits_at seen.log.steps step.0) one.lit = subst (λ (xs : List Lit). Contains xs one.lit)
+        (sym lits) (0, omega arith, refl) in
         let is_goal : Contains steps step.0 = (k, below, get_or_from_slice_get steps k step.0 step.0 step.1) in
         let g : IsGoalOn seen.spec seen.wanted goal =
-        subst (IsGoalOn seen.spec seen.wanted) (get_or_from_slice_get goals k goal goal at) (on k goal (slice_get_within goals k goal at)) in
+        subst (IsGoalOn seen.spec seen.wanted) (get_or_from_slice_get goals k goal goal at)
+        (on k goal (slice_get_within goals k goal at)) in
         let moved : IsMoved seen.log trimmed.log t.answer_kept one.lit (renumbered_lit t.statement_kept one.lit) = record {
           means = laws.meanings seen.log steps trimmed in_place t step.0 one.lit is_goal is_in;
           answers = λ place means. laws.answers seen.log steps trimmed in_place t step.0 one.lit is_goal is_in place false means;
@@ -243,14 +260,16 @@ module _ (laws : ClaimLaws) (seen : Search) (is : IsSearch seen) (few : HasFewSt
           lit = renumbered_lit t.statement_kept one.lit;
           is_unit = ap (slice_get (clauses_of trimmed.log.steps)) (sym new_is) ∙ kept.2
               ∙ ap (λ (xs : List Lit). Some (map (renumbered_lit t.statement_kept) xs)) lits;
-          says = claimed seen.spec seen.posed seen.wanted seen.log trimmed.log t.answer_kept goal claim one.lit (renumbered_lit t.statement_kept one.lit) g same
+          says = claimed seen.spec seen.posed seen.wanted seen.log trimmed.log t.answer_kept goal claim one.lit
+              (renumbered_lit t.statement_kept one.lit) g same
               is.log.answers moved (judged laws seen goal one.lit is g one.says);
         }
 
     as_many : length trimmed.goals ≡ length goals
     as_many = ap (λ (xs : List ℕ). length xs) t.new_goals ∙ length-map steps (rank t.step_kept) ∙ proved.as_many
 
-    all_derived : (needs : List Need) → AreClaims seen.spec seen.posed goals needs → All (IsDerived seen.spec.relations trimmed.log) needs
+    all_derived : (needs : List Need) → AreClaims seen.spec seen.posed goals needs
+        → All (IsDerived seen.spec.relations trimmed.log) needs
     all_derived needs are k d below =
         let need = get_or needs k d in
         let goal = item_at goals k (omega (arith, below, are.as_many)) in
@@ -258,13 +277,19 @@ module _ (laws : ClaimLaws) (seen : Search) (is : IsSearch seen) (few : HasFewSt
         derived_claim seen.spec trimmed.log need.part need.claim new.0
         (unit_at k goal.0 need.claim new.0 goal.1 (are.each k goal.0 need goal.1 (slice_get-get_or needs k d below)) new.1)
 
-    all_goals : (q : Question) (v : Verdict) → AreClaims seen.spec seen.posed goals (needs_of q v) → All (IsGoal seen.spec q v trimmed.log) trimmed.goals
+    all_goals : (q : Question) (v : Verdict) → AreClaims seen.spec seen.posed goals (needs_of q v)
+        → All (IsGoal seen.spec q v trimmed.log) trimmed.goals
     all_goals q v are k d below =
         let goal = item_at goals k (omega (arith, below, as_many)) in
         let need = item_at (needs_of q v) k (omega (arith, below, are.as_many, as_many)) in
         record {
           need = need.0;
-          needed = (k, slice_get_within (needs_of q v) k need.0 need.1, get_or_from_slice_get (needs_of q v) k need.0 need.0 need.1);
+          needed = (
+            k,
+            slice_get_within (needs_of q v) k need.0 need.1,
+            get_or_from_slice_get (needs_of q v) k need.0
+                need.0 need.1,
+          );
           unit = unit_at k goal.0 need.0.claim (get_or trimmed.goals k d) goal.1 (are.each k goal.0 need.0 goal.1 need.1)
               (slice_get-get_or trimmed.goals k d below);
         }
@@ -282,17 +307,20 @@ module _ (laws : ClaimLaws) (seen : Search) (is : IsSearch seen) (few : HasFewSt
     written = laws.writable seen.spec seen.posed seen.wanted seen.log steps trimmed is.within is.log few within_steps t
 
     -- the report, but for what the verdict asks of the completions
-    report_with : (q : Question) (budget : ℕ) (v : Verdict) (completions : List Rankings) → IsSearchFor q seen → AreShown seen.spec completions
+    report_with : (q : Question) (budget : ℕ) (v : Verdict) (completions : List Rankings) → IsSearchFor q seen
+        → AreShown seen.spec completions
         → IsWritableVerdict seen.spec.relations v → IsOneOf seen.spec q v → IsSupported seen.spec q v completions trimmed.log
         → IsAnswerWithin seen.spec q budget (record { verdict = v; completions = completions; log = trimmed.log })
-        → IsDecidedBy seen.spec q budget (record { verdict = v; completions = completions; log = trimmed.log }) → NamesFirst seen.spec q v
+        → IsDecidedBy seen.spec q budget (record { verdict = v; completions = completions; log = trimmed.log })
+        → NamesFirst seen.spec q v
         → IsReported seen.spec q budget (record { verdict = v; completions = completions; log = trimmed.log })
     report_with q budget v completions for_it shown verdict_written one_of supported lists enough first = record {
       shown = record {
         sound = record {
           one_of = one_of;
           consistent = shown.consistent;
-          accepted = laws.trimmed_accepted seen.spec (query_of q) seen.log steps trimmed in_place (accepted_for laws.accepted q seen is for_it) t;
+          accepted = laws.trimmed_accepted seen.spec (query_of q) seen.log steps trimmed in_place
+              (accepted_for laws.accepted q seen is for_it) t;
         };
         supported = supported;
       };
@@ -309,31 +337,43 @@ module _ (laws : ClaimLaws) (seen : Search) (is : IsSearch seen) (few : HasFewSt
     }
 
     one_is_some : (completions : List Rankings) → length completions ≡ 1 → completions ≢ []
-    one_is_some completions one none = let no : 0 ≡ 1 = sym (ap (λ (xs : List Rankings). length xs) none) ∙ one in absurd (omega (arith, no))
+    one_is_some completions one none = let no : 0 ≡ 1 = sym (ap (λ (xs : List Rankings). length xs) none)
+        ∙ one in absurd (omega (arith, no))
 
-    answers_supported : (q : Question) (query : Query) (tuples : List (List Value)) (completions : List Rankings) → query_of q ≡ Some query
+    answers_supported : (q : Question) (query : Query) (tuples : List (List Value)) (completions : List Rankings)
+        → query_of q ≡ Some query
         → completions ≢ [] → All (IsDerived seen.spec.relations trimmed.log) (needs_of q (verdict.Answers tuples))
-        → AreCommon seen.spec.relations query tuples completions → IsSupported seen.spec q (verdict.Answers tuples) completions trimmed.log
-    answers_supported (asked.Answers own) query tuples completions e some derived common =
-        (some, derived, subst (λ (x : Query). AreCommon seen.spec.relations x tuples completions) (sym (same_Some own query e)) common)
+        → AreCommon seen.spec.relations query tuples completions → IsSupported seen.spec q (verdict.Answers tuples)
+        completions trimmed.log
+    answers_supported (asked.Answers own) query tuples completions e some derived common = (
+      some,
+      derived,
+      subst (λ (x : Query). AreCommon seen.spec.relations x tuples completions)
+          (sym (same_Some own query e)) common,
+    )
     answers_supported asked.Consistent query tuples completions e some derived common = let no : ⊥ = cc in absurd no
     answers_supported (asked.Certain pairs) query tuples completions e some derived common = let no : ⊥ = cc in absurd no
     answers_supported (asked.Same rels) query tuples completions e some derived common = let no : ⊥ = cc in absurd no
 
-    report_of : (q : Question) (budget : ℕ) (v : Verdict) (completions : List Rankings) → IsSearchFor q seen → AreShown seen.spec completions
+    report_of : (q : Question) (budget : ℕ) (v : Verdict) (completions : List Rankings) → IsSearchFor q seen
+        → AreShown seen.spec completions
         → IsWritableVerdict seen.spec.relations v → IsOneOf seen.spec q v → AreClaims seen.spec seen.posed goals (needs_of q v)
-        → IsListedFor seen.spec q v completions → IsReported seen.spec q budget (record { verdict = v; completions = completions; log = trimmed.log })
+        → IsListedFor seen.spec q v completions → IsReported seen.spec q budget
+        (record { verdict = v; completions = completions; log = trimmed.log })
     report_of q budget verdict.Certain completions for_it shown verdict_written one_of are listed =
         report_with q budget verdict.Certain completions for_it shown verdict_written one_of
-        (one_is_some completions listed, all_derived (needs_of q verdict.Certain) are) (listed, of_claims q verdict.Certain for_it are)
+        (one_is_some completions listed, all_derived (needs_of q verdict.Certain) are)
+        (listed, of_claims q verdict.Certain for_it are)
         (λ count counts enough. refl) tt
     report_of q budget (verdict.Same items) completions for_it shown verdict_written one_of are listed =
         report_with q budget (verdict.Same items) completions for_it shown verdict_written one_of
-        (one_is_some completions listed, all_derived (needs_of q (verdict.Same items)) are) (listed, of_claims q (verdict.Same items) for_it are)
+        (one_is_some completions listed, all_derived (needs_of q (verdict.Same items)) are)
+        (listed, of_claims q (verdict.Same items) for_it are)
         (λ count counts enough. refl) tt
     report_of q budget (verdict.Answers tuples) completions for_it shown verdict_written one_of are listed =
         report_with q budget (verdict.Answers tuples) completions for_it shown verdict_written one_of
-        (answers_supported q listed.1 tuples completions listed.2 listed.0 (all_derived (needs_of q (verdict.Answers tuples)) are) listed.3)
+        (answers_supported q listed.1 tuples completions listed.2 listed.0
+        (all_derived (needs_of q (verdict.Answers tuples)) are) listed.3)
         (listed.0, of_claims q (verdict.Answers tuples) for_it are) (λ count counts enough. refl) tt
     report_of q budget verdict.Inconsistent completions for_it shown verdict_written one_of are listed = absurd listed
     report_of q budget verdict.Consistent completions for_it shown verdict_written one_of are listed = absurd listed
@@ -349,15 +389,22 @@ pub record HasUnits (seen : Search) (log : Log) (goals : List Goal) (steps : Lis
   pub on : All (IsGoalOn seen.spec seen.wanted) goals
   pub proved : AreProved seen goals steps
 
-pub can_trim_units : ClaimLaws → (seen : Search) (log : Log) (goals : List Goal) (steps : List ℕ) → HasUnits seen log goals steps → AreInPlace log steps
+pub can_trim_units : ClaimLaws → (seen : Search) (log : Log) (goals : List Goal) (steps : List ℕ)
+    → HasUnits seen log goals steps → AreInPlace log steps
 can_trim_units laws seen log goals steps has =
-    subst (λ (l : Log). AreInPlace l steps) (sym has.log_is) (in_place laws seen has.search_is has.few goals steps has.on has.proved)
+    subst (λ (l : Log). AreInPlace l steps) (sym has.log_is) (in_place laws seen has.search_is has.few goals steps
+    has.on has.proved)
 
-pub claims_reported : ClaimLaws → (seen : Search) (log : Log) (goals : List Goal) (steps : List ℕ) → HasUnits seen log goals steps → (trimmed : Trimmed)
-    → IsTrimmed log steps trimmed → (v : Verdict) (completions : List Rankings) → All (IsConsistent seen.spec) completions → length completions ≤ 4294967294
+pub claims_reported : ClaimLaws → (seen : Search) (log : Log) (goals : List Goal) (steps : List ℕ)
+    → HasUnits seen log goals steps → (trimmed : Trimmed)
+    → IsTrimmed log steps trimmed → (v : Verdict) (completions : List Rankings) → All (IsConsistent seen.spec)
+    completions → length completions ≤ 4294967294
     → IsWritableVerdict seen.spec.relations v → (q : Question) (budget : ℕ) → IsSearchFor q seen → IsOneOf seen.spec q v
     → AreClaims seen.spec seen.posed goals (needs_of q v) → IsListedFor seen.spec q v completions
     → IsReported seen.spec q budget (record { verdict = v; completions = completions; log = trimmed.log })
-claims_reported laws seen log goals steps has trimmed t v completions consistent few verdict_written q budget for_it one_of are listed =
-    report_of laws seen has.search_is has.few goals steps has.on has.proved trimmed (subst (λ (l : Log). IsTrimmed l steps trimmed) has.log_is t) q budget v
-    completions for_it (shown_each laws.completions seen.spec completions has.search_is.within consistent few) verdict_written one_of are listed
+claims_reported laws seen log goals steps has trimmed t v completions consistent few verdict_written q budget for_it
+    one_of are listed =
+    report_of laws seen has.search_is has.few goals steps has.on has.proved trimmed
+    (subst (λ (l : Log). IsTrimmed l steps trimmed) has.log_is t) q budget v
+    completions for_it (shown_each laws.completions seen.spec completions has.search_is.within consistent few)
+    verdict_written one_of are listed

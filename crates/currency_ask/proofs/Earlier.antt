@@ -37,13 +37,15 @@ use Rattle.currency_ask.proofs.Settling.{at_map, at_take, need_of}
 -- a verdict that is shown is right
 abbrev pub ShownIsRight : Type 0
 ShownIsRight =
-    (s : Spec) (question : Question) (report : Report) → IsSpecification s → IsQuestionOn s.relations question → ShowsVerdict s question report
+    (s : Spec) (question : Question) (report : Report) → IsSpecification s → IsQuestionOn s.relations question
+    → ShowsVerdict s question report
     → is_decided (kind_of report.verdict) ≡ true → IsRight s question report.verdict
 
 some : {A : Type 0} (x : A) → x ∷ [] ≢ []
 some x e = let no : ⊥ = cc in no
 
-module _ (accepted : LogsAreAccepted) (orders : OrdersAgree) (right : ShownIsRight) (search : Search) (is : IsSearch search) (unposed : search.posed.query ≡ None) (pairs : List Asked)
+module _ (accepted : LogsAreAccepted) (orders : OrdersAgree) (right : ShownIsRight) (search : Search)
+    (is : IsSearch search) (unposed : search.posed.query ≡ None) (pairs : List Asked)
     (on : All (IsAskedPair search.spec.relations) pairs) (steps : List ℕ) (proved : AreProved search (map Pair pairs) steps) where
   -- the unit of a pair
   unit : (k : ℕ) (p : Asked) → slice_get pairs k ≡ Some p → IsDerived search.spec.relations search.log (need_of p)
@@ -66,7 +68,8 @@ module _ (accepted : LogsAreAccepted) (orders : OrdersAgree) (right : ShownIsRig
 
   -- a report that would show that they are certain
   shows : (c : Rankings) → IsConsistent search.spec c
-      → ShowsVerdict search.spec (asked.Certain pairs) (record { verdict = verdict.Certain; completions = c ∷ []; log = search.log })
+      → ShowsVerdict search.spec (asked.Certain pairs)
+      (record { verdict = verdict.Certain; completions = c ∷ []; log = search.log })
   shows c consistent = record {
     sound = record {
       one_of = tt;
@@ -81,7 +84,8 @@ module _ (accepted : LogsAreAccepted) (orders : OrdersAgree) (right : ShownIsRig
   pairs_hold =
       each_has (λ p. EachConsistent search.spec (PairHolds p)) pairs (λ k p at c consistent.
       let certain =
-      right search.spec (asked.Certain pairs) (record { verdict = verdict.Certain; completions = c ∷ []; log = search.log }) is.within.specification on
+      right search.spec (asked.Certain pairs)
+      (record { verdict = verdict.Certain; completions = c ∷ []; log = search.log }) is.within.specification on
       (shows c consistent) refl in
       item_has (λ q. EachConsistent search.spec (PairHolds q)) pairs certain.1 k p at c consistent)
 
@@ -105,26 +109,34 @@ take_front (y ∷ ys) (suc n) zero x at = refl
 take_front (y ∷ ys) (suc n) (suc k) x at = ap (λ zs. y ∷ zs) (take_front ys n k x at)
 
 before : (search : Search) (s : Spec) (pairs : List Asked) (place : ℕ) (steps : List ℕ) → ProvedHold search → search.spec ≡ s
-    → All (IsAskedPair s.relations) pairs → AreProved search (map Pair (take place pairs)) steps → All (λ other. EachConsistent s (PairHolds other)) (take place pairs)
+    → All (IsAskedPair s.relations) pairs → AreProved search (map Pair (take place pairs)) steps
+    → All (λ other. EachConsistent s (PairHolds other)) (take place pairs)
 before search s pairs place steps law same on proved =
     subst (λ (x : Spec). All (λ other. EachConsistent x (PairHolds other)) (take place pairs)) same
     (law (take place pairs) steps (subst (λ (x : Spec). All (IsAskedPair x.relations) (take place pairs)) (sym same)
     (front_on (IsAskedPair s.relations) pairs place on)) proved)
 
 -- those before the first that fails in a completion
-pub before_failing : (search : Search) (s : Spec) (pairs : List Asked) (failing : Option ℕ) (goals : List Goal) (place : ℕ) (steps : List ℕ) → ProvedHold search
-    → search.spec ≡ s → All (IsAskedPair s.relations) pairs → AreFirstPairs pairs failing goals → failing ≡ Some place → AreProved search goals steps
+pub before_failing : (search : Search) (s : Spec) (pairs : List Asked) (failing : Option ℕ) (goals : List Goal)
+    (place : ℕ) (steps : List ℕ) → ProvedHold search
+    → search.spec ≡ s → All (IsAskedPair s.relations) pairs → AreFirstPairs pairs failing goals
+    → failing ≡ Some place → AreProved search goals steps
     → All (λ other. EachConsistent s (PairHolds other)) (take place pairs)
 before_failing search s pairs failing goals place steps law same on are e proved =
     before search s pairs place steps law same on
     (subst (λ (gs : List Goal). AreProved search gs steps) (subst (λ (f : Option ℕ). AreFirstPairs pairs f goals) e are) proved)
 
 -- those before one that fails in a completion that was found for it
-pub before_failed : (search : Search) (s : Spec) (pairs : List Asked) (n place left : ℕ) (goals : List Goal) (c : Rankings) (d : Decided) → ProvedHold search
-    → search.spec ≡ s → All (IsAskedPair s.relations) pairs → goals ≡ map Pair (take n pairs) → d ≡ decided.Fails place c → TellsGoals search goals left d
+pub before_failed : (search : Search) (s : Spec) (pairs : List Asked) (n place left : ℕ) (goals : List Goal)
+    (c : Rankings) (d : Decided) → ProvedHold search
+    → search.spec ≡ s → All (IsAskedPair s.relations) pairs → goals ≡ map Pair (take n pairs)
+    → d ≡ decided.Fails place c → TellsGoals search goals left d
     → All (λ other. EachConsistent s (PairHolds other)) (take place pairs)
 before_failed search s pairs n place left goals c d law same on are e told =
     let after : FailsAfter search goals place c = subst (TellsGoals search goals left) e told in
-    let found = at_map Pair (take n pairs) place after.fails.goal (ap (λ (gs : List Goal). slice_get gs place) (sym are) ∙ after.fails.is_goal) in
-    let front = ap (take place) are ∙ take_map Pair (take n pairs) place ∙ ap (map Pair) (take_front pairs n place found.0 found.1) in
-    before search s pairs place after.steps law same on (subst (λ (gs : List Goal). AreProved search gs after.steps) front after.proved)
+    let found = at_map Pair (take n pairs) place after.fails.goal (ap (λ (gs : List Goal). slice_get gs place)
+    (sym are) ∙ after.fails.is_goal) in
+    let front = ap (take place) are ∙ take_map Pair (take n pairs) place ∙ ap (map Pair)
+    (take_front pairs n place found.0 found.1) in
+    before search s pairs place after.steps law same on (subst (λ (gs : List Goal). AreProved search gs after.steps)
+    front after.proved)

@@ -46,7 +46,8 @@ pub record HasEmptyStep (seen : Search) (log : Log) (place : ℕ) : Type 0 where
   pub few : HasFewSteps seen.log
   pub empty : slice_get (clauses_of seen.log.steps) place ≡ Some []
 
-within_steps : (log : Log) (place : ℕ) → slice_get (clauses_of log.steps) place ≡ Some [] → All (λ goal. goal < length log.steps) (place ∷ [])
+within_steps : (log : Log) (place : ℕ) → slice_get (clauses_of log.steps) place ≡ Some []
+    → All (λ goal. goal < length log.steps) (place ∷ [])
 within_steps log place empty =
     let below = slice_get_within (clauses_of log.steps) place [] empty in
     let same = length-map log.steps clause_of in
@@ -56,24 +57,31 @@ within_steps log place empty =
 pub can_trim : EmptyLaws → (seen : Search) (log : Log) (place : ℕ) → HasEmptyStep seen log place → AreInPlace log (place ∷ [])
 can_trim laws seen log place has =
     subst (λ (l : Log). AreInPlace l (place ∷ [])) (sym has.log_is)
-    (laws.in_place seen.spec seen.posed seen.wanted seen.log (place ∷ []) has.search_is.within has.search_is.log has.few (within_steps seen.log place has.empty)).1
+    (laws.in_place seen.spec seen.posed seen.wanted seen.log (place ∷ []) has.search_is.within has.search_is.log
+    has.few (within_steps seen.log place has.empty)).1
 
 -- the step's new place, where the empty clause stands in the trimmed log
-clause_stays : GoalClausesKeep → (log : Log) (place : ℕ) (trimmed : Trimmed) → AreInPlace log (place ∷ []) → (t : IsTrimmed log (place ∷ []) trimmed)
-    → slice_get (clauses_of log.steps) place ≡ Some [] → slice_get (clauses_of trimmed.log.steps) (rank t.step_kept place) ≡ Some []
+clause_stays : GoalClausesKeep → (log : Log) (place : ℕ) (trimmed : Trimmed) → AreInPlace log (place ∷ []) →
+    (t : IsTrimmed log (place ∷ []) trimmed)
+    → slice_get (clauses_of log.steps) place ≡ Some [] → slice_get (clauses_of trimmed.log.steps)
+    (rank t.step_kept place) ≡ Some []
 clause_stays law log place trimmed in_place t empty =
     let kept = law log (place ∷ []) trimmed in_place t 0 place refl in
-    let new : rank t.step_kept place ≡ kept.0 = same_Some (rank t.step_kept place) kept.0 (ap (λ (goals : List ℕ). slice_get goals 0) (sym t.new_goals) ∙ kept.1) in
+    let new : rank t.step_kept place ≡ kept.0 = same_Some (rank t.step_kept place) kept.0
+    (ap (λ (goals : List ℕ). slice_get goals 0) (sym t.new_goals) ∙ kept.1) in
     let none : lits_at log.steps place ≡ [] = get_or_from_slice_get (clauses_of log.steps) place [] [] empty in
-    ap (slice_get (clauses_of trimmed.log.steps)) new ∙ kept.2 ∙ ap (λ (lits : List Lit). Some (map (renumbered_lit t.statement_kept) lits)) none
+    ap (slice_get (clauses_of trimmed.log.steps)) new ∙ kept.2
+    ∙ ap (λ (lits : List Lit). Some (map (renumbered_lit t.statement_kept) lits)) none
 
 has_empty : (log : Log) (place : ℕ) → slice_get (clauses_of log.steps) place ≡ Some [] → HasEmpty log
 has_empty log place empty =
     list_any_at is_empty (clauses_of log.steps) place [] (slice_get_within (clauses_of log.steps) place [] empty)
     (ap is_empty (get_or_from_slice_get (clauses_of log.steps) place [] [] empty))
 
-is_of_empty : TrimmedAreReached → (s : Spec) (q : Question) (log : Log) (place : ℕ) (trimmed : Trimmed) → AreInPlace log (place ∷ [])
-    → (t : IsTrimmed log (place ∷ []) trimmed) → slice_get (clauses_of trimmed.log.steps) (rank t.step_kept place) ≡ Some [] → AreAmong s q trimmed.log
+is_of_empty : TrimmedAreReached → (s : Spec) (q : Question) (log : Log) (place : ℕ) (trimmed : Trimmed)
+    → AreInPlace log (place ∷ [])
+    → (t : IsTrimmed log (place ∷ []) trimmed) → slice_get (clauses_of trimmed.log.steps) (rank t.step_kept place) ≡
+    Some [] → AreAmong s q trimmed.log
     → IsOfEmpty s q trimmed.log
 is_of_empty law s q log place trimmed in_place t empty among = record {
   goals = trimmed.goals;
@@ -87,8 +95,10 @@ is_of_empty law s q log place trimmed in_place t empty among = record {
 
 -- ---- the report
 
-trimmed_reported : EmptyLaws → (seen : Search) (place : ℕ) (trimmed : Trimmed) (q : Question) (budget : ℕ) (completions : List Rankings) → IsSearchFor q seen
-    → IsSearch seen → HasFewSteps seen.log → slice_get (clauses_of seen.log.steps) place ≡ Some [] → AreInPlace seen.log (place ∷ [])
+trimmed_reported : EmptyLaws → (seen : Search) (place : ℕ) (trimmed : Trimmed) (q : Question) (budget : ℕ)
+    (completions : List Rankings) → IsSearchFor q seen
+    → IsSearch seen → HasFewSteps seen.log → slice_get (clauses_of seen.log.steps) place ≡ Some []
+    → AreInPlace seen.log (place ∷ [])
     → IsTrimmed seen.log (place ∷ []) trimmed → completions ≡ []
     → IsReported seen.spec q budget (record { verdict = Inconsistent; completions = completions; log = trimmed.log })
 trimmed_reported laws seen place trimmed q budget completions for_it is few empty in_place t none = record {
@@ -96,7 +106,8 @@ trimmed_reported laws seen place trimmed q budget completions for_it is few empt
     sound = record {
       one_of = tt;
       consistent = subst (All (IsConsistent seen.spec)) (sym none) (All-nil (IsConsistent seen.spec));
-      accepted = laws.trimmed_accepted seen.spec (query_of q) seen.log (place ∷ []) trimmed in_place (accepted_for laws.accepted q seen is for_it) t;
+      accepted = laws.trimmed_accepted seen.spec (query_of q) seen.log (place ∷ []) trimmed in_place
+          (accepted_for laws.accepted q seen is for_it) t;
     };
     supported = has_empty trimmed.log (rank t.step_kept place) stays;
   };
@@ -107,7 +118,11 @@ trimmed_reported laws seen place trimmed q budget completions for_it is few empt
     log = written.0;
     well_formed = written.1;
   };
-  lists = (none, is_of_empty laws.reached seen.spec q seen.log place trimmed in_place t stays (among_of laws.among q seen (place ∷ []) trimmed is for_it few t));
+  lists = (
+    none,
+    is_of_empty laws.reached seen.spec q seen.log place trimmed in_place t stays
+        (among_of laws.among q seen (place ∷ []) trimmed is for_it few t),
+  );
   enough = λ count counts enough. refl;
   first = tt;
 }
@@ -116,9 +131,11 @@ trimmed_reported laws seen place trimmed q budget completions for_it is few empt
     stays = clause_stays laws.clauses seen.log place trimmed in_place t empty
 
     written : IsWritable trimmed.log × (first_fault seen.spec.relations trimmed.log ≡ None)
-    written = laws.writable seen.spec seen.posed seen.wanted seen.log (place ∷ []) trimmed is.within is.log few (within_steps seen.log place empty) t
+    written = laws.writable seen.spec seen.posed seen.wanted seen.log (place ∷ []) trimmed is.within is.log few
+        (within_steps seen.log place empty) t
 
-pub empty_reported : EmptyLaws → (seen : Search) (log : Log) (place : ℕ) (trimmed : Trimmed) (q : Question) (budget : ℕ) (completions : List Rankings)
+pub empty_reported : EmptyLaws → (seen : Search) (log : Log) (place : ℕ) (trimmed : Trimmed) (q : Question)
+    (budget : ℕ) (completions : List Rankings)
     → IsSearchFor q seen → HasEmptyStep seen log place → IsTrimmed log (place ∷ []) trimmed → completions ≡ []
     → IsReported seen.spec q budget (record { verdict = Inconsistent; completions = completions; log = trimmed.log })
 empty_reported laws seen log place trimmed q budget completions for_it has t none =

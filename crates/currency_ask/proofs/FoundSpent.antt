@@ -34,10 +34,12 @@ pub record SpentLaws : Type 0 where
   pub in_place : LogsAreInPlace
   pub writable : LogsAreWritable
   pub whole : AxiomsAreWhole
-  pub few_counted : (statements : ℕ) (steps : List Step) → AreWithin statements steps → CountedAreNew steps → counted_steps steps < 3 ^ statements
+  pub few_counted : (statements : ℕ) (steps : List Step) → AreWithin statements steps → CountedAreNew steps
+      → counted_steps steps < 3 ^ statements
 
 -- the log has the axioms that it begins with
-axioms_stay : AxiomsAreWhole → (s : Spec) (wanted : Wanted) (steps : List Step) → IsSpecification s → BeginsWithAxioms s wanted steps → HasAxioms s steps
+axioms_stay : AxiomsAreWhole → (s : Spec) (wanted : Wanted) (steps : List Step) → IsSpecification s
+    → BeginsWithAxioms s wanted steps → HasAxioms s steps
 axioms_stay law s wanted steps facts begins posed l clause of is =
     let first = law s wanted.currents (variables s wanted) begins.axioms facts begins.are_axioms posed l clause of is in (
       first.0,
@@ -45,15 +47,18 @@ axioms_stay law s wanted steps facts begins posed l clause of is =
           (Contains-append_left begins.axioms begins.later (step.Axiom l first.0) first.1),
     )
 
--- a budget that decides the question is not spent: its variables are those with no answer, or with the answers over a consistent completion
-not_enough : SpentLaws → (seen : Search) (q : Question) (budget : ℕ) (count : Rankings → ℕ) → IsSearchFor q seen → IsSearch seen → HasFewSteps seen.log
+-- a budget that decides the question is not spent: its variables are those with no answer, or with the answers over a
+-- consistent completion
+not_enough : SpentLaws → (seen : Search) (q : Question) (budget : ℕ) (count : Rankings → ℕ) → IsSearchFor q seen
+    → IsSearch seen → HasFewSteps seen.log
     → HasSpent seen budget → CountsAnswers seen.spec q count → IsEnough seen.spec (currents_of q) count budget → ⊥
 not_enough laws seen q budget count for_it is few spent counts enough = of (answers_are q seen is for_it)
   where
     less : counted_steps seen.log.steps < 3 ^ length seen.log.statements
     less =
         let numbered : IsNumbered seen.log.statements seen.log.steps =
-        (laws.in_place seen.spec seen.posed seen.wanted seen.log [] is.within is.log few (All-nil (λ goal. goal < length seen.log.steps))).0 in
+        (laws.in_place seen.spec seen.posed seen.wanted seen.log [] is.within is.log few
+        (All-nil (λ goal. goal < length seen.log.steps))).0 in
         laws.few_counted (length seen.log.statements) seen.log.steps numbered.within is.counted_new
 
     power : 3 ^ length seen.log.statements ≡ 3 ^ variables_in seen.spec (currents_of q) (length seen.log.answers)
@@ -73,12 +78,14 @@ not_enough laws seen q budget count for_it is few spent counts enough = of (answ
         (counts some.0 over.completion seen.log.answers some.1 over.consistent over.are)
         (enough.over_each over.completion over.consistent))
 
-pub spent_reported : SpentLaws → (seen : Search) (q : Question) (budget : ℕ) (log : Log) (completions : List Rankings) → budget < 2 ^ 64
+pub spent_reported : SpentLaws → (seen : Search) (q : Question) (budget : ℕ) (log : Log)
+    (completions : List Rankings) → budget < 2 ^ 64
     → IsSearchFor q seen → IsSearch seen
     → HasFewSteps seen.log → HasSpent seen budget → log ≡ seen.log → completions ≡ []
     → IsReported seen.spec q budget (record { verdict = Undecided budget; completions = completions; log = log })
 spent_reported laws seen q budget log completions fits for_it is few spent same none =
-    subst (λ (l : Log). IsReported seen.spec q budget (record { verdict = Undecided budget; completions = completions; log = l })) (sym same) record {
+    subst (λ (l : Log). IsReported seen.spec q budget
+    (record { verdict = Undecided budget; completions = completions; log = l })) (sym same) record {
       shown = record {
         sound = record {
           one_of = tt;

@@ -53,10 +53,17 @@ left_at gone i d below =
 left_few : (gone : List Bool) → length (left_of gone) ≤ length gone
 left_few gone =
     let range = range_with_len 0 (length gone) in
-    omega (arith, length-filter (is_left gone) range, count_by-le-length (is_left gone) range, length-range_with_len 0 (length gone))
+    omega (
+      arith,
+      length-filter (is_left gone) range,
+      count_by-le-length (is_left gone) range,
+      length-range_with_len
+          0 (length gone),
+    )
 
 -- the places that are left are within the tuples, and within the steps
-pub left_within : (standing : Standing) (n : ℕ) (places : List ℕ) → length standing.gone ≡ n → places ≡ left_of standing.gone → All (λ place. place < n) places
+pub left_within : (standing : Standing) (n : ℕ) (places : List ℕ) → length standing.gone ≡ n
+    → places ≡ left_of standing.gone → All (λ place. place < n) places
 left_within standing n places many are =
     subst (All (λ place. place < n)) (sym are)
     (each_has (λ place. place < n) (left_of standing.gone) (λ k place at.
@@ -85,7 +92,8 @@ pub record AreDecided (search : Search) (s : Spec) (query : Query) (standing : S
   pub candidates : AreCandidates s query standing
   pub settled : AreSettled search standing (length standing.tuples) steps
 
-module _ (search : Search) (s : Spec) (query : Query) (standing : Standing) (steps : List ℕ) (are : AreDecided search s query standing steps) where
+module _ (search : Search) (s : Spec) (query : Query) (standing : Standing) (steps : List ℕ)
+    (are : AreDecided search s query standing steps) where
   left : List ℕ
   left = left_of standing.gone
 
@@ -97,7 +105,8 @@ module _ (search : Search) (s : Spec) (query : Query) (standing : Standing) (ste
 
   tuple_at : (k place : ℕ) → slice_get (left_of standing.gone) k ≡ Some place
       → slice_get search.posed.answers place ≡ Some (slice_index_or standing.tuples place [])
-  tuple_at k place at = ap (λ (xs : List (List Value)). slice_get xs place) are.posed ∙ slice_get-get_or standing.tuples place [] (within k place at)
+  tuple_at k place at = ap (λ (xs : List (List Value)). slice_get xs place) are.posed
+      ∙ slice_get-get_or standing.tuples place [] (within k place at)
 
   pub goals_on : All (IsGoalOn search.spec search.wanted) (map Answer (left_of standing.gone))
   goals_on =
@@ -108,14 +117,17 @@ module _ (search : Search) (s : Spec) (query : Query) (standing : Standing) (ste
       subst (IsGoalOn search.spec search.wanted) (sym found.2) (omega (arith, below, many, are.search_is.log.as_many)))
 
   -- a candidate that is not gone has its unit
-  has_unit : (place step : ℕ) → slice_get standing.gone place ≡ Some false → (slice_get standing.gone place ≡ Some true) ⊎ HasItsUnit search place step
+  has_unit : (place step : ℕ) → slice_get standing.gone place ≡ Some false →
+      (slice_get standing.gone place ≡ Some true) ⊎ HasItsUnit search place step
       → IsProved search (Answer place) step
   has_unit place step stays (inl gone) = absurd (false≢true (same_Some false true (sym stays ∙ gone)))
   has_unit place step stays (inr unit) = record { lit = unit.lit; says = unit.says; is_unit = unit.is_unit }
 
-  pub units_are : AreProved search (map Answer (left_of standing.gone)) (map (λ place. slice_index_or steps place 0) (left_of standing.gone))
+  pub units_are : AreProved search (map Answer (left_of standing.gone)) (map (λ place. slice_index_or steps place 0)
+      (left_of standing.gone))
   units_are = record {
-    as_many = length-map (left_of standing.gone) (λ place. slice_index_or steps place 0) ∙ sym (length-map (left_of standing.gone) Answer);
+    as_many = length-map (left_of standing.gone) (λ place. slice_index_or steps place 0)
+        ∙ sym (length-map (left_of standing.gone) Answer);
     each = λ k goal step at_goal at_step.
         let found = at_map Answer (left_of standing.gone) k goal at_goal in
         let unit = at_map (λ place. slice_index_or steps place 0) (left_of standing.gone) k step at_step in
@@ -131,14 +143,16 @@ module _ (search : Search) (s : Spec) (query : Query) (standing : Standing) (ste
   pub claims_are : AreClaims search.spec search.posed (map Answer (left_of standing.gone)) (answer_needs 0 (left_tuples standing))
   claims_are = record {
     as_many = length-map (left_of standing.gone) Answer
-        ∙ sym (length-map (left_of standing.gone) (λ place. slice_index_or standing.tuples place [])) ∙ sym (need_many 0 (left_tuples standing));
+        ∙ sym (length-map (left_of standing.gone) (λ place. slice_index_or standing.tuples place []))
+        ∙ sym (need_many 0 (left_tuples standing));
     each = λ k goal need at at_need.
         let found = at_map Answer (left_of standing.gone) k goal at in
         let needed = need_at 0 (left_tuples standing) k need at_need in
         let tuple = at_map (λ place. slice_index_or standing.tuples place []) (left_of standing.gone) k needed.0 needed.1 in
         let one : tuple.0 ≡ found.0 = same_Some tuple.0 found.0 (sym tuple.1 ∙ found.1) in
         let is_tuple : slice_get search.posed.answers found.0 ≡ Some needed.0 =
-        tuple_at k found.0 found.1 ∙ ap (λ t. Some t) (sym (tuple.2 ∙ ap (λ place. slice_index_or standing.tuples place []) one)) in
+        tuple_at k found.0 found.1 ∙ ap (λ t. Some t)
+        (sym (tuple.2 ∙ ap (λ place. slice_index_or standing.tuples place []) one)) in
         subst (λ (g : Goal). IsClaimOf search.spec search.posed g need.claim) (sym found.2)
         (subst (IsClaimOf search.spec search.posed (Answer found.0)) (sym needed.2) is_tuple);
   }
@@ -153,15 +167,18 @@ module _ (search : Search) (s : Spec) (query : Query) (standing : Standing) (ste
     each = each_has (AreFew IsValue) (left_tuples standing) (λ k tuple at.
         let found = at_map (λ place. slice_index_or standing.tuples place []) (left_of standing.gone) k tuple at in
         subst (AreFew IsValue) (sym found.2)
-        (item_has (AreFew IsValue) search.posed.answers are.search_is.log.is_posed.values found.0 (slice_index_or standing.tuples found.0 []) (tuple_at k found.0 found.1)));
+        (item_has (AreFew IsValue) search.posed.answers are.search_is.log.is_posed.values found.0
+        (slice_index_or standing.tuples found.0 []) (tuple_at k found.0 found.1)));
   }
 
   pub answers_listed : LeftAreCommon → (completions : List Rankings) → completions ≡ standing.completions
       → IsListedFor search.spec (asked.Answers query) (verdict.Answers (left_tuples standing)) completions
   answers_listed law completions same =
       let common = law s query standing are.candidates in
-      subst (λ (cs : List Rankings). IsListedFor search.spec (asked.Answers query) (verdict.Answers (left_tuples standing)) cs) (sym same)
-      (subst (λ (x : Spec). IsListedFor x (asked.Answers query) (verdict.Answers (left_tuples standing)) standing.completions) (sym are.spec)
+      subst (λ (cs : List Rankings). IsListedFor search.spec (asked.Answers query)
+      (verdict.Answers (left_tuples standing)) cs) (sym same)
+      (subst (λ (x : Spec). IsListedFor x (asked.Answers query) (verdict.Answers (left_tuples standing))
+      standing.completions) (sym are.spec)
       (are.candidates.some, query, refl, record { each = common.each; all = common.all }))
 
   pub answers_ascend : LeftAreCommon → IsOneOf search.spec (asked.Answers query) (verdict.Answers (left_tuples standing))

@@ -19,16 +19,21 @@ use Rattle.currency_ask.specs.Reported.{IsReported, ListsAlone}
 use Rattle.currency_ask.proofs.Completions.{listed_reported, shown_one, shown_two}
 
 -- a consistent completion is listed
-pub consistent_reported : CompletionsAreWritable → (s : Spec) → IsWithin s → (c : Rankings) → IsConsistent s c → (completions : List Rankings) → completions ≡ c ∷ []
+pub consistent_reported : CompletionsAreWritable → (s : Spec) → IsWithin s → (c : Rankings) → IsConsistent s c →
+    (completions : List Rankings) → completions ≡ c ∷ []
     → (r : Report) → ListsAlone verdict.Consistent completions r → (budget : ℕ) → IsReported s asked.Consistent budget r
 consistent_reported law s within c is completions are r alone budget =
     let lists = subst (λ (cs : List Rankings). ListsAlone verdict.Consistent cs r) are alone in
-    listed_reported s asked.Consistent budget verdict.Consistent (c ∷ []) r lists (shown_one law s c within is) tt (λ log e. let no : ⊥ = cc in no) tt refl tt
+    listed_reported s asked.Consistent budget verdict.Consistent (c ∷ []) r lists (shown_one law s c within is) tt
+    (λ log e. let no : ⊥ = cc in no) tt refl tt
 
 -- a pair that fails in a consistent completion, which is listed, and those asked before it hold in each
-pub failing_reported : CompletionsAreWritable → (s : Spec) → IsWithin s → (pairs : List Asked) → All (IsAskedPair s.relations) pairs → (place : ℕ) (pair : Asked)
-    → slice_get pairs place ≡ Some pair → All (λ other. EachConsistent s (PairHolds other)) (take place pairs) → (c : Rankings) → IsConsistent s c → ((p : Asked) → slice_get pairs place ≡ Some p → PairHolds p c → ⊥)
-    → (completions : List Rankings) → completions ≡ c ∷ [] → (r : Report) → ListsAlone (verdict.NotCertain pair) completions r → (budget : ℕ)
+pub failing_reported : CompletionsAreWritable → (s : Spec) → IsWithin s → (pairs : List Asked)
+    → All (IsAskedPair s.relations) pairs → (place : ℕ) (pair : Asked)
+    → slice_get pairs place ≡ Some pair → All (λ other. EachConsistent s (PairHolds other)) (take place pairs) →
+    (c : Rankings) → IsConsistent s c → ((p : Asked) → slice_get pairs place ≡ Some p → PairHolds p c → ⊥)
+    → (completions : List Rankings) → completions ≡ c ∷ [] → (r : Report) → ListsAlone (verdict.NotCertain pair)
+    completions r → (budget : ℕ)
     → IsReported s (asked.Certain pairs) budget r
 failing_reported law s within pairs on place pair at others c is fails completions are r alone budget =
     let lists = subst (λ (cs : List Rankings). ListsAlone (verdict.NotCertain pair) cs r) are alone in
@@ -46,12 +51,15 @@ failing_reported law s within pairs on place pair at others c is fails completio
     }) refl (record { place = place; is_pair = at; others_hold = others })
 
 -- two consistent completions that differ at a place are listed
-pub differing_reported : CompletionsAreWritable → (s : Spec) → IsWithin s → (rels : List RelId) (p : CurrentPlace) (c d : Rankings) → IsConsistent s c
-    → IsConsistent s d → IsDifference s.relations rels c d p.rel p.attr p.ent → (completions : List Rankings) → completions ≡ c ∷ d ∷ [] → (r : Report)
+pub differing_reported : CompletionsAreWritable → (s : Spec) → IsWithin s → (rels : List RelId) (p : CurrentPlace)
+    (c d : Rankings) → IsConsistent s c
+    → IsConsistent s d → IsDifference s.relations rels c d p.rel p.attr p.ent → (completions : List Rankings)
+    → completions ≡ c ∷ d ∷ [] → (r : Report)
     → ListsAlone (verdict.NotSame p.rel p.attr p.ent) completions r → (budget : ℕ) → IsReported s (asked.Same rels) budget r
 differing_reported law s within rels p c d is other differ completions are r alone budget =
     let lists = subst (λ (cs : List Rankings). ListsAlone (verdict.NotSame p.rel p.attr p.ent) cs r) are alone in
-    listed_reported s (asked.Same rels) budget (verdict.NotSame p.rel p.attr p.ent) (c ∷ d ∷ []) r lists (shown_two law s c d within is other) differ.asked
+    listed_reported s (asked.Same rels) budget (verdict.NotSame p.rel p.attr p.ent) (c ∷ d ∷ []) r lists
+    (shown_two law s c d within is other) differ.asked
     (λ log. record {
       one = c;
       other = d;
@@ -59,4 +67,9 @@ differing_reported law s within rels p c d is other differ completions are r alo
       other_listed = (1, omega arith, refl);
       differ = record { relation = differ.relation; is_relation = differ.is_relation; differ = differ.differ };
     })
-    (record { relation = differ.relation; is_relation = differ.is_relation; in_attrs = differ.attr_within; in_entities = differ.ent_within }) refl tt
+    (record {
+      relation = differ.relation;
+      is_relation = differ.is_relation;
+      in_attrs = differ.attr_within;
+      in_entities = differ.ent_within;
+    }) refl tt

@@ -30,7 +30,8 @@ at_push [] y (suc i) x is = let no : ⊥ = cc in absurd no
 at_push (z ∷ xs) y zero x is = inl is
 at_push (z ∷ xs) y (suc i) x is = step (at_push xs y i x is)
   where
-    step : (slice_get xs i ≡ Some x) ⊎ ((i ≡ length xs) × (y ≡ x)) → (slice_get xs i ≡ Some x) ⊎ ((suc i ≡ suc (length xs)) × (y ≡ x))
+    step : (slice_get xs i ≡ Some x) ⊎ ((i ≡ length xs) × (y ≡ x)) → (slice_get xs i ≡ Some x) ⊎
+        ((suc i ≡ suc (length xs)) × (y ≡ x))
     step (inl h) = inl h
     step (inr h) = inr (ap suc h.0, h.1)
 
@@ -40,12 +41,14 @@ take_next xs i x at =
     take_more xs i x (slice_get_within xs i x at) ∙ ap (λ y. take i xs ++ y ∷ []) (get_or_from_slice_get xs i x x at)
 
 -- the same with a function's values
-pub map_next : {A B : Type 0} (f : A → B) (xs : List A) (i : ℕ) (x : A) (old new : List B) → slice_get xs i ≡ Some x → old ≡ map f (take i xs)
+pub map_next : {A B : Type 0} (f : A → B) (xs : List A) (i : ℕ) (x : A) (old new : List B) → slice_get xs i ≡ Some x
+    → old ≡ map f (take i xs)
     → new ≡ old ++ f x ∷ [] → new ≡ map f (take (i + 1) xs)
 map_next f xs i x old new at were push =
     push ∙ ap (λ ys. ys ++ f x ∷ []) were ∙ sym (map-append f (take i xs) (x ∷ [])) ∙ ap (map f) (sym (take_next xs i x at))
 
 -- and with none
-pub copy_next : {A : Type 0} (xs : List A) (i : ℕ) (x : A) (old new : List A) → slice_get xs i ≡ Some x → old ≡ take i xs → new ≡ old ++ x ∷ []
+pub copy_next : {A : Type 0} (xs : List A) (i : ℕ) (x : A) (old new : List A) → slice_get xs i ≡ Some x
+    → old ≡ take i xs → new ≡ old ++ x ∷ []
     → new ≡ take (i + 1) xs
 copy_next xs i x old new at were push = push ∙ ap (λ ys. ys ++ x ∷ []) were ∙ sym (take_next xs i x at)

@@ -16,7 +16,8 @@ use Rattle.currency_ask.specs.declared.fault.AskFault.{AskFault}
 use Rattle.currency_ask.specs.declared.fault.AskFault.TheVariants as fault
 
 -- a search in which the answers over some consistent completion are posed
-pub search_for_answers : (s : Spec) (query : Query) (tuples : List (List Value)) (search : Search) → IsSearchOf s query search → search.posed.answers ≡ tuples
+pub search_for_answers : (s : Spec) (query : Query) (tuples : List (List Value)) (search : Search)
+    → IsSearchOf s query search → search.posed.answers ≡ tuples
     → AreAnswersOverSome s query tuples → IsSearchFor (asked.Answers query) search
 search_for_answers s query tuples search is posed over = record {
   query = is.query_is;
@@ -29,11 +30,13 @@ search_for_answers s query tuples search is posed over = record {
   );
 }
 
-pub same_fault : (told : AskFault) (c : Rankings) → ◌≡◌ {A = Result Report AskFault} (Err told) (Err (fault.TooMany c)) → told ≡ fault.TooMany c
+pub same_fault : (told : AskFault) (c : Rankings) → ◌≡◌ {A = Result Report AskFault} (Err told)
+    (Err (fault.TooMany c)) → told ≡ fault.TooMany c
 same_fault told c e = cc
 
 -- the completion that is told has too many answers, where it is the first one
-pub too_many_first : (s : Spec) (query : Query) (first found : Rankings) → IsConsistent s first → found ≡ first → IsTooMany s.relations query 1000000 found
+pub too_many_first : (s : Spec) (query : Query) (first found : Rankings) → IsConsistent s first → found ≡ first
+    → IsTooMany s.relations query 1000000 found
     → HasTooMany s (asked.Answers query) found
 too_many_first s query first found is same too_many = record {
   query = query;

@@ -18,11 +18,13 @@ use Rattle.currency_ask.specs.Answered.{AreAmong, AreNumberedAnswers, currents_o
 use Rattle.currency_ask.specs.Reported.{IsSearchFor}
 
 -- what is numbered in a search for a question
-wanted_is : (q : Question) (seen : Search) → IsSearch seen → IsSearchFor q seen → seen.wanted ≡ wanted_of q (length seen.posed.answers)
+wanted_is : (q : Question) (seen : Search) → IsSearch seen → IsSearchFor q seen → seen.wanted ≡ wanted_of q
+    (length seen.posed.answers)
 wanted_is q seen is for_it =
     let first : seen.wanted ≡ record { currents = currents_of q; answers = seen.wanted.answers } =
     ap (λ (x : List RelId). let w : Wanted = record { currents = x; answers = seen.wanted.answers } in w) for_it.currents in
-    let second : ◌≡◌ {A = Wanted} (record { currents = currents_of q; answers = seen.wanted.answers }) (wanted_of q (length seen.posed.answers)) =
+    let second : ◌≡◌ {A = Wanted} (record { currents = currents_of q; answers = seen.wanted.answers })
+    (wanted_of q (length seen.posed.answers)) =
     ap (λ (x : ℕ). let w : Wanted = record { currents = currents_of q; answers = x } in w) is.log.as_many in
     first ∙ second
 
@@ -34,11 +36,13 @@ statements_are q seen is for_it =
     ∙ ap (λ (xs : List (List Value)). variables_of seen.spec q (length xs)) (sym is.log.answers)
 
 -- its answers are those that are numbered
-pub answers_are : (q : Question) (seen : Search) → IsSearch seen → IsSearchFor q seen → AreNumberedAnswers seen.spec q seen.log.answers
+pub answers_are : (q : Question) (seen : Search) → IsSearch seen → IsSearchFor q seen → AreNumberedAnswers seen.spec
+    q seen.log.answers
 answers_are q seen is for_it = subst (AreNumberedAnswers seen.spec q) (sym is.log.answers) for_it.answers
 
 -- the statements of what it is trimmed to are among them
-pub among_of : TrimmedAreAmong → (q : Question) (seen : Search) (goals : List ℕ) (trimmed : Trimmed) → IsSearch seen → IsSearchFor q seen
+pub among_of : TrimmedAreAmong → (q : Question) (seen : Search) (goals : List ℕ) (trimmed : Trimmed) → IsSearch seen
+    → IsSearchFor q seen
     → HasFewSteps seen.log → IsTrimmed seen.log goals trimmed → AreAmong seen.spec q trimmed.log
 among_of law q seen goals trimmed is for_it few t = record {
   answers = seen.posed.answers;
@@ -51,4 +55,5 @@ among_of law q seen goals trimmed is for_it few t = record {
 pub accepted_for : LogsAreAccepted → (q : Question) (seen : Search) → IsSearch seen → IsSearchFor q seen
     → IsAccepted seen.spec (query_of q) seen.log
 accepted_for law q seen is for_it =
-    subst (λ (o : Option Query). IsAccepted seen.spec o seen.log) for_it.query (law seen.spec seen.posed seen.wanted seen.log is.within is.log)
+    subst (λ (o : Option Query). IsAccepted seen.spec o seen.log) for_it.query
+    (law seen.spec seen.posed seen.wanted seen.log is.within is.log)

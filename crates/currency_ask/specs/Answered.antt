@@ -107,7 +107,8 @@ pub record SaysAnswer (s : Spec) (log : Log) (lit : Lit) (tuple : List Value) : 
 
 -- a literal says what is claimed
 abbrev pub SaysClaim : Spec → Log → Lit → Claim → Type 0
-SaysClaim s log lit (Holds p) = lit_says s.relations log.statements (before p.rel p.pair.attr p.pair.earlier p.pair.later) lit ≡ true
+SaysClaim s log lit (Holds p) = lit_says s.relations log.statements
+    (before p.rel p.pair.attr p.pair.earlier p.pair.later) lit ≡ true
 SaysClaim s log lit (HasValue rel attr ent v) = SaysValue s log lit rel attr ent v
 SaysClaim s log lit (HasAnswer tuple) = SaysAnswer s log lit tuple
 
@@ -161,7 +162,8 @@ CountsAnswers s q count = (query : Query) (c : Rankings) (tuples : List (List Va
 -- a budget that is at least three to the number of variables of the question decides it
 abbrev pub IsDecidedBy : Spec → Question → ℕ → Report → Type 0
 IsDecidedBy s q budget r =
-    (count : Rankings → ℕ) → CountsAnswers s q count → IsEnough s (currents_of q) count budget → is_decided (kind_of r.verdict) ≡ true
+    (count : Rankings → ℕ) → CountsAnswers s q count → IsEnough s (currents_of q) count budget → is_decided
+    (kind_of r.verdict) ≡ true
 
 -- ---- too many answers
 

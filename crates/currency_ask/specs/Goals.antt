@@ -72,7 +72,8 @@ abbrev pub Fails : Spec → Posed → Goal → Rankings → Type 0
 Fails s posed (Pair p) c = PairHolds p c → ⊥
 Fails s posed (Current p) c = (r : Relation) → slice_get s.relations p.rel.0 ≡ Some r
     → current_value c p.rel.0 r.rows p.attr.0 p.ent.0 ≢ field_value r.rows (Some p.row) p.attr.0
-Fails s posed (Answer place) c = (query : Query) (tuple : List Value) → posed.query ≡ Some query → slice_get posed.answers place ≡ Some tuple
+Fails s posed (Answer place) c = (query : Query) (tuple : List Value) → posed.query ≡ Some query
+    → slice_get posed.answers place ≡ Some tuple
     → IsAnswerIn s.relations query tuple c → ⊥
 
 -- ---- what comes of deciding
@@ -83,8 +84,8 @@ pub record IsProved (search : Search) (goal : Goal) (step : ℕ) : Type 0 where
   pub says : Says search.log.statements lit (said_of search.spec goal)
   pub is_unit : slice_get (clauses_of search.log.steps) step ≡ Some (lit ∷ [])
 
--- what deciding a goal tells, with so many units left: a consistent completion in which it fails; the step that is its unit; or an
--- end
+-- what deciding a goal tells, with so many units left: a consistent completion in which it fails; the step that is its
+-- unit; or an end
 abbrev pub TellsGoal : Search → Goal → ℕ → Outcome → Type 0
 TellsGoal search goal left (Model truths c) = IsConsistent search.spec c × Fails search.spec search.posed goal c
 TellsGoal search goal left (Proved step) = IsProved search goal step
@@ -94,7 +95,8 @@ TellsGoal search goal left Spent = IsEnd search left Spent
 -- these steps are the units of these goals, one after another
 pub record AreProved (search : Search) (goals : List Goal) (steps : List ℕ) : Type 0 where
   pub as_many : length steps ≡ length goals
-  pub each : (k : ℕ) (goal : Goal) (step : ℕ) → slice_get goals k ≡ Some goal → slice_get steps k ≡ Some step → IsProved search goal step
+  pub each : (k : ℕ) (goal : Goal) (step : ℕ) → slice_get goals k ≡ Some goal → slice_get steps k ≡ Some step
+      → IsProved search goal step
 
 -- one of these goals fails in a consistent completion
 pub record FailsAt (s : Spec) (posed : Posed) (goals : List Goal) (place : ℕ) (c : Rankings) : Type 0 where

@@ -25,8 +25,8 @@ pub record IsReported (s : Spec) (q : Question) (budget : ℕ) (r : Report) : Ty
   pub enough : IsDecidedBy s q budget r
   pub first : NamesFirst s q r.verdict
 
--- a search for a question: its query is posed, if it is one, its variables are numbered, and the tuples whose being answers is numbered
--- are none or the answers over some consistent completion
+-- a search for a question: its query is posed, if it is one, its variables are numbered, and the tuples whose being
+-- answers is numbered are none or the answers over some consistent completion
 pub record IsSearchFor (q : Question) (search : Search) : Type 0 where
   pub query : search.posed.query ≡ query_of q
   pub currents : search.wanted.currents ≡ currents_of q
@@ -43,8 +43,8 @@ pub record HasSpent (search : Search) (budget : ℕ) : Type 0 where
   pub counted : counted_steps search.log.steps ≡ budget
   pub open_log : IsOpenLog search.log.steps
 
--- what a verdict that claims something of every consistent completion lists: one completion, or, of answers, some that have exactly
--- these in common
+-- what a verdict that claims something of every consistent completion lists: one completion, or, of answers, some that
+-- have exactly these in common
 abbrev pub IsListedFor : Spec → Question → Verdict → List Rankings → Type 0
 IsListedFor s q verdict.Certain completions = length completions ≡ 1
 IsListedFor s q (verdict.Same items) completions = length completions ≡ 1

@@ -27,7 +27,8 @@ AreFirstPairs pairs failing goals = goals ≡ map Pair (take (unwrap_or failing 
 -- pairs that a search has proved hold in every consistent completion
 abbrev pub ProvedHold : Search → Type 0
 ProvedHold search =
-    (pairs : List Asked) (steps : List ℕ) → All (IsAskedPair search.spec.relations) pairs → AreProved search (map Pair pairs) steps
+    (pairs : List Asked) (steps : List ℕ) → All (IsAskedPair search.spec.relations) pairs → AreProved search
+    (map Pair pairs) steps
     → All (λ p. EachConsistent search.spec (PairHolds p)) pairs
 
 -- goals were decided, within a budget

@@ -39,13 +39,16 @@ chosen (Err e) true true false P Q v h a b c d = refl
 chosen (Err e) digits false fits P Q v h a b c d = refl
 
 -- what `parse` gives on a text with no plus
-pub parses_int : {E : Type 0} (bytes : List ℕ) (r : Result ℤ E) → ParsesSigned w64 10 bytes r → (get_or bytes 0 0 ≡ 43 → ⊥) → result_ok r ≡ int_of bytes
+pub parses_int : {E : Type 0} (bytes : List ℕ) (r : Result ℤ E) → ParsesSigned w64 10 bytes r →
+    (get_or bytes 0 0 ≡ 43 → ⊥) → result_ok r ≡ int_of bytes
 unfolding int_of
 parses_int bytes r h plus = by (starts_with_minus bytes) refl
   where
     by : (b : Bool) → starts_with_minus bytes ≡ b → result_ok r ≡ cond b (negative_of (drop 1 bytes)) (positive_of bytes)
-    by true e = chosen r _ _ _ _ _ _ (parse_signed_minus own w64 bytes r h (eqb-true _ 45 e)) (ltb-true 0 _) (lt-ltb 0 _) (leb-true _ (2 ^ 63)) (le-leb _ (2 ^ 63))
-    by false e = chosen r _ _ _ _ _ _ (parse_signed_plain own w64 bytes r h plus (eqb_apart _ 45 e)) (ltb-true 0 _) (lt-ltb 0 _) (ltb-true _ (2 ^ 63)) (lt-ltb _ (2 ^ 63))
+    by true e = chosen r _ _ _ _ _ _ (parse_signed_minus own w64 bytes r h (eqb-true _ 45 e)) (ltb-true 0 _)
+        (lt-ltb 0 _) (leb-true _ (2 ^ 63)) (le-leb _ (2 ^ 63))
+    by false e = chosen r _ _ _ _ _ _ (parse_signed_plain own w64 bytes r h plus (eqb_apart _ 45 e)) (ltb-true 0 _)
+        (lt-ltb 0 _) (ltb-true _ (2 ^ 63)) (lt-ltb _ (2 ^ 63))
 
 -- digits are text, and so are they after a minus
 digits_are_text : (digits : List ℕ) → all_ascii_digits digits ≡ true → IsAscii digits

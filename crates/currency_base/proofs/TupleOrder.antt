@@ -27,7 +27,8 @@ exact_tuples [] [] e = refl
 exact_tuples [] (y ∷ ys) e = cc
 exact_tuples (x ∷ xs) [] e = cc
 exact_tuples (x ∷ xs) (y ∷ ys) e =
-    let both = both_equal (value_cmp x y) (slice_cmp value_cmp xs ys) e in let first : x ≡ y = exact_values x y both.0 in let rest : xs ≡ ys = exact_tuples xs ys both.1 in cc
+    let both = both_equal (value_cmp x y) (slice_cmp value_cmp xs ys) e in let first : x ≡ y = exact_values x y
+    both.0 in let rest : xs ≡ ys = exact_tuples xs ys both.1 in cc
 
 value_antisymm : (x y : Value) → value_cmp x y ≡ ordering_reverse (value_cmp y x)
 value_antisymm (Int a) (Int b) = int_cmp_total.antisymm a b

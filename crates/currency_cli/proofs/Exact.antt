@@ -26,7 +26,8 @@ zero_or_three ending.Told status of is = absurd of
 zero_or_three ending.Decided status of is = inl is
 zero_or_three ending.Undecided status of is = inr is
 
-any_of_question : (e : Ending) (status : ℕ) → IsOfQuestion e → (status ≡ 0) ⊎ ((status ≡ 3) ⊎ (status ≡ 6)) → HasEndStatus e status
+any_of_question : (e : Ending) (status : ℕ) → IsOfQuestion e → (status ≡ 0) ⊎ ((status ≡ 3) ⊎ (status ≡ 6))
+    → HasEndStatus e status
 any_of_question ending.Told status of is = absurd of
 any_of_question ending.Decided status of is = is
 any_of_question ending.Undecided status of is = is
@@ -36,7 +37,8 @@ end_status ending.Told e status alike is = subst (λ (x : Ending). HasEndStatus 
 end_status ending.Decided e status alike is = any_of_question e status alike (inl is)
 end_status ending.Undecided e status alike is = any_of_question e status alike (inr (inl is))
 
-has_status : (got outcome : Result Done Trouble) (status : ℕ) → AreAlike got outcome → status ≡ status_of got → HasStatus outcome status
+has_status : (got outcome : Result Done Trouble) (status : ℕ) → AreAlike got outcome → status ≡ status_of got
+    → HasStatus outcome status
 has_status (Ok d) (Ok e) status alike is = end_status d.ending e.ending status alike is
 has_status (Ok d) (Err e) status alike is = inr (alike.1, zero_or_three d.ending status alike.0 is)
 has_status (Err e) (Ok d) status alike is = any_of_question d.ending status alike.0 (inr (inr (is ∙ ap trouble_status alike.1)))
@@ -49,7 +51,8 @@ has_failed_status (Ok d) (Ok e) status alike is = inr is
 has_failed_status (Ok d) (Err e) status alike is = inr (inr (alike.1, is))
 has_failed_status (Err e) outcome status alike is = inl (has_status (Err e) outcome status alike is)
 
-failed : (rb rn wb wn : ℕ) (outcome : Result Done Trouble) (status : ℕ) → HasStatus outcome status ⊎ HasFailedStatus outcome status → Rose wb wn
+failed : (rb rn wb wn : ℕ) (outcome : Result Done Trouble) (status : ℕ) → HasStatus outcome status ⊎ HasFailedStatus
+    outcome status → Rose wb wn
     → ComesTo outcome rb rn wb wn status
 failed rb rn wb wn outcome status (inl h) rose = inl h
 failed rb rn wb wn outcome status (inr h) rose = inr (inl (h, rose))
@@ -64,7 +67,8 @@ of_ends old new rb rn wb wn got outcome status alike (inr (inr h)) = inr (inr (i
 -- ---- a document could not be read, or memory ran out
 
 of_outside : (old new : Option (List ℕ)) (rb rn wb wn : ℕ) (e : Trouble) (outcome : Result Done Trouble) (status : ℕ)
-    → (IsSettled {A = Done} (Err e) → ⊥) → (IsReadFault {A = Done} (Err e) → Rose rb rn) → EndsWith old new wb wn (Err e) status → ComesTo outcome rb rn wb wn status
+    → (IsSettled {A = Done} (Err e) → ⊥) → (IsReadFault {A = Done} (Err e) → Rose rb rn) → EndsWith old new wb wn
+    (Err e) status → ComesTo outcome rb rn wb wn status
 of_outside old new rb rn wb wn (trouble.ReadFault name) outcome status never rose (inl h) = inr (inr (inl (h.0, rose tt)))
 of_outside old new rb rn wb wn (trouble.ReadFault name) outcome status never rose (inr (inl h)) = inr (inr (inl (h.0, rose tt)))
 of_outside old new rb rn wb wn (trouble.ReadFault name) outcome status never rose (inr (inr h)) = inr (inr (inr h.0))
@@ -93,7 +97,8 @@ settled_or (Err trouble.NoMemory) = inr (trouble.NoMemory, refl, λ h. h)
 comes_at : (got : Result Done Trouble) (old new : Option (List ℕ)) (rb rn wb wn status : ℕ) → (IsReadFault got → Rose rb rn)
     → EndsWith old new wb wn got status → (outcome : Result Done Trouble) → (IsSettled got → AreAlike got outcome)
     → IsSettled got ⊎ ((e : Trouble) × (got ≡ Err e) × (IsSettled got → ⊥)) → ComesTo outcome rb rn wb wn status
-comes_at got old new rb rn wb wn status rose ends outcome alike (inl settled) = of_ends old new rb rn wb wn got outcome status (alike settled) ends
+comes_at got old new rb rn wb wn status rose ends outcome alike (inl settled) = of_ends old new rb rn wb wn got
+    outcome status (alike settled) ends
 comes_at got old new rb rn wb wn status rose ends outcome alike (inr h) =
     of_outside old new rb rn wb wn h.0 outcome status
     (λ s. h.2 (subst IsSettled (sym h.1) s)) (λ f. rose (subst IsReadFault (sym h.1) f))
@@ -101,19 +106,23 @@ comes_at got old new rb rn wb wn status rose ends outcome alike (inr h) =
 
 -- the program comes to each outcome that is like its own, where its own is settled
 pub comes : (got : Result Done Trouble) (old new : Option (List ℕ)) (rb rn wb wn status : ℕ) → (IsReadFault got → Rose rb rn)
-    → EndsWith old new wb wn got status → (outcome : Result Done Trouble) → (IsSettled got → AreAlike got outcome) → ComesTo outcome rb rn wb wn status
-comes got old new rb rn wb wn status rose ends outcome alike = comes_at got old new rb rn wb wn status rose ends outcome alike (settled_or got)
+    → EndsWith old new wb wn got status → (outcome : Result Done Trouble) → (IsSettled got → AreAlike got outcome)
+    → ComesTo outcome rb rn wb wn status
+comes got old new rb rn wb wn status rose ends outcome alike = comes_at got old new rb rn wb wn status rose ends
+    outcome alike (settled_or got)
 
 pub comes_to : OneDue → (texts : Option (List (List ℕ × List ℕ))) (count : ℕ) (words : List (List ℕ)) (got : Result Done Trouble)
     (old new : Option (List ℕ)) (rb rn wb wn status : ℕ)
-    → (IsSettled got → IfSome texts (λ told. IsDue told count words got)) → (IsReadFault got → Rose rb rn) → EndsWith old new wb wn got status
+    → (IsSettled got → IfSome texts (λ told. IsDue told count words got)) → (IsReadFault got → Rose rb rn)
+    → EndsWith old new wb wn got status
     → (outcome : Result Done Trouble) → IfSome texts (λ told. IsDue told count words outcome → ComesTo outcome rb rn wb wn status)
 comes_to law None count words got old new rb rn wb wn status due rose ends outcome = tt
 comes_to law (Some told) count words got old new rb rn wb wn status due rose ends outcome =
     λ is. comes got old new rb rn wb wn status rose ends outcome (λ settled. law told count words got outcome (due settled) is)
 
 -- where no count of faults rose
-pub steady : (outcome : Result Done Trouble) (rb rn wb wn status : ℕ) → (Rose rb rn → ⊥) → (Rose wb wn → ⊥) → ComesTo outcome rb rn wb wn status
+pub steady : (outcome : Result Done Trouble) (rb rn wb wn status : ℕ) → (Rose rb rn → ⊥) → (Rose wb wn → ⊥)
+    → ComesTo outcome rb rn wb wn status
     → HasStatus outcome status ⊎ (status ≡ 9)
 steady outcome rb rn wb wn status reads writes (inl h) = inl h
 steady outcome rb rn wb wn status reads writes (inr (inl h)) = absurd (writes h.1)
@@ -121,7 +130,8 @@ steady outcome rb rn wb wn status reads writes (inr (inr (inl h))) = absurd (rea
 steady outcome rb rn wb wn status reads writes (inr (inr (inr h))) = inr h
 
 pub comes_to_its_own : (texts : Option (List (List ℕ × List ℕ))) (count : ℕ) (words : List (List ℕ)) (rb rn wb wn status : ℕ)
-    → ((outcome : Result Done Trouble) → IfSome texts (λ told. IsDue told count words outcome → ComesTo outcome rb rn wb wn status))
+    → ((outcome : Result Done Trouble) → IfSome texts (λ told. IsDue told count words outcome → ComesTo outcome rb rn
+    wb wn status))
     → (Rose rb rn → ⊥) → (Rose wb wn → ⊥) → (outcome : Result Done Trouble)
     → IfSome texts (λ told. IsDue told count words outcome → HasStatus outcome status ⊎ (status ≡ 9))
 comes_to_its_own None count words rb rn wb wn status exact reads writes outcome = tt
@@ -131,7 +141,8 @@ comes_to_its_own (Some told) count words rb rn wb wn status exact reads writes o
 -- its own status, where no count of faults rose
 own_at : (got : Result Done Trouble) (old new : Option (List ℕ)) (rb rn wb wn status : ℕ) → (IsReadFault got → Rose rb rn)
     → EndsWith old new wb wn got status → (Rose rb rn → ⊥) → (Rose wb wn → ⊥)
-    → IsSettled got ⊎ ((e : Trouble) × (got ≡ Err e) × (IsSettled got → ⊥)) → (IsSettled got × (status ≡ status_of got)) ⊎ (status ≡ 9)
+    → IsSettled got ⊎ ((e : Trouble) × (got ≡ Err e) × (IsSettled got → ⊥)) →
+    (IsSettled got × (status ≡ status_of got)) ⊎ (status ≡ 9)
 own_at got old new rb rn wb wn status rose (inl h) reads writes (inl settled) = inl (settled, h.0)
 own_at got old new rb rn wb wn status rose (inr (inl h)) reads writes (inl settled) = absurd (writes h.1)
 own_at got old new rb rn wb wn status rose (inr (inr h)) reads writes (inl settled) = inr h.0
@@ -154,5 +165,7 @@ own_at got old new rb rn wb wn status rose ends reads writes (inr h) =
     nine (inr (inr (inr is))) = inr is
 
 pub own_status : (got : Result Done Trouble) (old new : Option (List ℕ)) (rb rn wb wn status : ℕ) → (IsReadFault got → Rose rb rn)
-    → EndsWith old new wb wn got status → (Rose rb rn → ⊥) → (Rose wb wn → ⊥) → (IsSettled got × (status ≡ status_of got)) ⊎ (status ≡ 9)
-own_status got old new rb rn wb wn status rose ends reads writes = own_at got old new rb rn wb wn status rose ends reads writes (settled_or got)
+    → EndsWith old new wb wn got status → (Rose rb rn → ⊥) → (Rose wb wn → ⊥) →
+    (IsSettled got × (status ≡ status_of got)) ⊎ (status ≡ 9)
+own_status got old new rb rn wb wn status rose ends reads writes = own_at got old new rb rn wb wn status rose ends
+    reads writes (settled_or got)

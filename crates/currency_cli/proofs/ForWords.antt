@@ -8,8 +8,10 @@ use Rattle.command_stages.specs.declared.done.Done.{Done}
 use Rattle.command_stages.specs.declared.trouble.Trouble.{Trouble}
 use Rattle.command_stages.specs.declared.trouble.Trouble.TheVariants as trouble
 
-pub due_for_words : (texts : Option (List (List ℕ × List ℕ))) (count : ℕ) (words : List (List ℕ)) (c : CommandSaid) (outcome : Result Done Trouble)
-    → command_for count words ≡ Some c → IfSome texts (λ told. IsDueFor told c outcome) → IfSome texts (λ told. IsDue told count words outcome)
+pub due_for_words : (texts : Option (List (List ℕ × List ℕ))) (count : ℕ) (words : List (List ℕ)) (c : CommandSaid)
+    (outcome : Result Done Trouble)
+    → command_for count words ≡ Some c → IfSome texts (λ told. IsDueFor told c outcome) → IfSome texts
+    (λ told. IsDue told count words outcome)
 due_for_words None count words c outcome said due = tt
 due_for_words (Some told) count words c outcome said due =
     subst (λ (o : Option CommandSaid). MatchOption o (outcome ≡ Err trouble.Words) (λ c. IsDueFor told c outcome)) (sym said) due
@@ -20,13 +22,16 @@ refused_words None count words outcome said is = tt
 refused_words (Some told) count words outcome said is =
     subst (λ (o : Option CommandSaid). MatchOption o (outcome ≡ Err trouble.Words) (λ c. IsDueFor told c outcome)) (sym said) is
 
-pub read_due_for_words : (texts : Option (List (List ℕ × List ℕ))) (count : ℕ) (words : List (List ℕ)) (c : CommandSaid) (name : List ℕ)
-    → command_for count words ≡ Some c → IfSome texts (λ told. IsDocumentDue told c name) → IfSome texts (λ told. IsReadDue told count words name)
+pub read_due_for_words : (texts : Option (List (List ℕ × List ℕ))) (count : ℕ) (words : List (List ℕ))
+    (c : CommandSaid) (name : List ℕ)
+    → command_for count words ≡ Some c → IfSome texts (λ told. IsDocumentDue told c name) → IfSome texts
+    (λ told. IsReadDue told count words name)
 read_due_for_words None count words c name said due = tt
 read_due_for_words (Some told) count words c name said due =
     subst (λ (o : Option CommandSaid). MatchOption o ⊥ (λ c. IsDocumentDue told c name)) (sym said) due
 
-pub told_for_words : (texts : Option (List (List ℕ × List ℕ))) (count : ℕ) (words : List (List ℕ)) (c : CommandSaid) (outcome : Result Done Trouble)
+pub told_for_words : (texts : Option (List (List ℕ × List ℕ))) (count : ℕ) (words : List (List ℕ)) (c : CommandSaid)
+    (outcome : Result Done Trouble)
     → command_for count words ≡ Some c → IfOk outcome (λ d. IfSome texts (λ told. IsTold told c d))
     → IfOk outcome (λ d. IsToldFor texts count words d)
 told_for_words texts count words c (Ok d) said told = record { command = c; said = said; told = told }

@@ -3,6 +3,8 @@ use Rattle.std.proofs.Common.{◌≡◌, ◌∙◌, ℕ, List, Option, Some, Non
 use Rattle.std.specs.Io.KnownBytes.{Appends}
 use Rattle.ask_command.proofs.Jobs as ask
 use Rattle.command_stages.specs.Endings.{ending_status}
+use Rattle.conflicts_command.proofs.Jobs as conflicts
+use Rattle.explain_command.proofs.Jobs as explain
 use Rattle.command_stages.specs.Texts.{trouble_status}
 use Rattle.command_stages.specs.declared.done.Done.{Done}
 use Rattle.command_stages.specs.declared.done.Ending.{Ending}
@@ -15,7 +17,7 @@ use Rattle.currency_cli.specs.Told.{IsTold, IsToldFor}
 use Rattle.currency_edge.specs.Fault.{Rose}
 use Rattle.currency_edge.specs.Sink.{AppendsPrefix}
 use Rattle.forced_command.specs.Forced.{AreForcedListed}
-use Rattle.program_words.specs.Words.{CommandSaid, AskFor, VerifyOf, ForcedOf, TrialOf}
+use Rattle.program_words.specs.Words.{CommandSaid, AskFor, VerifyOf, ForcedOf, TrialOf, ExplainFor, ConflictsIn}
 use Rattle.trial_command.proofs.Replies as trial
 
 -- ---- the text
@@ -55,12 +57,14 @@ done_not_seven d h = by d.ending h
     by ending.Decided h = omega (arith, h)
     by ending.Undecided h = omega (arith, h)
 
-pub done_reads : (old new : Option (List ℕ)) (wb wn : ℕ) (d : Done) (status : ℕ) → EndsWith old new wb wn (Ok d) status → status ≡ 7 → ⊥
+pub done_reads : (old new : Option (List ℕ)) (wb wn : ℕ) (d : Done) (status : ℕ) → EndsWith old new wb wn
+    (Ok d) status → status ≡ 7 → ⊥
 done_reads old new wb wn d status (inl h) seven = done_not_seven d (sym h.0 ∙ seven)
 done_reads old new wb wn d status (inr (inl h)) seven = omega (arith, h.0, seven)
 done_reads old new wb wn d status (inr (inr h)) seven = omega (arith, h.0, seven)
 
-pub sink_failed : (old new : Option (List ℕ)) (wb wn : ℕ) (d : Done) (status : ℕ) → EndsWith old new wb wn (Ok d) status → status ≡ 8 → Rose wb wn
+pub sink_failed : (old new : Option (List ℕ)) (wb wn : ℕ) (d : Done) (status : ℕ) → EndsWith old new wb wn
+    (Ok d) status → status ≡ 8 → Rose wb wn
 sink_failed old new wb wn d status (inl h) eight = absurd (done_not_eight d (sym h.0 ∙ eight))
 sink_failed old new wb wn d status (inr (inl h)) eight = h.1
 sink_failed old new wb wn d status (inr (inr h)) eight = absurd (omega (arith, h.0, eight))
@@ -99,51 +103,80 @@ refusal_not old new wb wn e status k (inl h) other nine is = other (sym h.0 ∙ 
 refusal_not old new wb wn e status k (inr (inl h)) other nine is = other (sym h.0 ∙ is)
 refusal_not old new wb wn e status k (inr (inr h)) other nine is = nine (sym h.0 ∙ is)
 
-pub refusal_not_zero : (old new : Option (List ℕ)) (wb wn : ℕ) (e : Trouble) (status : ℕ) → EndsWith old new wb wn (Err e) status → status ≡ 0 → ⊥
+pub refusal_not_zero : (old new : Option (List ℕ)) (wb wn : ℕ) (e : Trouble) (status : ℕ) → EndsWith old new wb wn
+    (Err e) status → status ≡ 0 → ⊥
 refusal_not_zero old new wb wn e status ends = refusal_not old new wb wn e status 0 ends (no_zero e) (λ h. omega (arith, h))
 
-pub refusal_not_three : (old new : Option (List ℕ)) (wb wn : ℕ) (e : Trouble) (status : ℕ) → EndsWith old new wb wn (Err e) status → status ≡ 3 → ⊥
+pub refusal_not_three : (old new : Option (List ℕ)) (wb wn : ℕ) (e : Trouble) (status : ℕ) → EndsWith old new wb wn
+    (Err e) status → status ≡ 3 → ⊥
 refusal_not_three old new wb wn e status ends = refusal_not old new wb wn e status 3 ends (no_three e) (λ h. omega (arith, h))
 
-pub refusal_not_eight : (old new : Option (List ℕ)) (wb wn : ℕ) (e : Trouble) (status : ℕ) → EndsWith old new wb wn (Err e) status → status ≡ 8 → ⊥
+pub refusal_not_eight : (old new : Option (List ℕ)) (wb wn : ℕ) (e : Trouble) (status : ℕ) → EndsWith old new wb wn
+    (Err e) status → status ≡ 8 → ⊥
 refusal_not_eight old new wb wn e status ends = refusal_not old new wb wn e status 8 ends (no_eight e) (λ h. omega (arith, h))
 
 -- ---- status 0
 
-job_at : (told : List (List ℕ × List ℕ)) (c : CommandSaid) (d : Done) → status_of (Ok d) ≡ 0 → IsTold told c d → IsJobDone told c (output_of (Ok d))
+job_at : (told : List (List ℕ × List ℕ)) (c : CommandSaid) (d : Done) → status_of (Ok d) ≡ 0 → IsTold told c d
+    → IsJobDone told c (output_of (Ok d))
 job_at told (VerifyOf v) d zero h = (h.0, h.1, ap (λ (x : Done). x.text) h.2)
 job_at told (AskFor a) d zero h = ask.decided_told told a d.text d.ending zero h
 job_at told (ForcedOf name) d zero h = subst (AreForcedListed told name) (sym (ap (λ (x : Done). x.text) h.2)) h.1
 job_at told (TrialOf size) d zero h = trial.decided_told size d.text d.ending zero h
+job_at told (ExplainFor e) d zero h = explain.decided_told told e d.text d.ending zero h
+job_at told (ConflictsIn c) d zero h = conflicts.decided_told told c d.text d.ending zero h
 
-job : (texts : Option (List (List ℕ × List ℕ))) (c : CommandSaid) (d : Done) → status_of (Ok d) ≡ 0 → IfSome texts (λ told. IsTold told c d)
+job : (texts : Option (List (List ℕ × List ℕ))) (c : CommandSaid) (d : Done) → status_of (Ok d) ≡ 0 → IfSome texts
+    (λ told. IsTold told c d)
     → IfSome texts (λ told. IsJobDone told c (output_of (Ok d)))
 job None c d zero h = tt
 job (Some told) c d zero h = job_at told c d zero h
 
-pub is_done : (texts : Option (List (List ℕ × List ℕ))) (count : ℕ) (words : List (List ℕ)) (old new : Option (List ℕ)) (wb wn : ℕ) (d : Done) (status : ℕ)
+pub is_done : (texts : Option (List (List ℕ × List ℕ))) (count : ℕ) (words : List (List ℕ))
+    (old new : Option (List ℕ)) (wb wn : ℕ) (d : Done) (status : ℕ)
     → IsToldFor texts count words d → EndsWith old new wb wn (Ok d) status → status ≡ 0 → IsDone texts count words old new
 is_done texts count words old new wb wn d status t ends zero =
     let ended : (status ≡ status_of (Ok d)) × Appends old new (output_of (Ok d)) =
-    written old new wb wn d status ends (not_at status 0 8 zero (λ h. omega (arith, h))) (not_at status 0 9 zero (λ h. omega (arith, h))) in
-    record { command = t.command; said = t.said; text = output_of (Ok d); done = job texts t.command d (sym ended.0 ∙ zero) t.told; written = ended.1 }
+    written old new wb wn d status ends (not_at status 0 8 zero (λ h. omega (arith, h)))
+    (not_at status 0 9 zero (λ h. omega (arith, h))) in
+    record {
+      command = t.command;
+      said = t.said;
+      text = output_of (Ok d);
+      done = job texts t.command d
+          (sym ended.0 ∙ zero) t.told;
+      written = ended.1;
+    }
 
 -- ---- status 3
 
-spent_at : (told : List (List ℕ × List ℕ)) (c : CommandSaid) (d : Done) → status_of (Ok d) ≡ 3 → IsTold told c d → IsSpent told c (output_of (Ok d))
+spent_at : (told : List (List ℕ × List ℕ)) (c : CommandSaid) (d : Done) → status_of (Ok d) ≡ 3 → IsTold told c d
+    → IsSpent told c (output_of (Ok d))
 spent_at told (AskFor a) d three h = ask.spent_told told a d.text d.ending three h
 spent_at told (VerifyOf v) d three h = absurd (omega (arith, three, ap (λ (x : Done). ending_status x.ending) h.2))
 spent_at told (ForcedOf name) d three h = absurd (omega (arith, three, ap (λ (x : Done). ending_status x.ending) h.2))
 spent_at told (TrialOf size) d three h = trial.spent_told size d.text d.ending three h
+spent_at told (ExplainFor e) d three h = explain.spent_told told e d.text d.ending three h
+spent_at told (ConflictsIn c) d three h = conflicts.spent_told told c d.text d.ending three h
 
-spent : (texts : Option (List (List ℕ × List ℕ))) (c : CommandSaid) (d : Done) → status_of (Ok d) ≡ 3 → IfSome texts (λ told. IsTold told c d)
+spent : (texts : Option (List (List ℕ × List ℕ))) (c : CommandSaid) (d : Done) → status_of (Ok d) ≡ 3 → IfSome texts
+    (λ told. IsTold told c d)
     → IfSome texts (λ told. IsSpent told c (output_of (Ok d)))
 spent None c d three h = tt
 spent (Some told) c d three h = spent_at told c d three h
 
-pub is_undecided : (texts : Option (List (List ℕ × List ℕ))) (count : ℕ) (words : List (List ℕ)) (old new : Option (List ℕ)) (wb wn : ℕ) (d : Done) (status : ℕ)
+pub is_undecided : (texts : Option (List (List ℕ × List ℕ))) (count : ℕ) (words : List (List ℕ))
+    (old new : Option (List ℕ)) (wb wn : ℕ) (d : Done) (status : ℕ)
     → IsToldFor texts count words d → EndsWith old new wb wn (Ok d) status → status ≡ 3 → IsUndecided texts count words old new
 is_undecided texts count words old new wb wn d status t ends three =
     let ended : (status ≡ status_of (Ok d)) × Appends old new (output_of (Ok d)) =
-    written old new wb wn d status ends (not_at status 3 8 three (λ h. omega (arith, h))) (not_at status 3 9 three (λ h. omega (arith, h))) in
-    record { command = t.command; said = t.said; text = output_of (Ok d); told = spent texts t.command d (sym ended.0 ∙ three) t.told; written = ended.1 }
+    written old new wb wn d status ends (not_at status 3 8 three (λ h. omega (arith, h)))
+    (not_at status 3 9 three (λ h. omega (arith, h))) in
+    record {
+      command = t.command;
+      said = t.said;
+      text = output_of (Ok d);
+      told = spent texts t.command d
+          (sym ended.0 ∙ three) t.told;
+      written = ended.1;
+    }

@@ -1,5 +1,6 @@
 pub mod TrialTold
 pub mod Exact
+mod Explains
 pub mod ForWords
 pub mod InRange
 pub mod JobsDone

@@ -8,11 +8,13 @@ use Rattle.command_stages.specs.Stages.{IsSpecRead, IsQuestionRead}
 use Rattle.command_stages.specs.declared.done.Done.{Done}
 use Rattle.command_stages.specs.declared.trouble.Trouble.{Trouble}
 use Rattle.command_stages.specs.declared.trouble.Trouble.TheVariants as trouble
+use Rattle.conflicts_command.proofs.Replies.{conflicts_like}
 use Rattle.currency_cli.specs.Due.{IsDueFor, IsDue}
 use Rattle.currency_cli.specs.Words.{command_for}
+use Rattle.explain_command.proofs.Replies.{explain_like}
 use Rattle.forced_command.proofs.Replies.{forced_like}
 use Rattle.spec_model.specs.declared.relation.Relation.{Relation}
-use Rattle.program_words.specs.Words.{VerifySaid, CommandSaid, AskFor, VerifyOf, ForcedOf, TrialOf}
+use Rattle.program_words.specs.Words.{VerifySaid, CommandSaid, AskFor, VerifyOf, ForcedOf, TrialOf, ExplainFor, ConflictsIn}
 use Rattle.trial_command.proofs.Replies.{trial_like}
 use Rattle.trial_documents.specs.Documents.{documents}
 use Rattle.verify_command.specs.Judged.{IsVerifyDue}
@@ -20,7 +22,8 @@ use Rattle.verify_command.specs.Judged.{IsVerifyDue}
 -- what the layers below say of one reading, and of one judgement
 pub record Laws : Type 0 where
   pub specs : (told : List (List ℕ × List ℕ)) (name : List ℕ) → IsOne (IsSpecRead told name)
-  pub questions : (told : List (List ℕ × List ℕ)) (relations : List Relation) (name : List ℕ) → IsOne (IsQuestionRead told relations name)
+  pub questions : (told : List (List ℕ × List ℕ)) (relations : List Relation) (name : List ℕ)
+      → IsOne (IsQuestionRead told relations name)
   pub verdicts : (told : List (List ℕ × List ℕ)) (v : VerifySaid) → IsOne (IsVerifyDue told v)
 
 for_command : Laws → (told : List (List ℕ × List ℕ)) (c : CommandSaid) → IsLike (IsDueFor told c)
@@ -28,9 +31,12 @@ for_command laws told (VerifyOf v) a b h k = same_alike a b (laws.verdicts told 
 for_command laws told (AskFor q) a b h k = ask_like laws.specs laws.questions told q a b h k
 for_command laws told (ForcedOf name) a b h k = forced_like laws.specs told name a b h k
 for_command laws told (TrialOf size) a b h k = trial_like laws.specs laws.questions (documents size) size a b h k
+for_command laws told (ExplainFor e) a b h k = explain_like laws.specs laws.questions told e a b h k
+for_command laws told (ConflictsIn c) a b h k = conflicts_like laws.specs told c a b h k
 
 for_words : Laws → (told : List (List ℕ × List ℕ)) (o : Option CommandSaid) (a b : Result Done Trouble)
-    → MatchOption o (a ≡ Err trouble.Words) (λ c. IsDueFor told c a) → MatchOption o (b ≡ Err trouble.Words) (λ c. IsDueFor told c b) → AreAlike a b
+    → MatchOption o (a ≡ Err trouble.Words) (λ c. IsDueFor told c a) → MatchOption o (b ≡ Err trouble.Words)
+    (λ c. IsDueFor told c b) → AreAlike a b
 for_words laws told None a b h k = same_alike a b (h ∙ sym k)
 for_words laws told (Some c) a b h k = for_command laws told c a b h k
 

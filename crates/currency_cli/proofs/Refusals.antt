@@ -22,10 +22,12 @@ other status k is two four five six (inr (inr (inl h))) = omega arith
 other status k is two four five six (inr (inr (inr h))) = omega arith
 
 -- the outcome's status is the one of its trouble, where it is that of a refusal
-its_own : (old new : Option (List ℕ)) (wb wn : ℕ) (e : Trouble) (status : ℕ) → EndsWith old new wb wn (Err e) status → IsRefusal status → status ≡ trouble_status e
+its_own : (old new : Option (List ℕ)) (wb wn : ℕ) (e : Trouble) (status : ℕ) → EndsWith old new wb wn (Err e) status
+    → IsRefusal status → status ≡ trouble_status e
 its_own old new wb wn e status (inl h) refusal = h.0
 its_own old new wb wn e status (inr (inl h)) refusal = h.0
-its_own old new wb wn e status (inr (inr h)) refusal = absurd (other status 9 h.0 (omega arith) (omega arith) (omega arith) (omega arith) refusal)
+its_own old new wb wn e status (inr (inr h)) refusal = absurd (other status 9 h.0 (omega arith) (omega arith)
+    (omega arith) (omega arith) refusal)
 
 -- what is done has another status
 not_done : (e : Ending) (status : ℕ) → status ≡ ending_status e → IsRefusal status → ⊥
@@ -33,10 +35,13 @@ not_done ending.Told status is refusal = other status 0 is (omega arith) (omega 
 not_done ending.Decided status is refusal = other status 0 is (omega arith) (omega arith) (omega arith) (omega arith) refusal
 not_done ending.Undecided status is refusal = other status 3 is (omega arith) (omega arith) (omega arith) (omega arith) refusal
 
-done_not_refused : (old new : Option (List ℕ)) (wb wn : ℕ) (d : Done) (status : ℕ) → EndsWith old new wb wn (Ok d) status → IsRefusal status → ⊥
+done_not_refused : (old new : Option (List ℕ)) (wb wn : ℕ) (d : Done) (status : ℕ) → EndsWith old new wb wn
+    (Ok d) status → IsRefusal status → ⊥
 done_not_refused old new wb wn d status (inl h) refusal = not_done d.ending status h.0 refusal
-done_not_refused old new wb wn d status (inr (inl h)) refusal = other status 8 h.0 (omega arith) (omega arith) (omega arith) (omega arith) refusal
-done_not_refused old new wb wn d status (inr (inr h)) refusal = other status 9 h.0 (omega arith) (omega arith) (omega arith) (omega arith) refusal
+done_not_refused old new wb wn d status (inr (inl h)) refusal = other status 8 h.0 (omega arith) (omega arith)
+    (omega arith) (omega arith) refusal
+done_not_refused old new wb wn d status (inr (inr h)) refusal = other status 9 h.0 (omega arith) (omega arith)
+    (omega arith) (omega arith) refusal
 
 -- a trouble whose status is that of a refusal is settled
 is_settled : (e : Trouble) → IsRefusal (trouble_status e) → IsSettled {A = Done} (Err e)
@@ -48,15 +53,18 @@ is_settled (trouble.Limit k) refusal = tt
 is_settled (trouble.ReadFault name) refusal = other 7 7 refl (omega arith) (omega arith) (omega arith) (omega arith) refusal
 is_settled trouble.NoMemory refusal = other 9 9 refl (omega arith) (omega arith) (omega arith) (omega arith) refusal
 
-due_of : (texts : Option (List (List ℕ × List ℕ))) (count : ℕ) (words : List (List ℕ)) (e : Trouble) (status : ℕ) → status ≡ trouble_status e
+due_of : (texts : Option (List (List ℕ × List ℕ))) (count : ℕ) (words : List (List ℕ)) (e : Trouble) (status : ℕ)
+    → status ≡ trouble_status e
     → IfSome texts (λ told. IsDue told count words (Err e)) → IfSome texts (λ told. RefusalDue told count words status)
 due_of None count words e status is due = tt
 due_of (Some told) count words e status is due = (e, due, is)
 
-pub refused : (texts : Option (List (List ℕ × List ℕ))) (count : ℕ) (words : List (List ℕ)) (got : Result Done Trouble) (old new : Option (List ℕ)) (wb wn status : ℕ)
+pub refused : (texts : Option (List (List ℕ × List ℕ))) (count : ℕ) (words : List (List ℕ))
+    (got : Result Done Trouble) (old new : Option (List ℕ)) (wb wn status : ℕ)
     → (IsSettled got → IfSome texts (λ told. IsDue told count words got)) → EndsWith old new wb wn got status
     → IsRefusal status → IfSome texts (λ told. RefusalDue told count words status)
-refused texts count words (Ok d) old new wb wn status due ends refusal = absurd (done_not_refused old new wb wn d status ends refusal)
+refused texts count words (Ok d) old new wb wn status due ends refusal =
+    absurd (done_not_refused old new wb wn d status ends refusal)
 refused texts count words (Err e) old new wb wn status due ends refusal =
     let is = its_own old new wb wn e status ends refusal in
     due_of texts count words e status is (due (is_settled e (subst IsRefusal is refusal)))
@@ -64,12 +72,14 @@ refused texts count words (Err e) old new wb wn status due ends refusal =
 -- ---- the words
 
 -- words that are refused end with 2, unless memory ran out
-ends_refused : (old new : Option (List ℕ)) (wb wn status : ℕ) → EndsWith old new wb wn (Err trouble.Words) status → (status ≡ 2) ⊎ (status ≡ 9)
+ends_refused : (old new : Option (List ℕ)) (wb wn status : ℕ) → EndsWith old new wb wn (Err trouble.Words) status →
+    (status ≡ 2) ⊎ (status ≡ 9)
 ends_refused old new wb wn status (inl h) = inl h.0
 ends_refused old new wb wn status (inr (inl h)) = inl h.0
 ends_refused old new wb wn status (inr (inr h)) = inr h.0
 
-ends_without_memory : (old new : Option (List ℕ)) (wb wn status : ℕ) → EndsWith old new wb wn (Err trouble.NoMemory) status → (status ≡ 2) ⊎ (status ≡ 9)
+ends_without_memory : (old new : Option (List ℕ)) (wb wn status : ℕ) → EndsWith old new wb wn (Err trouble.NoMemory)
+    status → (status ≡ 2) ⊎ (status ≡ 9)
 ends_without_memory old new wb wn status (inl h) = inr h.0
 ends_without_memory old new wb wn status (inr (inl h)) = inr h.0
 ends_without_memory old new wb wn status (inr (inr h)) = inr h.0
@@ -91,10 +101,13 @@ of_two (trouble.Limit k) is = absurd (omega (arith, is))
 of_two (trouble.ReadFault name) is = absurd (omega (arith, is))
 of_two trouble.NoMemory is = absurd (omega (arith, is))
 
-pub are_words : (old new : Option (List ℕ)) (wb wn : ℕ) (e : Trouble) (status : ℕ) → EndsWith old new wb wn (Err e) status → status ≡ 2 → e ≡ trouble.Words
-are_words old new wb wn e status ends two = of_two e (subst (λ (n : ℕ). n ≡ 2) (its_own old new wb wn e status ends (inl two)) two)
+pub are_words : (old new : Option (List ℕ)) (wb wn : ℕ) (e : Trouble) (status : ℕ) → EndsWith old new wb wn
+    (Err e) status → status ≡ 2 → e ≡ trouble.Words
+are_words old new wb wn e status ends two = of_two e
+    (subst (λ (n : ℕ). n ≡ 2) (its_own old new wb wn e status ends (inl two)) two)
 
-pub done_not_two : (old new : Option (List ℕ)) (wb wn : ℕ) (d : Done) (status : ℕ) → EndsWith old new wb wn (Ok d) status → status ≡ 2 → ⊥
+pub done_not_two : (old new : Option (List ℕ)) (wb wn : ℕ) (d : Done) (status : ℕ) → EndsWith old new wb wn
+    (Ok d) status → status ≡ 2 → ⊥
 done_not_two old new wb wn d status ends two = done_not_refused old new wb wn d status ends (inl two)
 
 -- ---- a document that could not be read
@@ -116,10 +129,12 @@ not_nine old new wb wn e status (inl h) seven = sym h.0 ∙ seven
 not_nine old new wb wn e status (inr (inl h)) seven = sym h.0 ∙ seven
 not_nine old new wb wn e status (inr (inr h)) seven = absurd (omega (arith, h.0, seven))
 
-unread_at : (texts : Option (List (List ℕ × List ℕ))) (count : ℕ) (words : List (List ℕ)) (e : Trouble) (old new : Option (List ℕ))
+unread_at : (texts : Option (List (List ℕ × List ℕ))) (count : ℕ) (words : List (List ℕ)) (e : Trouble)
+    (old new : Option (List ℕ))
     → ((n : List ℕ) → IsReadFaultOf {A = Done} (Err e) n → IfSome texts (λ told. IsReadDue told count words n))
     → trouble_status e ≡ 7 → AppendsPrefix old new (trouble_text e) → NamesUnread texts count words old new
-unread_at texts count words (trouble.ReadFault name) old new due seven text = record { name = name; due = due name refl; text = text }
+unread_at texts count words (trouble.ReadFault name) old new due seven text =
+    record { name = name; due = due name refl; text = text }
 unread_at texts count words trouble.Words old new due seven text = absurd (omega (arith, seven))
 unread_at texts count words (trouble.Unshown c d l) old new due seven text = absurd (omega (arith, seven))
 unread_at texts count words (trouble.Refused c d l) old new due seven text = absurd (omega (arith, seven))
@@ -127,8 +142,10 @@ unread_at texts count words (trouble.CopyDiffers d l t s) old new due seven text
 unread_at texts count words (trouble.Limit k) old new due seven text = absurd (omega (arith, seven))
 unread_at texts count words trouble.NoMemory old new due seven text = absurd (omega (arith, seven))
 
-pub names_unread : (texts : Option (List (List ℕ × List ℕ))) (count : ℕ) (words : List (List ℕ)) (e : Trouble) (old new : Option (List ℕ)) (wb wn status : ℕ)
+pub names_unread : (texts : Option (List (List ℕ × List ℕ))) (count : ℕ) (words : List (List ℕ)) (e : Trouble)
+    (old new : Option (List ℕ)) (wb wn status : ℕ)
     → ((n : List ℕ) → IsReadFaultOf {A = Done} (Err e) n → IfSome texts (λ told. IsReadDue told count words n))
     → EndsWith old new wb wn (Err e) status → status ≡ 7 → NamesUnread texts count words old new
 names_unread texts count words e old new wb wn status due ends seven =
-    unread_at texts count words e old new due (not_nine old new wb wn e status ends seven) (ends_unread old new wb wn e status ends)
+    unread_at texts count words e old new due (not_nine old new wb wn e status ends seven)
+    (ends_unread old new wb wn e status ends)

@@ -7,6 +7,8 @@ use Rattle.command_stages.specs.Stages.{IsSpecRead, IsQuestionRead}
 use Rattle.command_stages.specs.declared.done.Done.{Done}
 use Rattle.command_stages.specs.declared.trouble.Trouble.{Trouble}
 use Rattle.command_stages.specs.declared.trouble.Trouble.TheVariants as trouble
+use Rattle.conflicts_command.proofs.Replies.{found_due, found_comes}
+use Rattle.conflicts_command.specs.Found.{IsConflictsDue}
 use Rattle.currency_cli.proofs.Exact.{own_status}
 use Rattle.currency_cli.specs.Due.{IsDue, IsDueFor}
 use Rattle.currency_cli.specs.Ends.{EndsWith}
@@ -14,9 +16,11 @@ use Rattle.command_stages.specs.Outcomes.{status_of}
 use Rattle.currency_cli.specs.Words.{command_for}
 use Rattle.currency_edge.specs.Fault.{Rose}
 use Rattle.currency_report.specs.declared.report.ReadReport.{ReadReport}
+use Rattle.currency_cli.proofs.Explains.{explanation_due, explanation_comes}
+use Rattle.explain_command.specs.Explained.{IsExplainDue}
 use Rattle.forced_command.proofs.Replies.{told_due}
 use Rattle.forced_command.specs.Forced.{IsForcedDue, IsForcedTold}
-use Rattle.program_words.specs.Words.{AskSaid, VerifySaid, CommandSaid, AskFor, VerifyOf, ForcedOf}
+use Rattle.program_words.specs.Words.{AskSaid, ConflictsSaid, ExplainSaid, VerifySaid, CommandSaid, AskFor, ConflictsIn, ExplainFor, VerifyOf, ForcedOf}
 use Rattle.report_model.specs.declared.verdict.Kind.{Kind}
 use Rattle.spec_model.specs.Spec.{Spec}
 use Rattle.spec_model.specs.declared.question.Question.{Question}
@@ -28,7 +32,8 @@ use Rattle.verify_command.specs.Judged.{IsVerifyDue, accepted}
 
 -- a document is read as one specification, as one question on the relations of one, and as one report
 abbrev pub OneSpec : Type 0
-OneSpec = (told : List (List ℕ × List ℕ)) (name : List ℕ) (a b : Result Spec Trouble) → IsSpecRead told name a → IsSpecRead told name b → a ≡ b
+OneSpec = (told : List (List ℕ × List ℕ)) (name : List ℕ) (a b : Result Spec Trouble) → IsSpecRead told name a
+    → IsSpecRead told name b → a ≡ b
 
 abbrev pub OneQuestion : Type 0
 OneQuestion = (told : List (List ℕ × List ℕ)) (relations : List Relation) (name : List ℕ) (a b : Result Question Trouble)
@@ -45,24 +50,31 @@ ask_due : (told : List (List ℕ × List ℕ)) (count : ℕ) (words : List (List
 ask_due told count words a got said due =
     subst (λ (o : Option CommandSaid). MatchOption o (got ≡ Err trouble.Words) (λ c. IsDueFor told c got)) said due
 
-pub answered : OneSpec → OneQuestion → (texts : Option (List (List ℕ × List ℕ))) (count : ℕ) (words : List (List ℕ)) (got : Result Done Trouble)
+pub answered : OneSpec → OneQuestion → (texts : Option (List (List ℕ × List ℕ))) (count : ℕ) (words : List (List ℕ))
+    (got : Result Done Trouble)
     (old new : Option (List ℕ)) (rb rn wb wn status : ℕ)
-    → (IsSettled got → IfSome texts (λ told. IsDue told count words got)) → (IsReadFault got → Rose rb rn) → EndsWith old new wb wn got status
+    → (IsSettled got → IfSome texts (λ told. IsDue told count words got)) → (IsReadFault got → Rose rb rn)
+    → EndsWith old new wb wn got status
     → (Rose rb rn → ⊥) → (Rose wb wn → ⊥) → (a : AskSaid) → command_for count words ≡ Some (AskFor a) → (s : Spec) (q : Question)
-    → IfSome texts (λ told. IsSpecRead told a.spec (Ok s) → IsQuestionRead told s.relations a.question (Ok q) → ComesToAnswer s q status)
+    → IfSome texts (λ told. IsSpecRead told a.spec (Ok s) → IsQuestionRead told s.relations a.question (Ok q)
+    → ComesToAnswer s q status)
 answered one_spec one_question None count words got old new rb rn wb wn status due rose ends reads writes a said s q = tt
-answered one_spec one_question (Some told) count words got old new rb rn wb wn status due rose ends reads writes a said s q = λ spec question.
+answered one_spec one_question (Some told) count words got old new rb rn wb wn status due rose ends reads writes a
+    said s q = λ spec question.
     of spec question (own_status got old new rb rn wb wn status rose ends reads writes)
   where
-    of : IsSpecRead told a.spec (Ok s) → IsQuestionRead told s.relations a.question (Ok q) → (IsSettled got × (status ≡ status_of got)) ⊎ (status ≡ 9)
+    of : IsSpecRead told a.spec (Ok s) → IsQuestionRead told s.relations a.question (Ok q) →
+        (IsSettled got × (status ≡ status_of got)) ⊎ (status ≡ 9)
         → ComesToAnswer s q status
     of spec question (inl own) =
-        answer_comes s a q got status (answer_due one_spec one_question told a s q got spec question (ask_due told count words a got said (due own.0))) own.1
+        answer_comes s a q got status (answer_due one_spec one_question told a s q got spec question
+        (ask_due told count words a got said (due own.0))) own.1
     of spec question (inr nine) = inr (inr (inr nine))
 
 -- ---- verify
 
-judged_comes : (s : Spec) (q : Question) (name : List ℕ) (r : ReadReport) (judged : Result Kind Trouble) (got : Result Done Trouble) (status : ℕ)
+judged_comes : (s : Spec) (q : Question) (name : List ℕ) (r : ReadReport) (judged : Result Kind Trouble)
+    (got : Result Done Trouble) (status : ℕ)
     → IsJudged s q name r judged → got ≡ accepted judged → status ≡ status_of got → (status ≡ 0) ⊎ ((status ≡ 4) ⊎ (status ≡ 9))
 judged_comes s q name r judged got status (inl h) same is =
     inl (is ∙ ap (λ (o : Result Done Trouble). status_of o) (same ∙ ap accepted h.1))
@@ -74,20 +86,28 @@ verify_due : (told : List (List ℕ × List ℕ)) (count : ℕ) (words : List (L
 verify_due told count words v got said due =
     subst (λ (o : Option CommandSaid). MatchOption o (got ≡ Err trouble.Words) (λ c. IsDueFor told c got)) said due
 
-pub verified : OneSpec → OneQuestion → OneReport → (texts : Option (List (List ℕ × List ℕ))) (count : ℕ) (words : List (List ℕ)) (got : Result Done Trouble)
+pub verified : OneSpec → OneQuestion → OneReport → (texts : Option (List (List ℕ × List ℕ))) (count : ℕ)
+    (words : List (List ℕ)) (got : Result Done Trouble)
     (old new : Option (List ℕ)) (rb rn wb wn status : ℕ)
-    → (IsSettled got → IfSome texts (λ told. IsDue told count words got)) → (IsReadFault got → Rose rb rn) → EndsWith old new wb wn got status
-    → (Rose rb rn → ⊥) → (Rose wb wn → ⊥) → (v : VerifySaid) → command_for count words ≡ Some (VerifyOf v) → (s : Spec) (q : Question) (r : ReadReport)
-    → IfSome texts (λ told. IsSpecRead told v.spec (Ok s) → IsQuestionRead told s.relations v.question (Ok q) → IsReportRead told s.relations v.report (Ok r)
+    → (IsSettled got → IfSome texts (λ told. IsDue told count words got)) → (IsReadFault got → Rose rb rn)
+    → EndsWith old new wb wn got status
+    → (Rose rb rn → ⊥) → (Rose wb wn → ⊥) → (v : VerifySaid) → command_for count words ≡ Some (VerifyOf v) →
+    (s : Spec) (q : Question) (r : ReadReport)
+    → IfSome texts (λ told. IsSpecRead told v.spec (Ok s) → IsQuestionRead told s.relations v.question (Ok q)
+    → IsReportRead told s.relations v.report (Ok r)
     → (status ≡ 0) ⊎ ((status ≡ 4) ⊎ (status ≡ 9)))
-verified one_spec one_question one_report None count words got old new rb rn wb wn status due rose ends reads writes v said s q r = tt
-verified one_spec one_question one_report (Some told) count words got old new rb rn wb wn status due rose ends reads writes v said s q r = λ spec question report.
+verified one_spec one_question one_report None count words got old new rb rn wb wn status due rose ends reads writes
+    v said s q r = tt
+verified one_spec one_question one_report (Some told) count words got old new rb rn wb wn status due rose ends reads
+    writes v said s q r = λ spec question report.
     of spec question report (own_status got old new rb rn wb wn status rose ends reads writes)
   where
-    of : IsSpecRead told v.spec (Ok s) → IsQuestionRead told s.relations v.question (Ok q) → IsReportRead told s.relations v.report (Ok r)
+    of : IsSpecRead told v.spec (Ok s) → IsQuestionRead told s.relations v.question (Ok q)
+        → IsReportRead told s.relations v.report (Ok r)
         → (IsSettled got × (status ≡ status_of got)) ⊎ (status ≡ 9) → (status ≡ 0) ⊎ ((status ≡ 4) ⊎ (status ≡ 9))
     of spec question report (inl own) =
-        let h = verify_judged one_spec one_question one_report told v s q r got spec question report (verify_due told count words v got said (due own.0)) in
+        let h = verify_judged one_spec one_question one_report told v s q r got spec question report
+        (verify_due told count words v got said (due own.0)) in
         judged_comes s q v.report r h.0 got status h.1 h.2 own.1
     of spec question report (inr nine) = inr (inr nine)
 
@@ -100,7 +120,8 @@ forced_due told count words name got said due =
 
 pub listed : OneSpec → (texts : Option (List (List ℕ × List ℕ))) (count : ℕ) (words : List (List ℕ)) (got : Result Done Trouble)
     (old new : Option (List ℕ)) (rb rn wb wn status : ℕ)
-    → (IsSettled got → IfSome texts (λ told. IsDue told count words got)) → (IsReadFault got → Rose rb rn) → EndsWith old new wb wn got status
+    → (IsSettled got → IfSome texts (λ told. IsDue told count words got)) → (IsReadFault got → Rose rb rn)
+    → EndsWith old new wb wn got status
     → (Rose rb rn → ⊥) → (Rose wb wn → ⊥) → (name : List ℕ) → command_for count words ≡ Some (ForcedOf name) → (s : Spec)
     → IfSome texts (λ told. IsSpecRead told name (Ok s) → (status ≡ 0) ⊎ (status ≡ 9))
 listed one_spec None count words got old new rb rn wb wn status due rose ends reads writes name said s = tt
@@ -109,6 +130,64 @@ listed one_spec (Some told) count words got old new rb rn wb wn status due rose 
   where
     of : IsSpecRead told name (Ok s) → (IsSettled got × (status ≡ status_of got)) ⊎ (status ≡ 9) → (status ≡ 0) ⊎ (status ≡ 9)
     of spec (inl own) =
-        let h : IsForcedTold s got = told_due one_spec told name s got spec (forced_due told count words name got said (due own.0)) in
+        let h : IsForcedTold s got = told_due one_spec told name s got spec
+        (forced_due told count words name got said (due own.0)) in
         inl (own.1 ∙ ap (λ (o : Result Done Trouble). status_of o) h.2)
     of spec (inr nine) = inr nine
+
+-- ---- explain
+
+explain_due : (told : List (List ℕ × List ℕ)) (count : ℕ) (words : List (List ℕ)) (e : ExplainSaid) (got : Result Done Trouble)
+    → command_for count words ≡ Some (ExplainFor e) → IsDue told count words got → IsExplainDue told e got
+explain_due told count words e got said due =
+    subst (λ (o : Option CommandSaid). MatchOption o (got ≡ Err trouble.Words) (λ c. IsDueFor told c got)) said due
+
+pub explained : OneSpec → OneQuestion → (texts : Option (List (List ℕ × List ℕ))) (count : ℕ) (words : List (List ℕ))
+    (got : Result Done Trouble)
+    (old new : Option (List ℕ)) (rb rn wb wn status : ℕ)
+    → (IsSettled got → IfSome texts (λ told. IsDue told count words got)) → (IsReadFault got → Rose rb rn)
+    → EndsWith old new wb wn got status
+    → (Rose rb rn → ⊥) → (Rose wb wn → ⊥) → (e : ExplainSaid) → command_for count words ≡ Some (ExplainFor e)
+    → (s : Spec) (q : Question)
+    → IfSome texts (λ told. IsSpecRead told e.spec (Ok s) → IsQuestionRead told s.relations e.question (Ok q)
+    → ComesToAnswer s q status)
+explained one_spec one_question None count words got old new rb rn wb wn status due rose ends reads writes e said s q = tt
+explained one_spec one_question (Some told) count words got old new rb rn wb wn status due rose ends reads writes e
+    said s q = λ spec question.
+    of spec question (own_status got old new rb rn wb wn status rose ends reads writes)
+  where
+    of : IsSpecRead told e.spec (Ok s) → IsQuestionRead told s.relations e.question (Ok q) →
+        (IsSettled got × (status ≡ status_of got)) ⊎ (status ≡ 9)
+        → ComesToAnswer s q status
+    of spec question (inl own) =
+        explanation_comes s e q got status (explanation_due one_spec one_question told e s q got spec question
+        (explain_due told count words e got said (due own.0))) own.1
+    of spec question (inr nine) = inr (inr (inr nine))
+
+-- ---- conflicts
+
+blame_due : (told : List (List ℕ × List ℕ)) (count : ℕ) (words : List (List ℕ)) (c : ConflictsSaid) (got : Result Done Trouble)
+    → command_for count words ≡ Some (ConflictsIn c) → IsDue told count words got → IsConflictsDue told c got
+blame_due told count words c got said due =
+    subst (λ (o : Option CommandSaid). MatchOption o (got ≡ Err trouble.Words) (λ x. IsDueFor told x got)) said due
+
+decided_or_not : {status : ℕ} → (status ≡ 0) ⊎ (status ≡ 3) → (status ≡ 0) ⊎ ((status ≡ 3) ⊎ (status ≡ 9))
+decided_or_not (inl zero) = inl zero
+decided_or_not (inr three) = inr (inl three)
+
+pub blamed : OneSpec → (texts : Option (List (List ℕ × List ℕ))) (count : ℕ) (words : List (List ℕ)) (got : Result Done Trouble)
+    (old new : Option (List ℕ)) (rb rn wb wn status : ℕ)
+    → (IsSettled got → IfSome texts (λ told. IsDue told count words got)) → (IsReadFault got → Rose rb rn)
+    → EndsWith old new wb wn got status
+    → (Rose rb rn → ⊥) → (Rose wb wn → ⊥) → (c : ConflictsSaid) → command_for count words ≡ Some (ConflictsIn c) → (s : Spec)
+    → IfSome texts (λ told. IsSpecRead told c.spec (Ok s) → (status ≡ 0) ⊎ ((status ≡ 3) ⊎ (status ≡ 9)))
+blamed one_spec None count words got old new rb rn wb wn status due rose ends reads writes c said s = tt
+blamed one_spec (Some told) count words got old new rb rn wb wn status due rose ends reads writes c said s = λ spec.
+    of spec (own_status got old new rb rn wb wn status rose ends reads writes)
+  where
+    of : IsSpecRead told c.spec (Ok s) → (IsSettled got × (status ≡ status_of got)) ⊎ (status ≡ 9)
+        → (status ≡ 0) ⊎ ((status ≡ 3) ⊎ (status ≡ 9))
+    of spec (inl own) =
+        decided_or_not (found_comes s c got status (found_due one_spec told c s got spec
+        (blame_due told count words c got said (due own.0))) own.1)
+    of spec (inr nine) = inr (inr nine)

@@ -11,7 +11,8 @@ pub over_any : (texts : Option (List (List ℕ × List ℕ))) (P : Type 0) → P
 over_any None P h = tt
 over_any (Some told) P h = h
 
-pub trial_told : (texts : Option (List (List ℕ × List ℕ))) (size : ℕ) (outcome : Result Done Trouble) → (IsSettled outcome → IsTrialDue size outcome)
+pub trial_told : (texts : Option (List (List ℕ × List ℕ))) (size : ℕ) (outcome : Result Done Trouble) →
+    (IsSettled outcome → IsTrialDue size outcome)
     → IfOk outcome (λ d. IfSome texts (λ told. IsTold told (TrialOf size) d))
 trial_told None size (Ok d) due = tt
 trial_told (Some told) size (Ok d) due = due tt

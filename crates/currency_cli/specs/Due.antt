@@ -5,9 +5,11 @@ use Rattle.command_stages.specs.Documents.{IsSpecDocumentDue}
 use Rattle.command_stages.specs.declared.done.Done.{Done}
 use Rattle.command_stages.specs.declared.trouble.Trouble.{Trouble}
 use Rattle.command_stages.specs.declared.trouble.Trouble.TheVariants as trouble
+use Rattle.conflicts_command.specs.Found.{IsConflictsDue}
 use Rattle.currency_cli.specs.Words.{command_for}
+use Rattle.explain_command.specs.Explained.{IsExplainDue, IsExplainDocumentDue}
 use Rattle.forced_command.specs.Forced.{IsForcedDue}
-use Rattle.program_words.specs.Words.{CommandSaid, AskFor, VerifyOf, ForcedOf, TrialOf}
+use Rattle.program_words.specs.Words.{CommandSaid, AskFor, VerifyOf, ForcedOf, TrialOf, ExplainFor, ConflictsIn}
 use Rattle.trial_command.specs.Trial.{IsTrialDue}
 use Rattle.verify_command.specs.Judged.{IsVerifyDue, IsVerifyDocumentDue}
 
@@ -17,10 +19,13 @@ IsDueFor told (VerifyOf v) outcome = IsVerifyDue told v outcome
 IsDueFor told (AskFor a) outcome = IsAskDue told a outcome
 IsDueFor told (ForcedOf name) outcome = IsForcedDue told name outcome
 IsDueFor told (TrialOf size) outcome = IsTrialDue size outcome
+IsDueFor told (ExplainFor e) outcome = IsExplainDue told e outcome
+IsDueFor told (ConflictsIn c) outcome = IsConflictsDue told c outcome
 
 -- what is due for words, where so many guides are handed in
 abbrev pub IsDue : List (List ℕ × List ℕ) → ℕ → List (List ℕ) → Result Done Trouble → Type 0
-IsDue told count words outcome = MatchOption (command_for count words) (outcome ≡ Err trouble.Words) (λ c. IsDueFor told c outcome)
+IsDue told count words outcome = MatchOption (command_for count words) (outcome ≡ Err trouble.Words)
+    (λ c. IsDueFor told c outcome)
 
 -- a document is due to be read for a command; `trial` reads none
 abbrev pub IsDocumentDue : List (List ℕ × List ℕ) → CommandSaid → List ℕ → Type 0
@@ -28,6 +33,8 @@ IsDocumentDue told (VerifyOf v) name = IsVerifyDocumentDue told v name
 IsDocumentDue told (AskFor a) name = IsAskDocumentDue told a name
 IsDocumentDue told (ForcedOf spec) name = IsSpecDocumentDue told spec name
 IsDocumentDue told (TrialOf size) name = ⊥
+IsDocumentDue told (ExplainFor e) name = IsExplainDocumentDue told e name
+IsDocumentDue told (ConflictsIn c) name = IsSpecDocumentDue told c.spec name
 
 -- a document of this name is due to be read for these words
 abbrev pub IsReadDue : List (List ℕ × List ℕ) → ℕ → List (List ℕ) → List ℕ → Type 0

@@ -9,12 +9,14 @@ use Rattle.command_stages.specs.declared.done.Ending.{Ending}
 use Rattle.command_stages.specs.declared.done.Ending.TheVariants.{Told, Decided, Undecided}
 use Rattle.command_stages.specs.declared.trouble.Trouble.{Trouble}
 use Rattle.command_stages.specs.declared.trouble.Trouble.TheVariants.{Limit, ReadFault}
+use Rattle.conflicts_command.specs.Found.{AreConflictsTold}
 use Rattle.currency_cli.specs.Due.{IsDue, IsReadDue}
 use Rattle.currency_cli.specs.Words.{command_for}
 use Rattle.currency_edge.specs.Fault.{Rose}
 use Rattle.currency_edge.specs.Sink.{AppendsPrefix}
+use Rattle.explain_command.specs.Explained.{IsExplainTold}
 use Rattle.forced_command.specs.Forced.{AreForcedListed}
-use Rattle.program_words.specs.Words.{CommandSaid, AskFor, VerifyOf, ForcedOf, TrialOf}
+use Rattle.program_words.specs.Words.{CommandSaid, AskFor, VerifyOf, ForcedOf, TrialOf, ExplainFor, ConflictsIn}
 use Rattle.report_model.specs.declared.verdict.Kind.{Kind}
 use Rattle.trial_command.specs.Trial.{IsTrialTold, IsTrialSpent}
 use Rattle.verify_command.specs.Judged.{accepted_text}
@@ -40,24 +42,30 @@ IsJobDone told (VerifyOf v) text = (kind : Kind) × IsShownRight told v kind × 
 IsJobDone told (AskFor a) text = IsAnswerTold told a text Decided
 IsJobDone told (ForcedOf name) text = AreForcedListed told name text
 IsJobDone told (TrialOf size) text = IsTrialTold size text Decided
+IsJobDone told (ExplainFor e) text = IsExplainTold told e text Decided
+IsJobDone told (ConflictsIn c) text = AreConflictsTold told c text Decided
 
 -- the words say a command whose job is done: the documents show what is told, and the sink got the text
-pub record IsDone (texts : Option (List (List ℕ × List ℕ))) (count : ℕ) (words : List (List ℕ)) (old new : Option (List ℕ)) : Type 0 where
+pub record IsDone (texts : Option (List (List ℕ × List ℕ))) (count : ℕ) (words : List (List ℕ))
+    (old new : Option (List ℕ)) : Type 0 where
   pub command : CommandSaid
   pub said : command_for count words ≡ Some command
   pub text : List ℕ
   pub done : IfSome texts (λ told. IsJobDone told command text)
   pub written : Appends old new text
 
--- a question of the command was not decided: this is the whole report, whose log has as many counted steps as the budget, each new,
--- and is open
+-- a question of the command was not decided: this is the whole report, whose log has as many counted steps as the
+-- budget, each new, and is open
 abbrev pub IsSpent : List (List ℕ × List ℕ) → CommandSaid → List ℕ → Type 0
 IsSpent told (AskFor ask) text = IsAskSpent told ask text
 IsSpent told (TrialOf size) text = IsTrialSpent size text
+IsSpent told (ExplainFor e) text = IsExplainTold told e text Undecided
+IsSpent told (ConflictsIn c) text = AreConflictsTold told c text Undecided
 IsSpent told command text = ⊥
 
 -- the words ask a question that was not decided: the sink got the whole report
-pub record IsUndecided (texts : Option (List (List ℕ × List ℕ))) (count : ℕ) (words : List (List ℕ)) (old new : Option (List ℕ)) : Type 0 where
+pub record IsUndecided (texts : Option (List (List ℕ × List ℕ))) (count : ℕ) (words : List (List ℕ))
+    (old new : Option (List ℕ)) : Type 0 where
   pub command : CommandSaid
   pub said : command_for count words ≡ Some command
   pub text : List ℕ
@@ -101,7 +109,8 @@ abbrev pub RefusalDue : List (List ℕ × List ℕ) → ℕ → List (List ℕ) 
 RefusalDue told count words status = (e : Trouble) × IsDue told count words (Err e) × (status ≡ trouble_status e)
 
 -- the document that could not be read was due, and its name was written, whole or up to a prefix
-pub record NamesUnread (texts : Option (List (List ℕ × List ℕ))) (count : ℕ) (words : List (List ℕ)) (old new : Option (List ℕ)) : Type 0 where
+pub record NamesUnread (texts : Option (List (List ℕ × List ℕ))) (count : ℕ) (words : List (List ℕ))
+    (old new : Option (List ℕ)) : Type 0 where
   pub name : List ℕ
   pub due : IfSome texts (λ told. IsReadDue told count words name)
   pub text : AppendsPrefix old new (trouble_text (ReadFault name))

@@ -2,9 +2,11 @@
 use Rattle.std.specs.Prelude.{◌≡◌, ℕ, List, Option, Some, IfSome, Ok}
 use Rattle.ask_command.specs.Asked.{IsAnswerTold}
 use Rattle.command_stages.specs.declared.done.Done.{Done}
+use Rattle.conflicts_command.specs.Found.{AreConflictsTold}
 use Rattle.currency_cli.specs.Words.{command_for}
+use Rattle.explain_command.specs.Explained.{IsExplainTold}
 use Rattle.forced_command.specs.Forced.{AreForcedTold}
-use Rattle.program_words.specs.Words.{CommandSaid, AskFor, VerifyOf, ForcedOf, TrialOf}
+use Rattle.program_words.specs.Words.{CommandSaid, AskFor, VerifyOf, ForcedOf, TrialOf, ExplainFor, ConflictsIn}
 use Rattle.trial_command.specs.Trial.{IsTrialDue}
 use Rattle.verify_command.specs.Shown.{IsVerifyTold}
 
@@ -14,6 +16,8 @@ IsTold told (VerifyOf v) d = IsVerifyTold told v d
 IsTold told (AskFor a) d = IsAnswerTold told a d.text d.ending
 IsTold told (ForcedOf name) d = AreForcedTold told name d
 IsTold told (TrialOf size) d = IsTrialDue size (Ok d)
+IsTold told (ExplainFor e) d = IsExplainTold told e d.text d.ending
+IsTold told (ConflictsIn c) d = AreConflictsTold told c d.text d.ending
 
 -- words say a command that came to this
 pub record IsToldFor (texts : Option (List (List ℕ × List ℕ))) (count : ℕ) (words : List (List ℕ)) (d : Done) : Type 0 where

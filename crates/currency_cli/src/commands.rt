@@ -12,7 +12,9 @@ ghost use Rattle.command_stages.specs.Named.{IsSettled, IsReadFault, IsReadFault
 use crate::words::command_kept;
 use ask_command::ask_documents;
 use command_stages::{Done, Trouble};
+use conflicts_command::conflicts_document;
 use currency_edge::Shelf;
+use explain_command::explain_documents;
 use forced_command::forced_document;
 use program_words::Command;
 use solver_guides::Guides;
@@ -43,6 +45,8 @@ fn outcome_of<S: Shelf>(
         Command::Ask(asked) => ask_documents(alloc, shelf, asked, guides),
         Command::Forced(name) => forced_document(alloc, shelf, name),
         Command::Trial(size) => try_generated(alloc, size, guides),
+        Command::Explain(asked) => explain_documents(alloc, shelf, asked, guides),
+        Command::Conflicts(asked) => conflicts_document(alloc, shelf, asked, guides),
     }
 }
 
@@ -55,8 +59,10 @@ pub fn outcome<S: Shelf>(
     guides: &mut Guides,
 ) -> Result<Done, Trouble>
     ensures later { S.faults shelf.old ≤ S.faults shelf.new }
-    ensures due { IsSettled result → IfSome (S.texts shelf.old) (λ told. IsDue told (count_of guides.old) (map (λ w. string_bytes w) words.now) result) }
-    ensures told { IfOk result (λ done. IsToldFor (S.texts shelf.old) (count_of guides.old) (map (λ w. string_bytes w) words.now) done) }
+    ensures due { IsSettled result → IfSome (S.texts shelf.old) (λ told. IsDue told (count_of guides.old)
+        (map (λ w. string_bytes w) words.now) result) }
+    ensures told { IfOk result (λ done. IsToldFor (S.texts shelf.old) (count_of guides.old)
+        (map (λ w. string_bytes w) words.now) done) }
     ensures read_fault { IsReadFault result → Rose (S.faults shelf.old) (S.faults shelf.new) }
     ensures unread { (n : List ℕ) → IsReadFaultOf result n
         → IfSome (S.texts shelf.old) (λ told. IsReadDue told (count_of guides.old) (map (λ w. string_bytes w) words.now) n) }

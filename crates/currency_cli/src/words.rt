@@ -35,6 +35,8 @@ fn keep_for(guides: &mut Guides, command: &Command<'_>) -> bool
         Command::Verify(_) => true,
         Command::Forced(_) => true,
         Command::Trial(_) => true,
+        Command::Explain(asked) => keep_guide(guides, asked.guide),
+        Command::Conflicts(asked) => keep_guide(guides, asked.guide),
     }
 }
 
@@ -44,9 +46,11 @@ pub fn command_kept<'a>(
     words: &'a [String],
     guides: &mut Guides,
 ) -> Result<Command<'a>, Trouble>
-    ensures taken { IfOk result (λ c. command_for (count_of guides.old) (map (λ w. string_bytes w) words.entry.now) ≡ Some (said_of c)) }
+    ensures taken { IfOk result (λ c. command_for (count_of guides.old) (map (λ w. string_bytes w) words.entry.now) ≡
+        Some (said_of c)) }
     ensures in_range { IfOk result (λ c. IsInRange (said_of c)) }
-    ensures refused { IfErr result (λ e. e ≡ Trouble.Words → command_for (count_of guides.old) (map (λ w. string_bytes w) words.entry.now) ≡ None) }
+    ensures refused { IfErr result (λ e. e ≡ Trouble.Words → command_for (count_of guides.old)
+        (map (λ w. string_bytes w) words.entry.now) ≡ None) }
     ensures causes { IfErr result (λ e. (e ≡ Trouble.Words) ⊎ (e ≡ Trouble.NoMemory)) }
 {
     numbers_are_in_range();

@@ -14,7 +14,8 @@ with_front-nil : {B E : Type 0} (r : Result (List B) E) → r ≡ with_front [] 
 with_front-nil (Ok items) = refl
 with_front-nil (Err fault) = refl
 
-with_front-first : {B E : Type 0} (done : List B) (y : B) (r : Result (List B) E) → with_front done (with_first y r) ≡ with_front (done ++ y ∷ []) r
+with_front-first : {B E : Type 0} (done : List B) (y : B) (r : Result (List B) E) → with_front done
+    (with_first y r) ≡ with_front (done ++ y ∷ []) r
 with_front-first done y (Ok items) = ap Ok (sym (append_assoc done (y ∷ []) items))
 with_front-first done y (Err fault) = refl
 
@@ -29,7 +30,8 @@ module _ {A B E : Type 0} (f : ℕ × A → Result B E) (n : ℕ) (xs : List A) 
       rw e (with_front-nil _)
 
   -- the item at i and its number m
-  module _ (i m : ℕ) (done : List B) (x d : A) (within : i < length xs) (counted : m ≡ n + i) (here : x ≡ get_or xs i d) (before : SoFar i done) where
+  module _ (i m : ℕ) (done : List B) (x d : A) (within : i < length xs) (counted : m ≡ n + i)
+      (here : x ≡ get_or xs i d) (before : SoFar i done) where
     split : drop i xs ≡ x ∷ drop (i + 1) xs
     split = rw (here, add-one) (drop-cons xs i d within)
 

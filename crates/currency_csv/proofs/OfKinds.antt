@@ -59,36 +59,43 @@ ok_or-some : {A E : Type 0} (o : Option A) (fault : E) (x : A) → ok_or o fault
 ok_or-some None fault x is = cc
 ok_or-some (Some y) fault x is = cc
 
-kind_in : (header fields : Record) (column : Column) (fault : TableFault) (v : Value) → ok_or (value_in header fields column) fault ≡ Ok v
+kind_in : (header fields : Record) (column : Column) (fault : TableFault) (v : Value)
+    → ok_or (value_in header fields column) fault ≡ Ok v
     → kind_of v ≡ column.kind
 unfolding value_in
 kind_in header fields column fault v is =
     kind_at (place_of header column) column.kind fields v
-    (ok_or-some (option_and_then (λ place. value_of column.kind (slice_index_or fields place [])) (place_of header column)) fault v is)
+    (ok_or-some (option_and_then (λ place. value_of column.kind (slice_index_or fields place []))
+    (place_of header column)) fault v is)
 
 -- ---- the values of a record
 
 kinds_in : (header fields : Record) (number n : ℕ) (columns : List Column) (values : List Value)
-    → all_ok (map (λ (place, column). ok_or (value_in header fields column) (BadInt (told number) (told place))) (enumerate_from n columns)) ≡ Ok values
+    → all_ok (map (λ (place, column). ok_or (value_in header fields column) (BadInt (told number) (told place)))
+    (enumerate_from n columns)) ≡ Ok values
     → map kind_of values ≡ map (λ c. c.kind) columns
 kinds_in header fields number n [] values is = let none : values ≡ [] = cc in ap (map kind_of) none
 kinds_in header fields number n (c ∷ columns) values is =
     let p = all_ok-parts (ok_or (value_in header fields c) (BadInt (told number) (told n)))
-    (map (λ (place, column). ok_or (value_in header fields column) (BadInt (told number) (told place))) (enumerate_from (n + 1) columns)) values is in
+    (map (λ (place, column). ok_or (value_in header fields column) (BadInt (told number) (told place)))
+    (enumerate_from (n + 1) columns)) values is in
     let first : kind_of p.0 ≡ c.kind = kind_in header fields c (BadInt (told number) (told n)) p.0 p.2 in
     let rest : map kind_of p.1 ≡ map (λ c. c.kind) columns = kinds_in header fields number (n + 1) columns p.1 p.3 in
     ap (map kind_of) p.4 ∙ ap (λ k. k ∷ map kind_of p.1) first ∙ ap (λ ks. c.kind ∷ ks) rest
 
-tuple_kinds : (header : Record) (columns : List Column) (row : ℕ × Record) (values : List Value) → tuple_of header columns row ≡ Ok values
+tuple_kinds : (header : Record) (columns : List Column) (row : ℕ × Record) (values : List Value)
+    → tuple_of header columns row ≡ Ok values
     → map kind_of values ≡ map (λ c. c.kind) columns
 unfolding tuple_of
 tuple_kinds header columns (number, fields) values is = kinds_in header fields number 0 columns values is
 
-tuples_kinds : (header : Record) (columns : List Column) (rows : List Record) (tuples : List (List Value)) → tuples_of header columns rows ≡ Ok tuples
+tuples_kinds : (header : Record) (columns : List Column) (rows : List Record) (tuples : List (List Value))
+    → tuples_of header columns rows ≡ Ok tuples
     → All (λ tuple. map kind_of tuple ≡ map (λ c. c.kind) columns) tuples
 unfolding tuples_of
 tuples_kinds header columns rows tuples is =
-    each_ok (λ tuple. map kind_of tuple ≡ map (λ c. c.kind) columns) (tuple_of header columns) (tuple_kinds header columns) (enumerate_from 2 rows) tuples is
+    each_ok (λ tuple. map kind_of tuple ≡ map (λ c. c.kind) columns) (tuple_of header columns)
+    (tuple_kinds header columns) (enumerate_from 2 rows) tuples is
 
 -- a table that is read holds the tuples
 tuples_read : (a b : Option ℕ) (f g : ℕ → TableFault) (r : Result (List (List Value)) TableFault) (t : Table)

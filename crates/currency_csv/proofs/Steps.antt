@@ -11,7 +11,8 @@ use Rattle.currency_csv.specs.declared.table.TableFault.TheVariants.{MissingColu
 use Rattle.currency_csv.proofs.Places.{only_seen}
 
 -- the place of a column, as it was looked up
-pub looked_up : (header : Record) (column : Column) (o : Option (Option ℕ)) → o ≡ seen_of (places_in header column.name) → option_flatten o ≡ place_of header column
+pub looked_up : (header : Record) (column : Column) (o : Option (Option ℕ)) → o ≡ seen_of
+    (places_in header column.name) → option_flatten o ≡ place_of header column
 looked_up header column o e = ap option_flatten e ∙ only_seen (places_in header column.name)
 
 pub source_found : (header : Record) (number place : ℕ) (column : Column) → Some place ≡ place_of header column
@@ -25,12 +26,14 @@ unfolding source_of
 source_missing header number column e = rw (← e) refl
 
 -- the value of a cell, or the fault where it has none
-pub value_found : (number place : ℕ) (fields : Record) (source : Source) (value : Value) → Some value ≡ value_of source.kind (get_or fields source.place [])
+pub value_found : (number place : ℕ) (fields : Record) (source : Source) (value : Value) → Some value ≡ value_of
+    source.kind (get_or fields source.place [])
     → read_value number fields (place, source) ≡ Ok value
 unfolding read_value
 value_found number place fields source value e = rw (← e) refl
 
-pub value_missing : (number place : ℕ) (fields : Record) (source : Source) → None ≡ value_of source.kind (get_or fields source.place [])
+pub value_missing : (number place : ℕ) (fields : Record) (source : Source) → None ≡ value_of source.kind
+    (get_or fields source.place [])
     → read_value number fields (place, source) ≡ Err (BadInt number (told place))
 unfolding read_value
 value_missing number place fields source e = rw (← e) refl

@@ -25,7 +25,8 @@ seen_of (place ∷ rest) = Some (only (place ∷ rest))
 -- where the values of a column come from, or the fault of the column of that number
 unfoldable pub source_of : Record → ℕ × Column → Result Source TableFault
 source_of header (number, column) =
-    ok_or (option_map (λ place. record { place = place; kind = column.kind }) (place_of header column)) (MissingColumn (told number))
+    ok_or (option_map (λ place. record { place = place; kind = column.kind }) (place_of header column))
+    (MissingColumn (told number))
 
 -- the same of every column, or the first fault
 unfoldable pub sources_of : Record → List Column → Result (List Source) TableFault
@@ -33,7 +34,8 @@ sources_of header columns = all_ok (map (source_of header) (enumerate_from 0 col
 
 -- the value of a source in a record of that number, or the fault of the source of that place
 unfoldable pub read_value : ℕ → Record → ℕ × Source → Result Value TableFault
-read_value number fields (place, source) = ok_or (value_of source.kind (slice_index_or fields source.place [])) (BadInt number (told place))
+read_value number fields (place, source) = ok_or (value_of source.kind (slice_index_or fields source.place []))
+    (BadInt number (told place))
 
 -- the values of all sources, or the first fault
 unfoldable pub read_tuple : List Source → ℕ → Record → Result (List Value) TableFault

@@ -49,7 +49,8 @@ value_of kind.Int field = option_map value.Int (int_of field)
 
 -- the value of a column in a record below the header
 unfoldable pub value_in : Record → Record → Column → Option Value
-value_in header fields column = option_and_then (λ place. value_of column.kind (slice_index_or fields place [])) (place_of header column)
+value_in header fields column = option_and_then (λ place. value_of column.kind (slice_index_or fields place []))
+    (place_of header column)
 
 -- an item before others, unless there is a fault in place of those
 abbrev pub with_first : {A E : Type 0} → A → Result (List A) E → Result (List A) E
@@ -65,7 +66,8 @@ all_ok (Err fault ∷ rest) = Err fault
 -- the values of a record in the order of the columns
 unfoldable pub tuple_of : Record → List Column → ℕ × Record → Result (List Value) TableFault
 tuple_of header columns (number, fields) =
-    all_ok (map (λ (place, column). ok_or (value_in header fields column) (BadInt (told number) (told place))) (enumerate_from 0 columns))
+    all_ok (map (λ (place, column). ok_or (value_in header fields column) (BadInt (told number) (told place)))
+    (enumerate_from 0 columns))
 
 -- the tuples of the records below the header, the first of which is record 2
 unfoldable pub tuples_of : Record → List Column → List Record → Result (List (List Value)) TableFault

@@ -55,7 +55,8 @@ fn places_by_name(
     header: &ByteRecord,
 ) -> Result<IndexMap<Name, Option<usize>>, NoMemory>
     requires { IsTrue (list_all is_utf8 (fields_of header.now)) }
-    ensures { IfOk result (λ places. (name : List ℕ) → get bytes_eq places name ≡ seen_of (places_in (fields_of header.now) name)) }
+    ensures { IfOk result (λ places. (name : List ℕ) → get bytes_eq places name ≡ seen_of
+        (places_in (fields_of header.now) name)) }
 {
     let mut places = IndexMap::new(alloc);
     for place in 0..header.len() {

@@ -11,7 +11,8 @@ filled_whole (Some xs) None bs read end = absurd read
 filled_whole (Some xs) (Some ys) bs read end = cc (append-nil bs)
 
 -- what was read is the front of all the bytes
-pub filled_front : (old new : Option (List ℕ)) (bs : List ℕ) (n : ℕ) → n ≡ length bs → Consumes old new bs → IfSome old (λ xs. bs ≡ take n xs)
+pub filled_front : (old new : Option (List ℕ)) (bs : List ℕ) (n : ℕ) → n ≡ length bs → Consumes old new bs
+    → IfSome old (λ xs. bs ≡ take n xs)
 filled_front None new bs n count read = tt
 filled_front (Some xs) None bs n count read = absurd read
 filled_front (Some xs) (Some ys) bs n count read = sym (rw (count, read) (take-append_seam bs ys))

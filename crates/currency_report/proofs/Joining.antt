@@ -19,7 +19,8 @@ use Rattle.currency_report.specs.declared.said.Parts.{Parts}
 module _ (t : ReportTree) where
   -- a report by the outcomes of its verdict, its completions and its log
   report_by : Result Verdict ReportFault → Result (List Rankings) ReportFault → Option FormFault → Result ReadReport ReportFault
-  report_by v cs fault = and_then v (λ v. and_then cs (λ cs. and_then (log_or_fault t.log fault) (λ log. Ok (report_of t v cs log))))
+  report_by v cs fault = and_then v
+      (λ v. and_then cs (λ cs. and_then (log_or_fault t.log fault) (λ log. Ok (report_of t v cs log))))
 
   -- its parts by the same
   parts_by : Result Verdict ReportFault → Result (List Rankings) ReportFault → Option FormFault → Result Parts ReportFault
@@ -38,7 +39,8 @@ pub joined : (relations : List Relation) (t : ReportTree)
     → said relations t ≡ and_then (parts_said relations t) (λ parts. Ok (report_with parts t.verdict.line t.log))
 unfolding said report_by parts_by
 joined relations t =
-    joined_by t (claim_said relations t.verdict.line t.verdict.claim) (all_completed t.version relations t.completions) (first_fault relations t.log.log)
+    joined_by t (claim_said relations t.verdict.line t.verdict.claim)
+    (all_completed t.version relations t.completions) (first_fault relations t.log.log)
 
 pub says : (relations : List Relation) (t : ReportTree) (parts : Parts) → parts_said relations t ≡ Ok parts
     → said relations t ≡ Ok (report_with parts t.verdict.line t.log)

@@ -9,18 +9,21 @@ pub next_left : {A : Type 0} (xs : List A) (i : ℕ) (x : A) → i < length xs �
 next_left xs i x below is = rw (add-one, drop-cons xs i x, ← is) refl
 
 -- what is due in other words is due
-pub due_is : {A : Type 0} (due other : Result A ReportFault) (outcome : Result A ReportFault) → due ≡ other → IsDue due outcome → IsDue other outcome
+pub due_is : {A : Type 0} (due other : Result A ReportFault) (outcome : Result A ReportFault) → due ≡ other
+    → IsDue due outcome → IsDue other outcome
 due_is due other (Ok a) same h = rw (← same) h
 due_is due other (Err (Refused code line)) same h = rw (← same) h
 due_is due other (Err NoMemory) same h = tt
 
 pub regroup : {A : Type 0} (front : List A) (x : A) (rest : Result (List A) ReportFault)
-    → and_then rest (λ more. Ok ((front ++ x ∷ []) ++ more)) ≡ and_then (and_then rest (λ more. Ok (x ∷ more))) (λ more. Ok (front ++ more))
+    → and_then rest (λ more. Ok ((front ++ x ∷ []) ++ more)) ≡ and_then (and_then rest (λ more. Ok (x ∷ more)))
+    (λ more. Ok (front ++ more))
 regroup front x (Ok more) = rw append_assoc refl
 regroup front x (Err fault) = refl
 
 one_longer : {A : Type 0} (first : Result A ReportFault) (rest : Result (List A) ReportFault) (n : ℕ) (ys : List A)
-    → ((more : List A) → rest ≡ Ok more → length more ≡ n) → and_then first (λ y. and_then rest (λ more. Ok (y ∷ more))) ≡ Ok ys → length ys ≡ n + 1
+    → ((more : List A) → rest ≡ Ok more → length more ≡ n) → and_then first
+    (λ y. and_then rest (λ more. Ok (y ∷ more))) ≡ Ok ys → length ys ≡ n + 1
 one_longer (Err e) rest n ys h same = cc
 one_longer (Ok y) (Err e) n ys h same = cc
 one_longer {A} (Ok y) (Ok more) n ys h same =

@@ -21,15 +21,18 @@ mapped_from f None y h = cc
 mapped_from f (Some x) y h = (x, refl, cc)
 
 -- the relation whose parts have these names
-named_relation : (relations : List Relation) (rel : ℕ) (parts : RelationNames) → slice_get (map names_of relations) rel ≡ Some parts
+named_relation : (relations : List Relation) (rel : ℕ) (parts : RelationNames) → slice_get (map names_of relations)
+    rel ≡ Some parts
     → (r : Relation) × (slice_get relations rel ≡ Some r) × (parts ≡ names_of r)
 named_relation relations rel parts h =
     mapped_from names_of (slice_get relations rel) parts (sym (slice_get-map names_of relations rel) ∙ h)
 
 -- a relation of a specification is one
-is_relation_at : (relations : List Relation) (rel : ℕ) (r : Relation) → AreRelations relations → slice_get relations rel ≡ Some r → IsRelation r
+is_relation_at : (relations : List Relation) (rel : ℕ) (r : Relation) → AreRelations relations → slice_get relations
+    rel ≡ Some r → IsRelation r
 is_relation_at relations rel r h at =
-    subst IsRelation (get_or_from_slice_get relations rel r r at) (All-get_or IsRelation relations rel r (slice_get_within relations rel r at) h.each)
+    subst IsRelation (get_or_from_slice_get relations rel r r at)
+    (All-get_or IsRelation relations rel r (slice_get_within relations rel r at) h.each)
 
 -- a place that is found is one of the list's
 place_within : (names : List (List ℕ)) (name : List ℕ) (i : ℕ) → Some i ≡ place_of names name → i < length names
@@ -54,17 +57,20 @@ few_names s names rel parts is same at =
     let found = named_relation s.relations rel parts (rw same at at) in
     rw found.2 (few_names_of found.0 (is_relation_at s.relations rel found.0 is found.1))
 
-pub few_rows : (s : Spec) (names : NameLists) (rel : ℕ) (parts : RelationNames) → AreRelations s.relations → names ≡ all_names_of s
+pub few_rows : (s : Spec) (names : NameLists) (rel : ℕ) (parts : RelationNames) → AreRelations s.relations
+    → names ≡ all_names_of s
     → slice_get names.each rel ≡ Some parts → length parts.rows < 2 ^ 32
 few_rows s names rel parts is same at = (few_names s names rel parts is same at).rows
 
-pub attr_fits : (s : Spec) (names : NameLists) (rel : ℕ) (parts : RelationNames) → AreRelations s.relations → names ≡ all_names_of s
+pub attr_fits : (s : Spec) (names : NameLists) (rel : ℕ) (parts : RelationNames) → AreRelations s.relations
+    → names ≡ all_names_of s
     → slice_get names.each rel ≡ Some parts → (name : List ℕ) (i : ℕ) → Some i ≡ place_of parts.attrs name → i < 2 ^ 32
 attr_fits s names rel parts is same at name i found =
     let few = few_names s names rel parts is same at in
     omega (arith, few.attrs, place_within parts.attrs name i found)
 
-pub entity_fits : (s : Spec) (names : NameLists) (rel : ℕ) (parts : RelationNames) → AreRelations s.relations → names ≡ all_names_of s
+pub entity_fits : (s : Spec) (names : NameLists) (rel : ℕ) (parts : RelationNames) → AreRelations s.relations
+    → names ≡ all_names_of s
     → slice_get names.each rel ≡ Some parts → (name : List ℕ) (i : ℕ) → Some i ≡ place_of parts.entities name → i < 2 ^ 32
 entity_fits s names rel parts is same at name i found =
     let few = few_names s names rel parts is same at in
@@ -73,7 +79,8 @@ entity_fits s names rel parts is same at name i found =
 -- ---- what is found by names
 
 pub is_attr : (s : Spec) (names : NameLists) (relation attr : Named) (rel a : ℕ) (parts : RelationNames) → names ≡ all_names_of s
-    → slice_get names.each rel ≡ Some parts → Some rel ≡ place_of names.relations relation.name → Some a ≡ place_of parts.attrs attr.name
+    → slice_get names.each rel ≡ Some parts → Some rel ≡ place_of names.relations relation.name
+    → Some a ≡ place_of parts.attrs attr.name
     → IsAttrOf s.relations relation attr record { rel = record { 0 = rel }; attr = record { 0 = a } }
 is_attr s names relation attr rel a parts same at of_relation of_attr =
     let found = named_relation s.relations rel parts (rw same at at) in
@@ -86,8 +93,10 @@ is_attr s names relation attr rel a parts same at of_relation of_attr =
       attr_within = rw length-map at (place_within (map (λ a. a.name) found.0.attrs) attr.name a (sym attr_is));
     }
 
-pub is_entity : (s : Spec) (names : NameLists) (relation entity : Named) (rel ent : ℕ) (parts : RelationNames) → names ≡ all_names_of s
-    → slice_get names.each rel ≡ Some parts → Some rel ≡ place_of names.relations relation.name → Some ent ≡ place_of parts.entities entity.name
+pub is_entity : (s : Spec) (names : NameLists) (relation entity : Named) (rel ent : ℕ) (parts : RelationNames)
+    → names ≡ all_names_of s
+    → slice_get names.each rel ≡ Some parts → Some rel ≡ place_of names.relations relation.name → Some ent ≡ place_of
+    parts.entities entity.name
     → IsEntityOf s.relations relation entity record { rel = record { 0 = rel }; ent = record { 0 = ent } }
 is_entity s names relation entity rel ent parts same at of_relation of_entity =
     let found = named_relation s.relations rel parts (rw same at at) in
@@ -100,10 +109,17 @@ is_entity s names relation entity rel ent parts same at of_relation of_entity =
       ent_within = place_within found.0.entities entity.name ent (sym entity_is);
     }
 
-pub is_place : (s : Spec) (names : NameLists) (relation attr entity : Named) (rel a ent : ℕ) (parts : RelationNames) → names ≡ all_names_of s
-    → slice_get names.each rel ≡ Some parts → Some rel ≡ place_of names.relations relation.name → Some a ≡ place_of parts.attrs attr.name
+pub is_place : (s : Spec) (names : NameLists) (relation attr entity : Named) (rel a ent : ℕ) (parts : RelationNames)
+    → names ≡ all_names_of s
+    → slice_get names.each rel ≡ Some parts → Some rel ≡ place_of names.relations relation.name
+    → Some a ≡ place_of parts.attrs attr.name
     → Some ent ≡ place_of parts.entities entity.name
-    → IsPlaceOf s.relations relation attr entity record { rel = record { 0 = rel }; attr = record { 0 = a }; ent = record { 0 = ent } }
+    → IsPlaceOf s.relations relation attr entity record {
+      rel = record { 0 = rel };
+      attr = record { 0 = a };
+      ent =
+          record { 0 = ent };
+    }
 is_place s names relation attr entity rel a ent parts same at of_relation of_attr of_entity =
     let found = named_relation s.relations rel parts (rw same at at) in
     let relation_is = sym (rw same at of_relation) in
@@ -127,7 +143,8 @@ parts_are s names rel r parts same found at =
     sym (rw same at at) ∙ slice_get-map names_of s.relations rel ∙ ap (option_map names_of) found in
     cc
 
-pub rel_within_names : (s : Spec) (names : NameLists) (rel : ℕ) (r : Relation) → names ≡ all_names_of s → slice_get s.relations rel ≡ Some r
+pub rel_within_names : (s : Spec) (names : NameLists) (rel : ℕ) (r : Relation) → names ≡ all_names_of s
+    → slice_get s.relations rel ≡ Some r
     → rel < length names.each
 rel_within_names s names rel r same found = rw (same, length-map) (slice_get_within s.relations rel r found)
 
@@ -137,9 +154,11 @@ rows_alike r [] = refl
 rows_alike r (n ∷ ns) = rw (rows_alike r ns) refl
 
 pub row_in : (s : Spec) (names : NameLists) (rel : ℕ) (r : Relation) (parts : RelationNames) → names ≡ all_names_of s
-    → slice_get s.relations rel ≡ Some r → slice_get names.each rel ≡ Some parts → (n : Named) → row_among parts.rows n ≡ row_named r n
+    → slice_get s.relations rel ≡ Some r → slice_get names.each rel ≡ Some parts → (n : Named) → row_among parts.rows
+    n ≡ row_named r n
 row_in s names rel r parts same found at n = rw (parts_are s names rel r parts same found at) refl
 
 pub rows_in : (s : Spec) (names : NameLists) (rel : ℕ) (r : Relation) (parts : RelationNames) → names ≡ all_names_of s
-    → slice_get s.relations rel ≡ Some r → slice_get names.each rel ≡ Some parts → (ns : List Named) → rows_among parts.rows ns ≡ rows_named r ns
+    → slice_get s.relations rel ≡ Some r → slice_get names.each rel ≡ Some parts → (ns : List Named)
+    → rows_among parts.rows ns ≡ rows_named r ns
 rows_in s names rel r parts same found at ns = rw (parts_are s names rel r parts same found at, rows_alike r ns) refl

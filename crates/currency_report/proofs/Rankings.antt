@@ -41,21 +41,26 @@ module _ (relations : List Relation) (c : Rankings) (relation attr entity : Name
   ent_within = subst (λ n. p.ent.0 < n) (sym (h.per_entity p.rel.0 is.of is.found p.attr.0 is.attr_within)) is.ent_within
 
 -- the outcomes at a place
-module _ (relations : List Relation) (c : Rankings) (t : RankingTree) (p : PlaceIds) (h : IsPlaceOf relations t.relation t.attr t.entity p) where
-  pub is_taken : is_ranked (ranking_of c p.rel.0 p.attr.0 p.ent.0) ≡ true → ranked_with relations c t ≡ Err (refused_at DuplicateName t)
+module _ (relations : List Relation) (c : Rankings) (t : RankingTree) (p : PlaceIds)
+    (h : IsPlaceOf relations t.relation t.attr t.entity p) where
+  pub is_taken : is_ranked (ranking_of c p.rel.0 p.attr.0 p.ent.0) ≡ true → ranked_with relations c t ≡ Err
+      (refused_at DuplicateName t)
   is_taken taken = rw (h.is_named, taken) refl
 
   pub lacks_row : is_ranked (ranking_of c p.rel.0 p.attr.0 p.ent.0) ≡ false → rows_named h.of t.rows ≡ None
       → ranked_with relations c t ≡ Err (refused_at UnknownRow t)
   lacks_row free found = rw (h.is_named, free, found) refl
 
-  pub is_ranked_with : (rows : List RowId) → is_ranked (ranking_of c p.rel.0 p.attr.0 p.ent.0) ≡ false → rows_named h.of t.rows ≡ Some rows
+  pub is_ranked_with : (rows : List RowId) → is_ranked (ranking_of c p.rel.0 p.attr.0 p.ent.0) ≡ false
+      → rows_named h.of t.rows ≡ Some rows
       → ranked_with relations c t ≡ Ok (with_ranking c p.rel.0 p.attr.0 p.ent.0 rows)
   is_ranked_with rows free found = rw (h.is_named, free, found) refl
 
 -- a ranking that is refused ends them all
-pub ends_rankings : (relations : List Relation) (ts : List RankingTree) (i : ℕ) (t : RankingTree) (first c new : Rankings) (fault : ReportFault)
+pub ends_rankings : (relations : List Relation) (ts : List RankingTree) (i : ℕ) (t : RankingTree)
+    (first c new : Rankings) (fault : ReportFault)
     → i < length ts → t ≡ get_or ts i t → ranked_by relations (drop i ts) c ≡ ranked_by relations ts first
     → Steps new (ranked_with relations c t) (Err fault) → Steps new (ranked_by relations ts first) (Err fault)
-ends_rankings relations ts i t first c new (Refused code line) below is so_far due = rw (← so_far, next_left ts i t below is, due) refl
+ends_rankings relations ts i t first c new (Refused code line) below is so_far due =
+    rw (← so_far, next_left ts i t below is, due) refl
 ends_rankings relations ts i t first c new NoMemory below is so_far due = tt

@@ -38,22 +38,27 @@ use Rattle.currency_report.specs.declared.report.ReportFault.TheVariants.{Refuse
 
 -- ---- as many as are written
 
-as_many_currents : (relations : List Relation) (ts : List CurrentTree) (items : List Current) → currents_said relations ts ≡ Ok items → length items ≡ length ts
+as_many_currents : (relations : List Relation) (ts : List CurrentTree) (items : List Current)
+    → currents_said relations ts ≡ Ok items → length items ≡ length ts
 as_many_currents relations ts items h =
-    same_length (λ t. current_said t (entity_named relations t.relation t.entity)) (currents_said relations) (λ t ts. refl) refl ts items h
+    same_length (λ t. current_said t (entity_named relations t.relation t.entity)) (currents_said relations)
+    (λ t ts. refl) refl ts items h
 
 as_many_later : (version : Version) (relations : List Relation) (first : Rankings) (ts : List CompletionTree) (cs : List Rankings)
     → later_ones version relations first ts ≡ Ok cs → length cs ≡ length ts
 as_many_later version relations first ts cs h =
     same_length (later_completed version relations first) (later_ones version relations first) (λ t ts. refl) refl ts cs h
 
-first_and_more : (first : Result Rankings ReportFault) (later : Rankings → Result (List Rankings) ReportFault) (n : ℕ) (cs : List Rankings)
-    → ((c : Rankings) (more : List Rankings) → later c ≡ Ok more → length more ≡ n) → and_then first (λ c. and_then (later c) (λ more. Ok (c ∷ more))) ≡ Ok cs
+first_and_more : (first : Result Rankings ReportFault) (later : Rankings → Result (List Rankings) ReportFault)
+    (n : ℕ) (cs : List Rankings)
+    → ((c : Rankings) (more : List Rankings) → later c ≡ Ok more → length more ≡ n) → and_then first
+    (λ c. and_then (later c) (λ more. Ok (c ∷ more))) ≡ Ok cs
     → length cs ≡ n + 1
 first_and_more (Err e) later n cs h same = cc
 first_and_more (Ok c) later n cs h same = behind (later c) refl same
   where
-    behind : (rest : Result (List Rankings) ReportFault) → later c ≡ rest → and_then rest (λ more. Ok (c ∷ more)) ≡ Ok cs → length cs ≡ n + 1
+    behind : (rest : Result (List Rankings) ReportFault) → later c ≡ rest → and_then rest (λ more. Ok (c ∷ more)) ≡
+        Ok cs → length cs ≡ n + 1
     behind (Err e) is same = cc
     behind (Ok more) is same =
         let all : ◌≡◌ {A = List Rankings} (c ∷ more) cs = cc in
@@ -70,7 +75,8 @@ as_many_completed version relations (t ∷ ts) cs h =
 
 -- ---- the items of a claim
 
-no_pair_items : (line : ℕ) (a : AttrPlace) (earlier later : Option RowId) (v : Verdict) → pair_of line a earlier later ≡ Ok v → item_count v ≡ 0
+no_pair_items : (line : ℕ) (a : AttrPlace) (earlier later : Option RowId) (v : Verdict) → pair_of line a earlier
+    later ≡ Ok v → item_count v ≡ 0
 no_pair_items line a None later v h = cc
 no_pair_items line a (Some earlier) None v h = cc
 no_pair_items line a (Some earlier) (Some later) v h =
@@ -80,9 +86,11 @@ no_pair_items line a (Some earlier) (Some later) v h =
     } ≡ v = cc in
     rw (← is) refl
 
-no_items_of_pair : (line : ℕ) (earlier later : Named) (o : Option AttrPlace) (v : Verdict) → pair_said line earlier later o ≡ Ok v → item_count v ≡ 0
+no_items_of_pair : (line : ℕ) (earlier later : Named) (o : Option AttrPlace) (v : Verdict) → pair_said line earlier
+    later o ≡ Ok v → item_count v ≡ 0
 no_items_of_pair line earlier later None v h = cc
-no_items_of_pair line earlier later (Some a) v h = no_pair_items line a (row_named a.relation earlier) (row_named a.relation later) v h
+no_items_of_pair line earlier later (Some a) v h = no_pair_items line a (row_named a.relation earlier)
+    (row_named a.relation later) v h
 
 no_items_of_place : (line : ℕ) (o : Option Place) (v : Verdict) → place_said line o ≡ Ok v → item_count v ≡ 0
 no_items_of_place line None v h = cc
@@ -90,7 +98,8 @@ no_items_of_place line (Some p) v h =
     let is : verdict.NotSame (record { 0 = p.rel }) (record { 0 = p.attr }) (record { 0 = p.ent }) ≡ v = cc in
     rw (← is) refl
 
-items_of_same : (items : List CurrentTree) (due : Result (List Current) ReportFault) (v : Verdict) → ((cs : List Current) → due ≡ Ok cs → length cs ≡ length items)
+items_of_same : (items : List CurrentTree) (due : Result (List Current) ReportFault) (v : Verdict) →
+    ((cs : List Current) → due ≡ Ok cs → length cs ≡ length items)
     → and_then due (λ cs. Ok (verdict.Same cs)) ≡ Ok v → length (item_lines (Same items)) ≡ item_count v
 items_of_same items (Err e) v h same = cc
 items_of_same items (Ok cs) v h same =
@@ -102,10 +111,12 @@ lined_items : (relations : List Relation) (line : ℕ) (claim : ClaimTree) (v : 
 lined_items relations line Inconsistent v h = let is : verdict.Inconsistent ≡ v = cc in rw (← is) refl
 lined_items relations line Consistent v h = let is : verdict.Consistent ≡ v = cc in rw (← is) refl
 lined_items relations line Certain v h = let is : verdict.Certain ≡ v = cc in rw (← is) refl
-lined_items relations line (NotCertain relation attr earlier later) v h = sym (no_items_of_pair line earlier later (attr_named relations relation attr) v h)
+lined_items relations line (NotCertain relation attr earlier later) v h =
+    sym (no_items_of_pair line earlier later (attr_named relations relation attr) v h)
 lined_items relations line (Same items) v h =
     items_of_same items (currents_said relations items) v (λ cs. as_many_currents relations items cs) h
-lined_items relations line (NotSame relation attr entity) v h = sym (no_items_of_place line (place_named relations relation attr entity) v h)
+lined_items relations line (NotSame relation attr entity) v h =
+    sym (no_items_of_place line (place_named relations relation attr entity) v h)
 lined_items relations line (Answers items) v h =
     let is : verdict.Answers (map (λ t. t.values) items) ≡ v = cc in
     rw (← is) (length-map items (λ t. t.line) ∙ sym (length-map items (λ t. t.values)))
@@ -122,10 +133,13 @@ record IsSaid (relations : List Relation) (t : ReportTree) (r : ReadReport) : Ty
   well_formed : first_fault relations t.log.log ≡ None
   is : report_of t verdict completions t.log.log ≡ r
 
-from_parts : (relations : List Relation) (t : ReportTree) (r : ReadReport) (v : Result Verdict ReportFault) (cs : Result (List Rankings) ReportFault)
-    (fault : Option FormFault) → claim_said relations t.verdict.line t.verdict.claim ≡ v → all_completed t.version relations t.completions ≡ cs
+from_parts : (relations : List Relation) (t : ReportTree) (r : ReadReport) (v : Result Verdict ReportFault)
+    (cs : Result (List Rankings) ReportFault)
+    (fault : Option FormFault) → claim_said relations t.verdict.line t.verdict.claim ≡ v → all_completed t.version
+    relations t.completions ≡ cs
     → first_fault relations t.log.log ≡ fault
-    → and_then v (λ v. and_then cs (λ cs. and_then (log_or_fault t.log fault) (λ log. Ok (report_of t v cs log)))) ≡ Ok r → IsSaid relations t r
+    → and_then v (λ v. and_then cs (λ cs. and_then (log_or_fault t.log fault) (λ log. Ok (report_of t v cs log)))) ≡
+    Ok r → IsSaid relations t r
 from_parts relations t r (Err e) cs fault claimed listed formed h = cc
 from_parts relations t r (Ok v) (Err e) fault claimed listed formed h = cc
 from_parts relations t r (Ok v) (Ok cs) (Some fault) claimed listed formed h = cc
@@ -135,7 +149,8 @@ from_parts relations t r (Ok v) (Ok cs) None claimed listed formed h =
 parts_of : (relations : List Relation) (t : ReportTree) (r : ReadReport) → said relations t ≡ Ok r → IsSaid relations t r
 unfolding said
 parts_of relations t r h =
-    from_parts relations t r (claim_said relations t.verdict.line t.verdict.claim) (all_completed t.version relations t.completions)
+    from_parts relations t r (claim_said relations t.verdict.line t.verdict.claim)
+    (all_completed t.version relations t.completions)
     (first_fault relations t.log.log) refl refl refl h
 
 -- ---- what the grammar bounds
@@ -151,7 +166,8 @@ bounded source t text =
     let rest = text.spelled.second.second.second.second.second in
     record { few = rest.first.few; log_tokens = rest.second.front; log = rest.second.first }
 
-numbered_log : (t : ReportTree) → IsBounded t → AreWithin (length t.log.log.statements) t.log.log.steps → IsNumbered t.log.log.statements t.log.log.steps
+numbered_log : (t : ReportTree) → IsBounded t → AreWithin (length t.log.log.statements) t.log.log.steps
+    → IsNumbered t.log.log.statements t.log.log.steps
 numbered_log t h within =
     let small = is_small t.log h.log_tokens h.log in
     record {

@@ -50,7 +50,8 @@ abbrev pub claim_said : List Relation → ℕ → ClaimTree → Result Verdict R
 claim_said relations line Inconsistent = Ok verdict.Inconsistent
 claim_said relations line Consistent = Ok verdict.Consistent
 claim_said relations line Certain = Ok verdict.Certain
-claim_said relations line (NotCertain relation attr earlier later) = pair_said line earlier later (attr_named relations relation attr)
+claim_said relations line (NotCertain relation attr earlier later) = pair_said line earlier later
+    (attr_named relations relation attr)
 claim_said relations line (Same items) = and_then (currents_said relations items) (λ items. Ok (verdict.Same items))
 claim_said relations line (NotSame relation attr entity) = place_said line (place_named relations relation attr entity)
 claim_said relations line (Answers items) = Ok (verdict.Answers (map (λ t. t.values) items))

@@ -27,7 +27,13 @@ pub record IsEntityOf (relations : List Relation) (relation entity : Named) (e :
 pub record IsPlaceOf (relations : List Relation) (relation attr entity : Named) (p : PlaceIds) : Type 0 where
   pub of : Relation
   pub found : slice_get relations p.rel.0 ≡ Some of
-  pub is_named : place_named relations relation attr entity ≡ Some record { relation = of; rel = p.rel.0; attr = p.attr.0; ent = p.ent.0 }
+  pub is_named : place_named relations relation attr entity ≡ Some record {
+    relation = of;
+    rel = p.rel.0;
+    attr =
+        p.attr.0;
+    ent = p.ent.0;
+  }
   pub attr_within : p.attr.0 < length of.attrs
   pub ent_within : p.ent.0 < length of.entities
 

@@ -48,7 +48,8 @@ entity_named relations relation entity = option_and_then (λ x. entity_in x enti
 -- an attribute with the entity of a name in its relation
 abbrev pub place_at : AttrPlace → List ℕ → Option Place
 place_at a entity =
-    option_map (λ ent. record { relation = a.relation; rel = a.rel; attr = a.attr; ent = ent }) (place_of a.relation.entities entity)
+    option_map (λ ent. record { relation = a.relation; rel = a.rel; attr = a.attr; ent = ent })
+    (place_of a.relation.entities entity)
 
 -- the attribute and the entity that three names name
 abbrev pub place_named : List Relation → Named → Named → Named → Option Place

@@ -40,7 +40,8 @@ pub fn attr_named(
     attr: &Named,
 ) -> Option<AttrIds>
     requires { names.now ≡ all_names_of spec.now }
-    ensures { MatchOption result (attr_named spec.now.relations relation.now attr.now ≡ None) (IsAttrOf spec.now.relations relation.now attr.now) }
+    ensures { MatchOption result (attr_named spec.now.relations relation.now attr.now ≡ None)
+        (IsAttrOf spec.now.relations relation.now attr.now) }
 {
     // A specification's ids fit 32 bits: that is what this call tells.
     let _relations = spec.relations();
@@ -61,7 +62,8 @@ pub fn entity_named(
     entity: &Named,
 ) -> Option<EntityIds>
     requires { names.now ≡ all_names_of spec.now }
-    ensures { MatchOption result (entity_named spec.now.relations relation.now entity.now ≡ None) (IsEntityOf spec.now.relations relation.now entity.now) }
+    ensures { MatchOption result (entity_named spec.now.relations relation.now entity.now ≡ None)
+        (IsEntityOf spec.now.relations relation.now entity.now) }
 {
     // A specification's ids fit 32 bits: that is what this call tells.
     let _relations = spec.relations();

@@ -54,7 +54,8 @@ test_same a b told = exact_value a b (equal_order (value_cmp a b) told)
 module _ (relations : List Relation) (c d : Rankings) (rel : RelId) where
   -- they differ at none of the first attributes of an entity
   abbrev pub NoneBelow : EntId → ℕ → Type 0
-  NoneBelow ent count = (r : Relation) → slice_get relations rel.0 ≡ Some r → (attr : ℕ) → attr < count → DiffersAt r c d rel.0 attr ent.0 → ⊥
+  NoneBelow ent count = (r : Relation) → slice_get relations rel.0 ≡ Some r → (attr : ℕ) → attr < count
+      → DiffersAt r c d rel.0 attr ent.0 → ⊥
 
   -- the test says that the values of an attribute differ
   pub found : (ent : EntId) (attr : AttrId) (one other : Value) (q : Relation) → slice_get relations rel.0 ≡ Some q
@@ -92,7 +93,8 @@ module _ (relations : List Relation) (c d : Rankings) (rel : RelId) where
 
   -- they differ at none of the first entities
   abbrev pub NoneBefore : ℕ → Type 0
-  NoneBefore count = (r : Relation) → slice_get relations rel.0 ≡ Some r → (attr ent : ℕ) → ent < count → DiffersAt r c d rel.0 attr ent → ⊥
+  NoneBefore count = (r : Relation) → slice_get relations rel.0 ≡ Some r → (attr ent : ℕ) → ent < count
+      → DiffersAt r c d rel.0 attr ent → ⊥
 
   pub before_more : (ent : EntId) → NoneOfEntity relations c d rel ent → NoneBefore ent.0 → NoneBefore (ent.0 + 1)
   before_more ent here none r at attr k upto differs = by (cases_eq k ent.0)
@@ -101,7 +103,8 @@ module _ (relations : List Relation) (c d : Rankings) (rel : RelId) where
       by (inl is) = here r at attr (subst (DiffersAt r c d rel.0 attr) is differs)
       by (inr apart) = none r at attr k (omega arith) differs
 
-  pub none_of_relation : (count : ℕ) → ((r : Relation) → slice_get relations rel.0 ≡ Some r → length r.entities ≤ count) → NoneBefore count
+  pub none_of_relation : (count : ℕ) → ((r : Relation) → slice_get relations rel.0 ≡ Some r → length r.entities ≤
+      count) → NoneBefore count
       → NoneOfRelation relations c d rel
   none_of_relation count whole none r at attr ent differs =
       let h = whole r at in let within = differs.ent_within in none r at attr ent (omega arith) differs
@@ -109,7 +112,8 @@ module _ (relations : List Relation) (c d : Rankings) (rel : RelId) where
 -- ---- all relations
 
 -- a place of an asked relation
-pub difference : (relations : List Relation) (rels read : List RelId) (c d : Rankings) (i : ℕ) (default rel : RelId) (attr : AttrId) (ent : EntId)
+pub difference : (relations : List Relation) (rels read : List RelId) (c d : Rankings) (i : ℕ) (default rel : RelId)
+    (attr : AttrId) (ent : EntId)
     → All (λ rel. rel.0 < length relations) rels → read ≡ rels → i < length read → rel ≡ get_or read i default
     → IsOfEntity relations c d (get_or read i default) ent attr → IsDifference relations rels c d rel attr ent
 difference relations rels read c d i default rel attr ent there same below is differs =
@@ -126,7 +130,8 @@ difference relations rels read c d i default rel attr ent there same below is di
       differ = here.differ;
     }
 
-pub none_so_far : (relations : List Relation) (rels read : List RelId) (c d : Rankings) (i : ℕ) (default : RelId) → read ≡ rels → i < length read
+pub none_so_far : (relations : List Relation) (rels read : List RelId) (c d : Rankings) (i : ℕ) (default : RelId)
+    → read ≡ rels → i < length read
     → NoneOfRelation relations c d (get_or read i default) → All (NoneOfRelation relations c d) (take i rels)
     → All (NoneOfRelation relations c d) (take (i + 1) rels)
 none_so_far relations rels read c d i default same below here none =

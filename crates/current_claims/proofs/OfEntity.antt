@@ -26,7 +26,8 @@ pub values_more : (r : Relation) (c : Rankings) (rel ent count : ℕ) (values : 
     → AreValuesOf r c rel ent count values → AreValuesOf r c rel ent (count + 1) (values ++ copy ∷ [])
 values_more r c rel ent count values value copy is_current is_value same are = record {
   per_attr = length_push values copy ∙ ap (λ n. n + 1) are.per_attr;
-  current = same_pushed (λ attr. current_value c rel r.rows attr ent) values count copy are.per_attr (is_current ∙ ap Some (sym same)) are.current;
+  current = same_pushed (λ attr. current_value c rel r.rows attr ent) values count copy are.per_attr
+      (is_current ∙ ap Some (sym same)) are.current;
   writable = All-push IsValue values copy are.writable (subst IsValue (sym same) is_value);
 }
 
@@ -37,7 +38,8 @@ module _ (r : Relation) (c : Rankings) (rel : RelId) (ent : EntId) where
       → AreLastOf r c rel ent (attr.0 + 1) (rows ++ record { rel = rel; attr = attr; ent = ent; row = row } ∷ [])
   last_more attr rows row within of_entity is_last are = record {
     per_attr = length_push rows one ∙ ap (λ n. n + 1) are.per_attr;
-    each = λ k p at. ⊎_elim (are.each k p) (λ (end : (k ≡ length rows) × (one ≡ p)). here k p end.0 end.1) (pushed_cases rows one k p at);
+    each = λ k p at. ⊎_elim (are.each k p) (λ (end : (k ≡ length rows) × (one ≡ p)). here k p end.0 end.1)
+        (pushed_cases rows one k p at);
   }
     where
       one : CurrentRow
@@ -48,8 +50,10 @@ module _ (r : Relation) (c : Rankings) (rel : RelId) (ent : EntId) where
           subst (λ n. IsLastAt r c rel ent n p) (sym (end ∙ are.per_attr))
           (record { row = row; is_row = sym is; row_within = within; of_entity = of_entity; is_last = is_last })
 
-  pub adds_more : (attr : AttrId) (old rows new : List CurrentRow) (row : RowId) → row.0 < length r.rows → entity_of r.rows row.0 ≡ Some ent.0
-      → last_row (ranking_of c rel.0 attr.0 ent.0) ≡ Some row → new ≡ rows ++ record { rel = rel; attr = attr; ent = ent; row = row } ∷ []
+  pub adds_more : (attr : AttrId) (old rows new : List CurrentRow) (row : RowId) → row.0 < length r.rows
+      → entity_of r.rows row.0 ≡ Some ent.0
+      → last_row (ranking_of c rel.0 attr.0 ent.0) ≡ Some row → new ≡ rows
+      ++ record { rel = rel; attr = attr; ent = ent; row = row } ∷ []
       → AddsLastOf r c rel ent attr.0 old rows → AddsLastOf r c rel ent (attr.0 + 1) old new
   adds_more attr old rows new row within of_entity is_last grown adds =
       let one : CurrentRow = record { rel = rel; attr = attr; ent = ent; row = row } in
@@ -61,7 +65,8 @@ module _ (r : Relation) (c : Rankings) (rel : RelId) (ent : EntId) where
 
 -- both, for an entity that is there
 pub adds_entity : (relations : List Relation) (c : Rankings) (rel : RelId) (ent : EntId) (old : Claims)
-    (values : List Value) (items : List Current) (rows : List CurrentRow) → IsEntityOf relations rel.0 ent.0 → length values ≤ 4294967294
+    (values : List Value) (items : List Current) (rows : List CurrentRow) → IsEntityOf relations rel.0 ent.0
+    → length values ≤ 4294967294
     → ((r : Relation) → slice_get relations rel.0 ≡ Some r → AreValuesOf r c rel.0 ent.0 (length r.attrs) values)
     → ((r : Relation) → slice_get relations rel.0 ≡ Some r → AddsLastOf r c rel ent (length r.attrs) old.rows rows)
     → items ≡ old.items ++ record { rel = rel; ent = ent; values = values } ∷ []

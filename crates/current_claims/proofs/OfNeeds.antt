@@ -35,7 +35,8 @@ pushed_needs at (first ∷ items) item =
           ∙ sym (append_assoc own (item_needs (at + 1) items) (value_needs more.0 item.rel item.ent 0 item.values)),
     )
 
-as_many_values : (n : ℕ) (rel : RelId) (ent : EntId) (from : ℕ) (values : List Value) → length (value_needs n rel ent from values) ≡ length values
+as_many_values : (n : ℕ) (rel : RelId) (ent : EntId) (from : ℕ) (values : List Value)
+    → length (value_needs n rel ent from values) ≡ length values
 as_many_values n rel ent from [] = refl
 as_many_values n rel ent from (v ∷ values) = omega (arith, as_many_values n rel ent (from + 1) values)
 
@@ -115,21 +116,25 @@ module _ (relations : List Relation) (rels : List RelId) (c : Rankings) (rel : R
 
 -- ---- the rows of entities
 
-rows_append : (relations : List Relation) (rels : List RelId) (c : Rankings) (rows more : List CurrentRow) (needs further : List Need)
+rows_append : (relations : List Relation) (rels : List RelId) (c : Rankings) (rows more : List CurrentRow)
+    (needs further : List Need)
     → AreOfRows relations rels c rows needs → AreOfRows relations rels c more further
     → AreOfRows relations rels c (rows ++ more) (needs ++ further)
 rows_append relations rels c rows more needs further front behind = record {
   as_many = omega (arith, length-append rows more, length-append needs further, front.as_many, behind.as_many);
   last = All-append (IsLastIn relations rels c) rows more front.last behind.last;
-  each = pairs_append (λ (p : CurrentRow) (need : Need). IsOfRow relations p need.claim) rows more needs further front.as_many front.each behind.each;
+  each = pairs_append (λ (p : CurrentRow) (need : Need). IsOfRow relations p need.claim) rows more needs further
+      front.as_many front.each behind.each;
 }
 
 -- the rows of one entity more
-pub rows_more : (relations : List Relation) (rels : List RelId) (c : Rankings) (items : List Current) (item : Current) (rows more : List CurrentRow)
+pub rows_more : (relations : List Relation) (rels : List RelId) (c : Rankings) (items : List Current)
+    (item : Current) (rows more : List CurrentRow)
     → AreOfRows relations rels c rows (item_needs 0 items)
     → ((n : ℕ) → AreOfRows relations rels c more (value_needs n item.rel item.ent 0 item.values))
     → AreOfRows relations rels c (rows ++ more) (item_needs 0 (items ++ item ∷ []))
 rows_more relations rels c items item rows more front behind =
     let needs = pushed_needs 0 items item in
     subst (AreOfRows relations rels c (rows ++ more)) (sym needs.1)
-    (rows_append relations rels c rows more (item_needs 0 items) (value_needs needs.0 item.rel item.ent 0 item.values) front (behind needs.0))
+    (rows_append relations rels c rows more (item_needs 0 items)
+    (value_needs needs.0 item.rel item.ent 0 item.values) front (behind needs.0))

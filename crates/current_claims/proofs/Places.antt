@@ -27,7 +27,8 @@ same_ent a b e = let wrap : ℕ → EntId = λ n. record { 0 = n } in ap wrap e
 
 same_claims : (a b : Claims) → a.items ≡ b.items → a.rows ≡ b.rows → a ≡ b
 same_claims a b items rows =
-    let make : List Current → List CurrentRow → Claims = λ items rows. record { items = items; rows = rows } in ap₂ make items rows
+    let make : List Current → List CurrentRow → Claims = λ items rows. record { items = items; rows = rows } in ap₂
+    make items rows
 
 module _ (relations : List Relation) (rels : List RelId) (c : Rankings) where
   abbrev IsItemAhead : ℕ → ℕ → Current → Type 0
@@ -76,7 +77,8 @@ module _ (relations : List Relation) (rels : List RelId) (c : Rankings) where
       ent_is = same_ent ent e (sym same_e);
     }
 
-    all_items : (r : RelId) (e : EntId) → IsOfAsked relations rels r e → IsAhead r.0 e.0 rel.0 (ent.0 + 1) → HasItem grown.items r e
+    all_items : (r : RelId) (e : EntId) → IsOfAsked relations rels r e → IsAhead r.0 e.0 rel.0 (ent.0 + 1)
+        → HasItem grown.items r e
     all_items r e of_asked ahead =
         ⊎_elim
         (λ (below : r.0 < rel.0). kept r e (told.all r e of_asked (inl below)))
@@ -94,14 +96,16 @@ module _ (relations : List Relation) (rels : List RelId) (c : Rankings) where
         (λ (here : (a.rel.0 ≡ rel.0) × (a.ent.0 < ent.0)). inr (same_rel a.rel rel here.0, here.1))
         ahead
 
-    in_order : (i j : ℕ) (a b : Current) → i < j → slice_get grown.items i ≡ Some a → slice_get grown.items j ≡ Some b → IsItemBefore a b
+    in_order : (i j : ℕ) (a b : Current) → i < j → slice_get grown.items i ≡ Some a → slice_get grown.items j ≡ Some
+        b → IsItemBefore a b
     in_order i j a b below at there = by (pushed_cases old.items item i a at) (pushed_cases old.items item j b there)
       where
         by : (slice_get old.items i ≡ Some a) ⊎ ((i ≡ length old.items) × (item ≡ a))
             → (slice_get old.items j ≡ Some b) ⊎ ((j ≡ length old.items) × (item ≡ b)) → IsItemBefore a b
         by (inl in') (inl there') = told.ordered i j a b below in' there'
         by (inl in') (inr end) =
-            let listed : Contains old.items a = (i, slice_get_within old.items i a in', get_or_from_slice_get old.items i a a in') in
+            let listed : Contains old.items a =
+            (i, slice_get_within old.items i a in', get_or_from_slice_get old.items i a a in') in
             subst (IsItemBefore a) end.1 (before_item a (All-contains (IsItemAhead rel.0 ent.0) old.items a told.below listed))
         by (inr end) (inl there') = let is = end.0 in absurd (omega (arith, slice_get_within old.items j b there'))
         by (inr end) (inr end') = let is = end.0 in let is' = end'.0 in absurd (omega arith)
@@ -116,7 +120,8 @@ module _ (relations : List Relation) (rels : List RelId) (c : Rankings) where
     all_below : All (IsItemAhead rel.0 (ent.0 + 1)) grown.items
     all_below =
         All-push (IsItemAhead rel.0 (ent.0 + 1)) old.items item
-        (All-weaker (IsItemAhead rel.0 ent.0) (IsItemAhead rel.0 (ent.0 + 1)) further old.items told.below) (inr (refl, omega arith))
+        (All-weaker (IsItemAhead rel.0 ent.0) (IsItemAhead rel.0 (ent.0 + 1)) further old.items told.below)
+        (inr (refl, omega arith))
 
     told_grown : AreToldUpTo relations rels c rel.0 (ent.0 + 1) grown
     told_grown = record {
@@ -127,7 +132,8 @@ module _ (relations : List Relation) (rels : List RelId) (c : Rankings) where
       below = all_below;
       writable = All-push (IsItemOf relations) old.items item told.writable item_written;
       rows = rows_more relations rels c old.items item old.rows adds.more told.rows
-          (λ n. of_entity relations rels c rel ent adds.relation asked adds.is_relation adds.ent_within n adds.values adds.more adds.are_values adds.are_last);
+          (λ n. of_entity relations rels c rel ent adds.relation asked adds.is_relation adds.ent_within n adds.values
+          adds.more adds.are_values adds.are_last);
     }
 
     pub told_more : AreToldUpTo relations rels c rel.0 (ent.0 + 1) new
@@ -172,7 +178,8 @@ module _ (relations : List Relation) (rels : List RelId) (c : Rankings) where
       by below (inr apart) = inl (omega arith)
 
   -- each entity of the relation is told
-  pub told_relation : (rel : RelId) (ent : ℕ) (claims : Claims) (r : Relation) → slice_get relations rel.0 ≡ Some r → length r.entities ≤ ent
+  pub told_relation : (rel : RelId) (ent : ℕ) (claims : Claims) (r : Relation) → slice_get relations rel.0 ≡ Some r
+      → length r.entities ≤ ent
       → AreToldUpTo relations rels c rel.0 ent claims → AreToldUpTo relations rels c (rel.0 + 1) 0 claims
   told_relation rel ent claims r at whole = told_on rel.0 ent claims back
     where
@@ -201,14 +208,16 @@ module _ (relations : List Relation) (rels : List RelId) (c : Rankings) where
 
   -- ---- all relations
 
-  pub told_all : (rel : ℕ) (claims : Claims) → length relations ≤ rel → AreToldUpTo relations rels c rel 0 claims → AreClaimsOf relations rels c claims
+  pub told_all : (rel : ℕ) (claims : Claims) → length relations ≤ rel → AreToldUpTo relations rels c rel 0 claims
+      → AreClaimsOf relations rels c claims
   told_all rel claims whole told = record {
     items = record { only = told.only; all = each; values = told.values; ordered = told.ordered };
     writable = told.writable;
     rows = told.rows;
   }
     where
-      each : (r : RelId) (e : EntId) → IsOfAsked relations rels r e → (item : Current) × Contains claims.items item × (item.rel ≡ r) × (item.ent ≡ e)
+      each : (r : RelId) (e : EntId) → IsOfAsked relations rels r e → (item : Current) × Contains claims.items item ×
+          (item.rel ≡ r) × (item.ent ≡ e)
       each r e asked =
           let within : r.0 < length relations = slice_get_within relations r.0 asked.relation asked.is_relation in
           let has = told.all r e asked (inl (omega arith)) in

@@ -36,10 +36,12 @@ pub record IsOfRow (relations : List Relation) (p : CurrentRow) (claim : Claim) 
   pub of_row : (r : Relation) → slice_get relations p.rel.0 ≡ Some r → field_value r.rows (Some p.row) p.attr.0 ≡ Some value
 
 -- rows that stand last, one for each claim, in the order of the claims
-pub record AreOfRows (relations : List Relation) (rels : List RelId) (c : Rankings) (rows : List CurrentRow) (needs : List Need) : Type 0 where
+pub record AreOfRows (relations : List Relation) (rels : List RelId) (c : Rankings) (rows : List CurrentRow)
+    (needs : List Need) : Type 0 where
   pub as_many : length rows ≡ length needs
   pub last : All (IsLastIn relations rels c) rows
-  pub each : (k : ℕ) (p : CurrentRow) (need : Need) → slice_get rows k ≡ Some p → slice_get needs k ≡ Some need → IsOfRow relations p need.claim
+  pub each : (k : ℕ) (p : CurrentRow) (need : Need) → slice_get rows k ≡ Some p → slice_get needs k ≡ Some need
+      → IsOfRow relations p need.claim
 
 -- the items are exactly those of the asked relations, with the values of a completion, which can be written; and the rows are
 -- those that have these values
@@ -49,7 +51,8 @@ pub record AreClaimsOf (relations : List Relation) (rels : List RelId) (c : Rank
   pub rows : AreOfRows relations rels c claims.rows (needs_of (asked.Same rels) (verdict.Same claims.items))
 
 -- an attribute and an entity of an asked relation, where two completions have different current values
-pub record IsDifference (relations : List Relation) (rels : List RelId) (c d : Rankings) (rel : RelId) (attr : AttrId) (ent : EntId) : Type 0 where
+pub record IsDifference (relations : List Relation) (rels : List RelId) (c d : Rankings) (rel : RelId)
+    (attr : AttrId) (ent : EntId) : Type 0 where
   pub asked : Contains rels rel
   pub relation : Relation
   pub is_relation : slice_get relations rel.0 ≡ Some relation

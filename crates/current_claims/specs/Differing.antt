@@ -19,8 +19,10 @@ IsOfEntity relations c d rel ent attr = (r : Relation) → slice_get relations r
 
 -- they differ at no attribute of an entity
 abbrev pub NoneOfEntity : List Relation → Rankings → Rankings → RelId → EntId → Type 0
-NoneOfEntity relations c d rel ent = (r : Relation) → slice_get relations rel.0 ≡ Some r → (attr : ℕ) → DiffersAt r c d rel.0 attr ent.0 → ⊥
+NoneOfEntity relations c d rel ent = (r : Relation) → slice_get relations rel.0 ≡ Some r → (attr : ℕ)
+    → DiffersAt r c d rel.0 attr ent.0 → ⊥
 
 -- they differ nowhere in a relation
 abbrev pub NoneOfRelation : List Relation → Rankings → Rankings → RelId → Type 0
-NoneOfRelation relations c d rel = (r : Relation) → slice_get relations rel.0 ≡ Some r → (attr ent : ℕ) → DiffersAt r c d rel.0 attr ent → ⊥
+NoneOfRelation relations c d rel = (r : Relation) → slice_get relations rel.0 ≡ Some r → (attr ent : ℕ)
+    → DiffersAt r c d rel.0 attr ent → ⊥

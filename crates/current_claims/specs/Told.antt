@@ -39,7 +39,8 @@ pub record AreLastOf (r : Relation) (c : Rankings) (rel : RelId) (ent : EntId) (
   pub each : (attr : ℕ) (p : CurrentRow) → slice_get rows attr ≡ Some p → IsLastAt r c rel ent attr p
 
 -- a list with these rows behind the others
-pub record AddsLastOf (r : Relation) (c : Rankings) (rel : RelId) (ent : EntId) (count : ℕ) (old new : List CurrentRow) : Type 0 where
+pub record AddsLastOf (r : Relation) (c : Rankings) (rel : RelId) (ent : EntId) (count : ℕ)
+    (old new : List CurrentRow) : Type 0 where
   pub more : List CurrentRow
   pub are_last : AreLastOf r c rel ent count more
   pub grown : new ≡ old ++ more
@@ -71,11 +72,13 @@ pub record HasItem (items : List Current) (rel : RelId) (ent : EntId) : Type 0 w
   pub ent_is : item.ent ≡ ent
 
 -- the items are those of the entities of asked relations that come before a place, and the rows have their values
-pub record AreToldUpTo (relations : List Relation) (rels : List RelId) (c : Rankings) (rel ent : ℕ) (claims : Claims) : Type 0 where
+pub record AreToldUpTo (relations : List Relation) (rels : List RelId) (c : Rankings) (rel ent : ℕ)
+    (claims : Claims) : Type 0 where
   pub only : All (λ item. IsOfAsked relations rels item.rel item.ent) claims.items
   pub all : (r : RelId) (e : EntId) → IsOfAsked relations rels r e → IsAhead r.0 e.0 rel ent → HasItem claims.items r e
   pub values : All (HasValues relations) claims.items
-  pub ordered : (i j : ℕ) (a b : Current) → i < j → slice_get claims.items i ≡ Some a → slice_get claims.items j ≡ Some b → IsItemBefore a b
+  pub ordered : (i j : ℕ) (a b : Current) → i < j → slice_get claims.items i ≡ Some a → slice_get claims.items j ≡
+      Some b → IsItemBefore a b
   pub below : All (λ item. IsAhead item.rel.0 item.ent.0 rel ent) claims.items
   pub writable : All (IsItemOf relations) claims.items
   pub rows : AreOfRows relations rels c claims.rows (item_needs 0 claims.items)

@@ -84,14 +84,17 @@ own_ranking relations c rel attr ent completion place =
     completion.ranked rel place.relation place.is_relation attr ent place.attr_within place.ent_within
 
 -- the list at a place of a completion has a row
-pub some_ranked : (relations : List Relation) (c : Rankings) (rel attr ent : ℕ) → AreRelations relations → IsCompletion relations c
+pub some_ranked : (relations : List Relation) (c : Rankings) (rel attr ent : ℕ) → AreRelations relations
+    → IsCompletion relations c
     → IsPlaceOf relations rel attr ent → 0 < length (ranking_of c rel attr ent)
 some_ranked relations c rel attr ent are completion place =
     let r = place.relation in
     let within = slice_get_within relations rel r place.is_relation in
     let is : IsRelation r =
-    subst IsRelation (get_or_from_slice_get relations rel r r place.is_relation) (All-get_or IsRelation relations rel r within are.each) in
-    ranked_some r.rows ent (ranking_of c rel attr ent) (own_ranking relations c rel attr ent completion place) (is.inhabited ent place.ent_within)
+    subst IsRelation (get_or_from_slice_get relations rel r r place.is_relation)
+    (All-get_or IsRelation relations rel r within are.each) in
+    ranked_some r.rows ent (ranking_of c rel attr ent) (own_ranking relations c rel attr ent completion place)
+    (is.inhabited ent place.ent_within)
 
 -- what stands last in it is a row of the entity
 pub last_of_entity : (relations : List Relation) (c : Rankings) (rel attr ent : ℕ) → IsCompletion relations c
@@ -101,6 +104,10 @@ last_of_entity relations c rel attr ent completion place row last r at =
     let list = ranking_of c rel attr ent in
     let ranking = own_ranking relations c rel attr ent completion place in
     let same : place.relation ≡ r = same_Some place.relation r (sym place.is_relation ∙ at) in
-    let there : Contains list row =
-    (length list - 1, slice_get_within list (length list - 1) row last, get_or_from_slice_get list (length list - 1) row row last) in
+    let there : Contains list row = (
+      length list - 1,
+      slice_get_within list (length list - 1) row last,
+      get_or_from_slice_get list (length list - 1)
+          row row last,
+    ) in
     subst (λ (q : Relation). entity_of q.rows row.0 ≡ Some ent) same (ranking.only row there)

@@ -43,7 +43,8 @@ is_compared a cmp b = false
 -- the predicate holds, if it is a comparison
 abbrev pub comparison_holds : List Row → List RowId → Predicate → Bool
 comparison_holds table rows (Order atom) = true
-comparison_holds table rows (Compare left cmp right) = is_compared (operand_value table rows left) cmp (operand_value table rows right)
+comparison_holds table rows (Compare left cmp right) = is_compared (operand_value table rows left) cmp
+    (operand_value table rows right)
 
 -- every comparison of a rule holds
 abbrev pub values_hold : Rule → List Row → List RowId → Bool
@@ -81,5 +82,6 @@ concluded rows (conclusion.Order atom) = atom_pair rows atom
 abbrev pub instance_of : Rule → List Row → List RowId → Option RuleInstance
 instance_of rule table rows =
     if values_hold rule table rows
-    then option_map (λ premises. record { premises = premises; conclusion = concluded rows rule.conclusion }) (premises_of rows rule.predicates)
+    then option_map (λ premises. record { premises = premises; conclusion = concluded rows rule.conclusion })
+    (premises_of rows rule.predicates)
     else None

@@ -21,16 +21,20 @@ chosen_filter test members zero front = ap (λ l. cond (test l) (l ∷ []) []) (
 chosen_filter test members (suc left) front =
     ap (filter test) (map_flat (λ l. front ++ l) (λ row. map (λ rows. row ∷ rows) (choices left members)) members)
     ∙ filter_flat test (λ row. map (λ l. front ++ l) (map (λ rows. row ∷ rows) (choices left members))) members
-    ∙ flat_same (λ row. filter test (map (λ l. front ++ l) (map (λ rows. row ∷ rows) (choices left members)))) (λ row. chosen_from test members left (front ++ row ∷ []))
-    (λ row. ap (filter test) (front_moved front row (choices left members)) ∙ chosen_filter test members left (front ++ row ∷ [])) members
+    ∙ flat_same (λ row. filter test (map (λ l. front ++ l) (map (λ rows. row ∷ rows) (choices left members))))
+    (λ row. chosen_from test members left (front ++ row ∷ []))
+    (λ row. ap (filter test) (front_moved front row (choices left members)) ∙ chosen_filter test members left
+    (front ++ row ∷ [])) members
 
 map_same : {A : Type 0} (xs : List (List A)) → map (λ l. [] ++ l) xs ≡ xs
 map_same [] = refl
 map_same (x ∷ xs) = ap (λ l. x ∷ l) (map_same xs)
 
 -- all that are chosen from nothing
-pub chosen_from_nothing : (test : List RowId → Bool) (members : List RowId) (vars : ℕ) → chosen_from test members vars [] ≡ filter test (choices vars members)
-chosen_from_nothing test members vars = sym (chosen_filter test members vars []) ∙ ap (filter test) (map_same (choices vars members))
+pub chosen_from_nothing : (test : List RowId → Bool) (members : List RowId) (vars : ℕ) → chosen_from test members
+    vars [] ≡ filter test (choices vars members)
+chosen_from_nothing test members vars = sym (chosen_filter test members vars []) ∙ ap (filter test)
+    (map_same (choices vars members))
 
 -- where a row is left to choose, one row is chosen first
 pub chosen_more : (test : List RowId → Bool) (members : List RowId) (left : ℕ) (front : List RowId) → 0 < left

@@ -13,14 +13,17 @@ use Rattle.entity_ground.proofs.Among.{Among, Apart, in_flat, in_fronted, of_fla
 -- ---- the rows of an entity
 
 -- a number of the rows from a first one on
-pub of_rows : (first : ℕ) (es : List ℕ) (ent : ℕ) (x : RowId) → Among (rows_from first es ent) x → (first ≤ x.0) × (slice_get es (x.0 - first) ≡ Some ent)
+pub of_rows : (first : ℕ) (es : List ℕ) (ent : ℕ) (x : RowId) → Among (rows_from first es ent) x → (first ≤ x.0) ×
+    (slice_get es (x.0 - first) ≡ Some ent)
 of_rows first [] ent x is = absurd is
 of_rows first (e ∷ es) ent x is = by (eqb e ent) refl is (λ more. of_rows (first + 1) es ent x more)
   where
-    later : (first + 1 ≤ x.0) × (slice_get es (x.0 - (first + 1)) ≡ Some ent) → (first ≤ x.0) × (slice_get (e ∷ es) (x.0 - first) ≡ Some ent)
+    later : (first + 1 ≤ x.0) × (slice_get es (x.0 - (first + 1)) ≡ Some ent) → (first ≤ x.0) ×
+        (slice_get (e ∷ es) (x.0 - first) ≡ Some ent)
     later (after, at) = let one : x.0 - first ≡ suc (x.0 - (first + 1)) = omega arith in (omega arith, rw one at)
 
-    by : (b : Bool) → eqb e ent ≡ b → Among (cond b (record { 0 = first } ∷ rows_from (first + 1) es ent) (rows_from (first + 1) es ent)) x
+    by : (b : Bool) → eqb e ent ≡ b → Among (cond b (record { 0 = first } ∷ rows_from (first + 1) es ent)
+        (rows_from (first + 1) es ent)) x
         → (Among (rows_from (first + 1) es ent) x → (first + 1 ≤ x.0) × (slice_get es (x.0 - (first + 1)) ≡ Some ent))
         → (first ≤ x.0) × (slice_get (e ∷ es) (x.0 - first) ≡ Some ent)
     by true tested (inl here) more =
@@ -31,7 +34,8 @@ of_rows first (e ∷ es) ent x is = by (eqb e ent) refl is (λ more. of_rows (fi
     by true tested (inr there) more = later (more there)
     by false tested there more = later (more there)
 
-pub in_rows : (first : ℕ) (es : List ℕ) (ent k : ℕ) → slice_get es k ≡ Some ent → Among (rows_from first es ent) (record { 0 = first + k })
+pub in_rows : (first : ℕ) (es : List ℕ) (ent k : ℕ) → slice_get es k ≡ Some ent → Among (rows_from first es ent)
+    (record { 0 = first + k })
 in_rows first [] ent k at = absurd (none-some ent at)
 in_rows first (e ∷ es) ent zero at =
     let same : e ≡ ent = same_Some e ent at in
@@ -44,7 +48,8 @@ in_rows first (e ∷ es) ent (suc k) at = by (eqb e ent) (in_rows (first + 1) es
     next = omega arith
 
     by : (b : Bool) → Among (rows_from (first + 1) es ent) (record { 0 = first + 1 + k })
-        → Among (cond b (record { 0 = first } ∷ rows_from (first + 1) es ent) (rows_from (first + 1) es ent)) (record { 0 = first + suc k })
+        → Among (cond b (record { 0 = first } ∷ rows_from (first + 1) es ent) (rows_from (first + 1) es ent))
+        (record { 0 = first + suc k })
     by true more = inr (rw next more)
     by false more = rw next more
 
@@ -52,7 +57,8 @@ pub apart_rows : (first : ℕ) (es : List ℕ) (ent : ℕ) → Apart (rows_from 
 apart_rows first [] ent = tt
 apart_rows first (e ∷ es) ent = by (eqb e ent) (apart_rows (first + 1) es ent)
   where
-    by : (b : Bool) → Apart (rows_from (first + 1) es ent) → Apart (cond b (record { 0 = first } ∷ rows_from (first + 1) es ent) (rows_from (first + 1) es ent))
+    by : (b : Bool) → Apart (rows_from (first + 1) es ent)
+        → Apart (cond b (record { 0 = first } ∷ rows_from (first + 1) es ent) (rows_from (first + 1) es ent))
     by true more = (λ is. let at = of_rows (first + 1) es ent (record { 0 = first }) is in omega (arith, at.0), more)
     by false more = more
 
@@ -75,10 +81,12 @@ entity_below (r ∷ table) n (suc i) ent all at = entity_below table n i ent (Al
 pub in_choices : (members rows : List RowId) → All (Among members) rows → Among (choices (length rows) members) rows
 in_choices members [] all = inl refl
 in_choices members (row ∷ rows) all =
-    in_flat (λ x. map (λ rest. x ∷ rest) (choices (length rows) members)) members row (row ∷ rows) (All-head (Among members) row rows all)
+    in_flat (λ x. map (λ rest. x ∷ rest) (choices (length rows) members)) members row (row ∷ rows)
+    (All-head (Among members) row rows all)
     (in_fronted row (choices (length rows) members) rows (in_choices members rows (All-tail (Among members) row rows all)))
 
-pub of_choices : (vars : ℕ) (members rows : List RowId) → Among (choices vars members) rows → (length rows ≡ vars) × All (Among members) rows
+pub of_choices : (vars : ℕ) (members rows : List RowId) → Among (choices vars members) rows →
+    (length rows ≡ vars) × All (Among members) rows
 of_choices zero members rows (inl is) = (ap (λ l. length l) (sym is), rw (sym is) (All-nil (Among members)))
 of_choices zero members rows (inr is) = absurd is
 of_choices (suc vars) members rows is =

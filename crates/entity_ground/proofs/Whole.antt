@@ -18,14 +18,16 @@ use Rattle.entity_ground.proofs.Listed.{listed_exactly}
 
 -- ---- lists that go together
 
-zip_push : {A B : Type 0} (R : A → B → Type 0) (xs : List A) (ys : List B) (x : A) (y : B) → AllZip R xs ys → R x y → AllZip R (xs ++ x ∷ []) (ys ++ y ∷ [])
+zip_push : {A B : Type 0} (R : A → B → Type 0) (xs : List A) (ys : List B) (x : A) (y : B) → AllZip R xs ys → R x y
+    → AllZip R (xs ++ x ∷ []) (ys ++ y ∷ [])
 zip_push R [] [] x y all one = (one, tt)
 zip_push R [] (z ∷ ys) x y all one = absurd all
 zip_push R (z ∷ xs) [] x y all one = absurd all
 zip_push R (z ∷ xs) (w ∷ ys) x y all one = (all.0, zip_push R xs ys x y all.1 one)
 
 -- one more of each
-pub zip_more : {A B : Type 0} (R : A → B → Type 0) (xs : List A) (ys now : List B) (i : ℕ) (x : A) (y : B) → i < length xs → x ≡ get_or xs i x
+pub zip_more : {A B : Type 0} (R : A → B → Type 0) (xs : List A) (ys now : List B) (i : ℕ) (x : A) (y : B)
+    → i < length xs → x ≡ get_or xs i x
     → AllZip R (take i xs) ys → R x y → now ≡ ys ++ y ∷ [] → AllZip R (take (i + 1) xs) now
 zip_more R xs ys now i x y below is all one after =
     let next : take (i + 1) xs ≡ take i xs ++ x ∷ [] = take_more xs i x below ∙ ap (λ z. take i xs ++ z ∷ []) (sym is) in
@@ -37,13 +39,15 @@ zip_length R [] (y ∷ ys) all = absurd all
 zip_length R (x ∷ xs) [] all = absurd all
 zip_length R (x ∷ xs) (y ∷ ys) all = ap (λ n. suc n) (zip_length R xs ys all.1)
 
-zip_both : {A B : Type 0} (R : A → B → Type 0) (xs : List A) (ys : List B) (k : ℕ) (x : A) (y : B) → AllZip R xs ys → slice_get xs k ≡ Some x → slice_get ys k ≡ Some y → R x y
+zip_both : {A B : Type 0} (R : A → B → Type 0) (xs : List A) (ys : List B) (k : ℕ) (x : A) (y : B) → AllZip R xs ys
+    → slice_get xs k ≡ Some x → slice_get ys k ≡ Some y → R x y
 zip_both R [] ys k x y all at there = absurd (none-some x at)
 zip_both R (z ∷ xs) [] k x y all at there = absurd all
 zip_both R (z ∷ xs) (w ∷ ys) zero x y all at there = rw (sym (same_Some z x at), sym (same_Some w y there)) all.0
 zip_both R (z ∷ xs) (w ∷ ys) (suc k) x y all at there = zip_both R xs ys k x y all.1 at there
 
-zip_there : {A B : Type 0} (R : A → B → Type 0) (xs : List A) (ys : List B) (k : ℕ) (x : A) → AllZip R xs ys → slice_get xs k ≡ Some x → (y : B) × (slice_get ys k ≡ Some y) × R x y
+zip_there : {A B : Type 0} (R : A → B → Type 0) (xs : List A) (ys : List B) (k : ℕ) (x : A) → AllZip R xs ys
+    → slice_get xs k ≡ Some x → (y : B) × (slice_get ys k ≡ Some y) × R x y
 zip_there R [] ys k x all at = absurd (none-some x at)
 zip_there R (z ∷ xs) [] k x all at = absurd all
 zip_there R (z ∷ xs) (w ∷ ys) zero x all at = (w, refl, rw (sym (same_Some z x at)) all.0)
@@ -59,11 +63,13 @@ range_push first (suc count) =
     rw next (ap (λ l. first ∷ l) (range_push (first + 1) count ∙ ap (λ n. range_with_len (first + 1) count ++ n ∷ []) last))
 
 -- what one entity more makes
-pub entity_more : {A : Type 0} (make : ℕ → List A) (made now : List A) (ent : ℕ) → made ≡ flat_map make (range_with_len 0 ent) → now ≡ made ++ make ent
+pub entity_more : {A : Type 0} (make : ℕ → List A) (made now : List A) (ent : ℕ) → made ≡ flat_map make
+    (range_with_len 0 ent) → now ≡ made ++ make ent
     → now ≡ flat_map make (range_with_len 0 (ent + 1))
 entity_more make made now ent before after =
     let last : 0 + ent ≡ ent = omega arith in
-    let range : range_with_len 0 (ent + 1) ≡ range_with_len 0 ent ++ ent ∷ [] = range_push 0 ent ∙ ap (λ n. range_with_len 0 ent ++ n ∷ []) last in
+    let range : range_with_len 0 (ent + 1) ≡ range_with_len 0 ent ++ ent ∷ [] = range_push 0 ent
+    ∙ ap (λ n. range_with_len 0 ent ++ n ∷ []) last in
     after ∙ ap (λ l. l ++ make ent) before
     ∙ ap (λ l. flat_map make (range_with_len 0 ent) ++ l) (sym (append-nil (make ent)))
     ∙ sym (flat_map-append make (range_with_len 0 ent) (ent ∷ []))
@@ -74,8 +80,10 @@ entity_more make made now ent before after =
 all_at : {A : Type 0} (P : A → Type 0) (xs : List A) (k : ℕ) (x : A) → All P xs → slice_get xs k ≡ Some x → P x
 all_at P xs k x all at = All-contains P xs x all (to_contains xs x (from_place xs k x at))
 
-exact_grounds : (relations : List Relation) (rules : List Rule) (k : ℕ) (rule : Rule) (r : Relation) (grounds : List (List RowId)) → AreRelations relations → AreRules relations rules
-    → slice_get rules k ≡ Some rule → slice_get relations rule.relation.0 ≡ Some r → grounds ≡ grounds_of rule r → AreGrounds rule r.rows grounds
+exact_grounds : (relations : List Relation) (rules : List Rule) (k : ℕ) (rule : Rule) (r : Relation)
+    (grounds : List (List RowId)) → AreRelations relations → AreRules relations rules
+    → slice_get rules k ≡ Some rule → slice_get relations rule.relation.0 ≡ Some r → grounds ≡ grounds_of rule r
+    → AreGrounds rule r.rows grounds
 exact_grounds relations rules k rule r grounds are are_rules at of same =
     let of_relation = all_at (IsRuleOf relations) rules k rule are_rules.each at in
     let facts = all_at IsRelation relations rule.relation.0 r are.each of in
@@ -90,10 +98,12 @@ rules_whole s rules are are_rules all =
           let there = zip_there (AreListed s.relations) s.rules rules k rule all at in
           there.1 ∙ ap (λ g. Some g) (there.2 r of);
       exact = λ k rule r grounds at of there.
-          exact_grounds s.relations s.rules k rule r grounds are are_rules at of (zip_both (AreListed s.relations) s.rules rules k rule grounds all at there r of);
+          exact_grounds s.relations s.rules k rule r grounds are are_rules at of
+          (zip_both (AreListed s.relations) s.rules rules k rule grounds all at there r of);
     }
 
-pub copies_whole : (s : Spec) (copies : List (List CopiedPair)) → AllZip (ArePaired s.relations) s.copies copies → AreCopyGrounds s copies
+pub copies_whole : (s : Spec) (copies : List (List CopiedPair)) → AllZip (ArePaired s.relations) s.copies copies
+    → AreCopyGrounds s copies
 copies_whole s copies all =
     record {
       per_copy = zip_length (ArePaired s.relations) s.copies copies all;

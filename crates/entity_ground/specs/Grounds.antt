@@ -31,7 +31,8 @@ grounds_among rule table members = filter (has_instance rule table) (choices rul
 
 -- the choices for which a rule has an instance, entity by entity of its relation
 abbrev pub grounds_of : Rule → Relation → List (List RowId)
-grounds_of rule r = flat_map (λ ent. grounds_among rule r.rows (rows_of (entities_of r.rows) ent)) (range_with_len 0 (length r.entities))
+grounds_of rule r = flat_map (λ ent. grounds_among rule r.rows (rows_of (entities_of r.rows) ent))
+    (range_with_len 0 (length r.entities))
 
 -- ---- rules: what is meant
 
@@ -49,7 +50,8 @@ pub record AreGrounds (rule : Rule) (table : List Row) (grounds : List (List Row
 -- for each rule its grounds
 pub record AreRuleGrounds (s : Spec) (rules : List (List (List RowId))) : Type 0 where
   pub per_rule : length rules ≡ length s.rules
-  pub listed : (k : ℕ) (rule : Rule) (r : Relation) → slice_get s.rules k ≡ Some rule → slice_get s.relations rule.relation.0 ≡ Some r
+  pub listed : (k : ℕ) (rule : Rule) (r : Relation) → slice_get s.rules k ≡ Some rule → slice_get s.relations
+      rule.relation.0 ≡ Some r
       → slice_get rules k ≡ Some (grounds_of rule r)
   pub exact : (k : ℕ) (rule : Rule) (r : Relation) (grounds : List (List RowId)) → slice_get s.rules k ≡ Some rule
       → slice_get s.relations rule.relation.0 ≡ Some r → slice_get rules k ≡ Some grounds → AreGrounds rule r.rows grounds
@@ -59,6 +61,7 @@ pub record AreRuleGrounds (s : Spec) (rules : List (List (List RowId))) : Type 0
 -- for each copy function its pairs
 pub record AreCopyGrounds (s : Spec) (copies : List (List CopiedPair)) : Type 0 where
   pub per_copy : length copies ≡ length s.copies
-  pub exact : (k : ℕ) (copy : CopyFunction) (target source : Relation) (pairs : List CopiedPair) → slice_get s.copies k ≡ Some copy
+  pub exact : (k : ℕ) (copy : CopyFunction) (target source : Relation) (pairs : List CopiedPair) → slice_get s.copies
+      k ≡ Some copy
       → slice_get s.relations copy.target.0 ≡ Some target → slice_get s.relations copy.source.0 ≡ Some source
       → slice_get copies k ≡ Some pairs → AreCopiedPairs copy target.rows source.rows pairs

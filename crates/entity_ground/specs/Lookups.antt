@@ -49,11 +49,13 @@ pub record IsByValue (table : List Row) (attr : AttrId) (members by_value : List
 
 -- rows that stand by their values come to this one at the start
 abbrev pub StartsAt : List Row → AttrId → Value → List RowId → ℕ → Type 0
-StartsAt table attr value rows start = IsPartitionPoint (λ y. nat_lt (rank_to table attr value y) 1 ≡ true) (λ y. nat_lt (rank_to table attr value y) 1 ≡ false) rows start
+StartsAt table attr value rows start = IsPartitionPoint (λ y. nat_lt (rank_to table attr value y) 1 ≡ true)
+    (λ y. nat_lt (rank_to table attr value y) 1 ≡ false) rows start
 
 -- and go past it at the end
 abbrev pub EndsAt : List Row → AttrId → Value → List RowId → ℕ → Type 0
-EndsAt table attr value rows end = IsPartitionPoint (λ y. nat_le (rank_to table attr value y) 1 ≡ true) (λ y. nat_le (rank_to table attr value y) 1 ≡ false) rows end
+EndsAt table attr value rows end = IsPartitionPoint (λ y. nat_le (rank_to table attr value y) 1 ≡ true)
+    (λ y. nat_le (rank_to table attr value y) 1 ≡ false) rows end
 
 -- ---- what is looked up
 
@@ -89,7 +91,8 @@ pub record IsLookup (rule : Rule) (table : List Row) (members : List RowId) (var
 
 -- where there is a lookup for a variable, it finds what its row is asked for
 abbrev pub AreLookups : Rule → List Row → List RowId → List (Option Looked) → Type 0
-AreLookups rule table members lookups = (var : ℕ) (lookup : Looked) → slice_get lookups var ≡ Some (Some lookup) → IsLookup rule table members var lookup
+AreLookups rule table members lookups = (var : ℕ) (lookup : Looked) → slice_get lookups var ≡ Some (Some lookup)
+    → IsLookup rule table members var lookup
 
 -- a rule, the rows of its relation, and some of these
 pub record Searched : Type 0 where

@@ -19,5 +19,6 @@ AreListed relations rule grounds = (r : Relation) → slice_get relations rule.r
 
 -- the pairs of a copy function between its two relations
 abbrev pub ArePaired : List Relation → CopyFunction → List CopiedPair → Type 0
-ArePaired relations copy pairs = (target source : Relation) → slice_get relations copy.target.0 ≡ Some target → slice_get relations copy.source.0 ≡ Some source
+ArePaired relations copy pairs = (target source : Relation) → slice_get relations copy.target.0 ≡ Some target
+    → slice_get relations copy.source.0 ≡ Some source
     → AreCopiedPairs copy target.rows source.rows pairs

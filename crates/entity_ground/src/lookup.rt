@@ -54,7 +54,8 @@ impl<'a> Lookup<'a> {
 
     /// The rows whose value is the operand's, for these rows of the first variables.
     pub(crate) fn found(&self, front: &[RowId]) -> &[RowId]
-        ensures { result.now ≡ filter (is_alike self.now.table self.now.attr (operand_value self.now.table front.now self.now.by)) self.now.members }
+        ensures { result.now ≡ filter (is_alike self.now.table self.now.attr
+            (operand_value self.now.table front.now self.now.by)) self.now.members }
     {
         match self.by.value(self.index.table(), front) {
             Some(value) => self.index.alike(value),

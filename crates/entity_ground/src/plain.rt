@@ -47,7 +47,8 @@ fn add_tried(
     grounds: &mut FlatLists<RowId>,
 ) -> Result<(), NoMemory>
     requires { length rule.now.predicates ≤ 16 }
-    ensures grounds { OnOk result (grounds.new ≡ grounds.old ++ chosen_from (has_instance rule.now table.now) members.now left front.old.items) }
+    ensures grounds { OnOk result (grounds.new ≡ grounds.old ++ chosen_from (has_instance rule.now table.now)
+        members.now left front.old.items) }
     ensures front { OnOk result (front.new.items ≡ front.old.items) }
 {
     if left == 0 {

@@ -95,7 +95,8 @@ impl Search<'_> {
     ) -> Result<(), NoMemory>
         requires room { length front ≡ 4 }
         requires within { depth ≤ self.now.rule.vars }
-        ensures { OnOk result (grounds.new ≡ grounds.old ++ chosen_from (passes_from depth self.now.rule self.now.table) self.now.members (self.now.rule.vars - depth) (take depth front)) }
+        ensures { OnOk result (grounds.new ≡ grounds.old ++ chosen_from
+            (passes_from depth self.now.rule self.now.table) self.now.members (self.now.rule.vars - depth) (take depth front)) }
     {
         let vars = self.vars();
         if !self.passes(&front[..depth]) {

@@ -91,7 +91,8 @@ impl EntityLists {
     /// The place of a row among the rows of its entity, counted from 0.
     pub fn place(&self, row: RowId) -> usize
         requires { row.0 < length self.now.entities }
-        ensures { (ent : ℕ) → slice_get self.now.entities row.0 ≡ Some ent → slice_get (rows_of self.now.entities ent) result ≡ Some row }
+        ensures { (ent : ℕ) → slice_get self.now.entities row.0 ≡ Some ent
+            → slice_get (rows_of self.now.entities ent) result ≡ Some row }
     {
         self.places[row.0 as usize] as usize
     }

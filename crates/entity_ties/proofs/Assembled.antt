@@ -24,30 +24,36 @@ cut_length xs a n fits =
     let enough : a + n - a ≤ length (drop a xs) = omega (arith, length-drop a xs) in
     length-take-le (a + n - a) (drop a xs) enough ∙ omega arith
 
-pub cut_at : {A : Type 0} (xs : List A) (a n i : ℕ) → a + n ≤ length xs → i < n → slice_get (slice_range xs a (a + n)) i ≡ slice_get xs (a + i)
+pub cut_at : {A : Type 0} (xs : List A) (a n i : ℕ) → a + n ≤ length xs → i < n
+    → slice_get (slice_range xs a (a + n)) i ≡ slice_get xs (a + i)
 cut_at xs a n i fits below =
     let inside : a + i < length xs = omega arith in
     let x = there xs (a + i) inside in
     let long : i < length (slice_range xs a (a + n)) = omega (arith, cut_length xs a n fits) in
     slice_get-get_or (slice_range xs a (a + n)) i x.0 long
-    ∙ (ap Some (get_or-take (a + n - a) (drop a xs) i x.0 (omega arith) ∙ get_or-drop a xs i x.0) ∙ sym (slice_get-get_or xs (a + i) x.0 inside))
+    ∙ (ap Some (get_or-take (a + n - a) (drop a xs) i x.0 (omega arith) ∙ get_or-drop a xs i x.0)
+    ∙ sym (slice_get-get_or xs (a + i) x.0 inside))
 
-module _ (s : Spec) (firsts labels : List ℕ) (members : List Member) (count : ℕ) (lists : List (List ℕ)) (facts : AreRelations s.relations)
+module _ (s : Spec) (firsts labels : List ℕ) (members : List Member) (count : ℕ) (lists : List (List ℕ))
+    (facts : AreRelations s.relations)
     (are : AreNumbered s.relations (length s.relations) firsts members) (labelled : AreCellLabels s firsts members labels count)
     (cut : AreCut s.relations (length s.relations) firsts labels lists) where
-  room : (rel : ℕ) (r : Relation) → slice_get s.relations rel ≡ Some r → slice_index firsts rel + length r.entities ≤ length labels
+  room : (rel : ℕ) (r : Relation) → slice_get s.relations rel ≡ Some r → slice_index firsts rel + length r.entities ≤
+      length labels
   room rel r at = omega (arith, are.fit rel r (slice_get_within s.relations rel r at) at, labelled.many)
 
   pub per_entity : (rel : ℕ) (r : Relation) → slice_get s.relations rel ≡ Some r → length (list_at lists rel) ≡ length r.entities
   per_entity rel r at =
-      ap length (cut.each rel r (slice_get_within s.relations rel r at) at) ∙ cut_length labels (slice_index firsts rel) (length r.entities) (room rel r at)
+      ap length (cut.each rel r (slice_get_within s.relations rel r at) at) ∙ cut_length labels
+      (slice_index firsts rel) (length r.entities) (room rel r at)
 
   -- the label of an entity is that of its number
   pub by_number : (a : Cell) → IsCell s a → slice_get (list_at lists a.rel) a.ent ≡ slice_get labels (number firsts a)
   by_number a is =
       let inside = slice_get_within s.relations a.rel is.relation is.is_relation in
       ap (λ (l : List ℕ). slice_get l a.ent) (cut.each a.rel is.relation inside is.is_relation)
-      ∙ cut_at labels (slice_index firsts a.rel) (length is.relation.entities) a.ent (room a.rel is.relation is.is_relation) is.within
+      ∙ cut_at labels (slice_index firsts a.rel) (length is.relation.entities) a.ent
+      (room a.rel is.relation is.is_relation) is.within
 
   -- what has a label is there
   pub cell_there : (a : Cell) (n : ℕ) → slice_get (list_at lists a.rel) a.ent ≡ Some n → IsCell s a
@@ -74,7 +80,12 @@ module _ (s : Spec) (firsts labels : List ℕ) (members : List Member) (count : 
   cell_of x n at =
       let m = there members x (omega (arith, slice_get_within labels x n at, labelled.many)) in
       let back = are.back x m.0 m.1 in
-      let is : IsCell s (cell m.0.rel.0 m.0.ent.0) = record { relation = back.relation; is_relation = back.is_relation; within = back.within } in
+      let is : IsCell s (cell m.0.rel.0 m.0.ent.0) = record {
+        relation = back.relation;
+        is_relation =
+            back.is_relation;
+        within = back.within;
+      } in
       record {
         a = cell m.0.rel.0 m.0.ent.0;
         is_cell = is;
@@ -128,5 +139,10 @@ module _ (s : Spec) (firsts labels : List ℕ) (members : List Member) (count : 
       only label m c =
           let is = of.only label m c in
           let back = are.back is.number m is.is_member in
-          let there : IsCell s (cell m.rel.0 m.ent.0) = record { relation = back.relation; is_relation = back.is_relation; within = back.within } in
+          let there : IsCell s (cell m.rel.0 m.ent.0) = record {
+            relation = back.relation;
+            is_relation =
+                back.is_relation;
+            within = back.within;
+          } in
           by_number (cell m.rel.0 m.ent.0) there ∙ (ap (slice_get labels) back.is_number ∙ is.is_label)

@@ -23,18 +23,21 @@ gathered_more members i m old mid new at adds put = record {
     only : (rel ent : ℕ) → Contains (list_at mid rel) ent ⊎ ((rel ≡ m.rel.0) × (m.ent.0 ≡ ent))
         → Contains (list_at old rel) ent ⊎ Contains (take (i + 1) members) (member rel ent)
     only rel ent (inl c) =
-        ⊎_elim (λ o. inl o) (λ t. inr (still_taken members i (member rel ent) (slice_get_within members i m at) t)) (adds.only rel ent c)
+        ⊎_elim (λ o. inl o) (λ t. inr (still_taken members i (member rel ent) (slice_get_within members i m at) t))
+        (adds.only rel ent c)
     only rel ent (inr h) =
         let one : m ≡ member rel ent = ap (λ n. member n m.ent.0) (sym h.0) ∙ ap (member rel) h.1 in
         inr (subst (Contains (take (i + 1) members)) one (just_taken members i m at))
 
-pub chosen_more : (parts : List (List Member)) (chosen : List ℕ) (relations i part : ℕ) (list : List Member) (old new : List (List ℕ))
+pub chosen_more : (parts : List (List Member)) (chosen : List ℕ) (relations i part : ℕ) (list : List Member)
+    (old new : List (List ℕ))
     → slice_get chosen i ≡ Some part → slice_get parts part ≡ Some list → AreChosen parts (take i chosen) relations old
     → AddsEntities list old new → AreChosen parts (take (i + 1) chosen) relations new
 chosen_more parts chosen relations i part list old new at at_part are adds = record {
   many = adds.many ∙ are.many;
   each = λ m is. each m is (taken chosen i part is.part at is.is_chosen);
-  only = λ rel ent c. ⊎_elim (λ o. wider (member rel ent) (are.only rel ent o)) (λ h. here (member rel ent) h) (adds.only rel ent c);
+  only = λ rel ent c. ⊎_elim (λ o. wider (member rel ent) (are.only rel ent o)) (λ h. here (member rel ent) h)
+      (adds.only rel ent c);
 }
   where
     is_list : list_at parts part ≡ list
@@ -61,7 +64,8 @@ chosen_more parts chosen relations i part list old new at at_part are adds = rec
     }
 
 -- the relations of a part's entities are there
-pub gathered_within : (parts : List (List Member)) (part count relations : ℕ) (list : List Member) → slice_get parts part ≡ Some list → count ≡ relations
+pub gathered_within : (parts : List (List Member)) (part count relations : ℕ) (list : List Member)
+    → slice_get parts part ≡ Some list → count ≡ relations
     → All (λ (m : Member). m.rel.0 < relations) (list_at parts part) → All (λ (m : Member). m.rel.0 < count) list
 gathered_within parts part count relations list at e all =
     subst (λ n. All (λ (m : Member). m.rel.0 < n) list) (sym e)

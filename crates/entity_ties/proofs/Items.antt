@@ -25,7 +25,8 @@ pub pushed : {A : Type 0} (xs : List A) (x : A) (i : ℕ) (y : A) → slice_get 
 pushed [] x zero y at = inr (refl, same_Some x y at)
 pushed [] x (suc i) y at = absurd (none-some y at)
 pushed (z ∷ xs) x zero y at = inl (omega arith, at)
-pushed (z ∷ xs) x (suc i) y at = ⊎_elim (λ p. inl (omega (arith, p.0), p.1)) (λ p. inr (omega (arith, p.0), p.1)) (pushed xs x i y at)
+pushed (z ∷ xs) x (suc i) y at = ⊎_elim (λ p. inl (omega (arith, p.0), p.1)) (λ p. inr (omega (arith, p.0), p.1))
+    (pushed xs x i y at)
 
 pub length_push : {A : Type 0} (xs : List A) (x : A) → length (xs ++ x ∷ []) ≡ length xs + 1
 length_push xs x = length-append xs (x ∷ []) ∙ omega arith
@@ -60,7 +61,8 @@ taken xs i x y at c =
     take_more xs i x (slice_get_within xs i x at) ∙ ap (λ z. take i xs ++ z ∷ []) (get_or_from_slice_get xs i x x at) in
     Contains-push_cases (take i xs) x y (subst (λ l. Contains l y) more c)
 
-pub still_taken : {A : Type 0} (xs : List A) (i : ℕ) (y : A) → i < length xs → Contains (take i xs) y → Contains (take (i + 1) xs) y
+pub still_taken : {A : Type 0} (xs : List A) (i : ℕ) (y : A) → i < length xs → Contains (take i xs) y
+    → Contains (take (i + 1) xs) y
 still_taken xs i y below c =
     let x = there xs i below in
     subst (λ l. Contains l y) (sym (take_more xs i x.0 below)) (Contains-append_left (take i xs) (get_or xs i x.0 ∷ []) y c)

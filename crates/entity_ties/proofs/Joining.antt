@@ -29,7 +29,8 @@ united_kept from to n apart = by (eqb_tells n from)
 -- what is taken out, put behind the others, and put back
 abbrev pub put_together : List (List ℕ) → ℕ → ℕ → List (List ℕ)
 put_together members from to =
-    slice_set (slice_set (slice_set members from []) to []) to (numbers_of (slice_set members from []) to ++ numbers_of members from)
+    slice_set (slice_set (slice_set members from []) to []) to (numbers_of (slice_set members from []) to
+    ++ numbers_of members from)
 
 pub lists_joined : (members : List (List ℕ)) (from to : ℕ) → from < length members → to < length members → from ≢ to
     → numbers_of (put_together members from to) to ≡ numbers_of members to ++ numbers_of members from
@@ -37,7 +38,8 @@ lists_joined members from to in_from in_to apart =
     let outer : to < length (slice_set (slice_set members from []) to []) =
     omega (arith, length-set members from [], length-set (slice_set members from []) to []) in
     let other : to ≢ from = λ e. apart (sym e) in
-    get_or-set_same (slice_set (slice_set members from []) to []) to (numbers_of (slice_set members from []) to ++ numbers_of members from) [] outer
+    get_or-set_same (slice_set (slice_set members from []) to []) to (numbers_of (slice_set members from []) to
+    ++ numbers_of members from) [] outer
     ∙ ap (λ (l : List ℕ). l ++ numbers_of members from) (get_or-set_other members from to [] [] other)
 
 pub list_emptied : (members : List (List ℕ)) (from to : ℕ) → from < length members → from ≢ to
@@ -98,37 +100,45 @@ module _ (labels new : List ℕ) (members : List (List ℕ)) (from to : ℕ) (ar
       long = length-set (slice_set (slice_set members from []) to []) to _
           ∙ (length-set (slice_set members from []) to [] ∙ length-set members from [])
 
-      within : (a n : ℕ) → ((slice_get labels a ≡ Some from) × (n ≡ to)) ⊎ ((slice_get labels a ≡ Some n) × (n ≢ from)) → n < length new
+      within : (a n : ℕ) → ((slice_get labels a ≡ Some from) × (n ≡ to)) ⊎
+          ((slice_get labels a ≡ Some n) × (n ≢ from)) → n < length new
       within a n (inl h) = omega (arith, h.1, in_to, are.as_many, is.many)
       within a n (inr h) = omega (arith, are.within a n h.0, is.many)
 
-      each : (a n : ℕ) → (n ≡ to) ⊎ (n ≡ to → ⊥) → ((slice_get labels a ≡ Some from) × (n ≡ to)) ⊎ ((slice_get labels a ≡ Some n) × (n ≢ from))
+      each : (a n : ℕ) → (n ≡ to) ⊎ (n ≡ to → ⊥) → ((slice_get labels a ≡ Some from) × (n ≡ to)) ⊎
+          ((slice_get labels a ≡ Some n) × (n ≢ from))
           → Contains (numbers_of (put_together members from to) n) a
       each a n (inl e) (inl h) =
-          subst (λ (l : List ℕ). Contains l a) (sym (ap (numbers_of (put_together members from to)) e ∙ lists_joined members from to in_from in_to apart))
+          subst (λ (l : List ℕ). Contains l a)
+          (sym (ap (numbers_of (put_together members from to)) e ∙ lists_joined members from to in_from in_to apart))
           (Contains-append_right (numbers_of members to) (numbers_of members from) a (are.each a from h.0))
       each a n (inl e) (inr h) =
-          subst (λ (l : List ℕ). Contains l a) (sym (ap (numbers_of (put_together members from to)) e ∙ lists_joined members from to in_from in_to apart))
+          subst (λ (l : List ℕ). Contains l a)
+          (sym (ap (numbers_of (put_together members from to)) e ∙ lists_joined members from to in_from in_to apart))
           (Contains-append_left (numbers_of members to) (numbers_of members from) a (are.each a to (h.0 ∙ ap Some e)))
       each a n (inr differs) (inl h) = absurd (differs h.1)
       each a n (inr differs) (inr h) =
           subst (λ (l : List ℕ). Contains l a) (sym (list_kept members from to n h.1 differs)) (are.each a n h.0)
 
-      of_both : (a n : ℕ) → n ≡ to → Contains (numbers_of members to) a ⊎ Contains (numbers_of members from) a → slice_get new a ≡ Some n
+      of_both : (a n : ℕ) → n ≡ to → Contains (numbers_of members to) a ⊎ Contains (numbers_of members from) a
+          → slice_get new a ≡ Some n
       of_both a n e (inl c) = others_are a to (are.only a to c) (λ s. apart (sym s)) ∙ ap Some (sym e)
       of_both a n e (inr c) = moved_are a from (are.only a from c) refl ∙ ap Some (sym e)
 
-      only : (a n : ℕ) → (n ≡ to) ⊎ (n ≡ to → ⊥) → (n ≡ from) ⊎ (n ≡ from → ⊥) → Contains (numbers_of (put_together members from to) n) a
+      only : (a n : ℕ) → (n ≡ to) ⊎ (n ≡ to → ⊥) → (n ≡ from) ⊎ (n ≡ from → ⊥)
+          → Contains (numbers_of (put_together members from to) n) a
           → slice_get new a ≡ Some n
       only a n (inl e) other c =
           of_both a n e (Contains-append_cases (numbers_of members to) (numbers_of members from) a
-          (subst (λ (l : List ℕ). Contains l a) (ap (numbers_of (put_together members from to)) e ∙ lists_joined members from to in_from in_to apart) c))
+          (subst (λ (l : List ℕ). Contains l a) (ap (numbers_of (put_together members from to)) e
+          ∙ lists_joined members from to in_from in_to apart) c))
       only a n (inr differs) (inl e) c =
           let empty : Contains [] a = subst (λ (l : List ℕ). Contains l a)
           (ap (numbers_of (put_together members from to)) e ∙ list_emptied members from to in_from apart) c in
           absurd (omega (arith, empty.1))
       only a n (inr differs) (inr not_from) c =
-          others_are a n (are.only a n (subst (λ (l : List ℕ). Contains l a) (list_kept members from to n not_from differs) c)) not_from
+          others_are a n (are.only a n (subst (λ (l : List ℕ). Contains l a)
+          (list_kept members from to n not_from differs) c)) not_from
 
 -- what is moved is there
 pub moved_inside : (labels numbers : List ℕ) (members : List (List ℕ)) (from : ℕ) → AreClasses labels members
@@ -136,18 +146,24 @@ pub moved_inside : (labels numbers : List ℕ) (members : List (List ℕ)) (from
 moved_inside labels numbers members from are at k d below =
     let same : numbers_of members from ≡ numbers = get_or_from_slice_get members from numbers [] at in
     let one = get_or numbers k d in
-    let has : Contains (numbers_of members from) one = subst (λ (l : List ℕ). Contains l one) (sym same) (Contains-get_or numbers k d below) in
+    let has : Contains (numbers_of members from) one = subst (λ (l : List ℕ). Contains l one) (sym same)
+    (Contains-get_or numbers k d below) in
     slice_get_within labels one from (are.only one from has)
 
 -- two classes are one, by what was taken out and put back
-pub one_class : (labels new : List ℕ) (members after : List (List ℕ)) (from to : ℕ) (moved class : List ℕ) → AreClasses labels members
+pub one_class : (labels new : List ℕ) (members after : List (List ℕ)) (from to : ℕ) (moved class : List ℕ)
+    → AreClasses labels members
     → from < length members → to < length members → from ≢ to
-    → slice_get members from ≡ Some moved → IsRelabelled to moved labels new → slice_get (slice_set members from []) to ≡ Some class
-    → after ≡ slice_set (slice_set (slice_set members from []) to []) to (class ++ moved) → AreClasses new after × IsUnited from to labels new
+    → slice_get members from ≡ Some moved → IsRelabelled to moved labels new → slice_get (slice_set members from [])
+    to ≡ Some class
+    → after ≡ slice_set (slice_set (slice_set members from []) to []) to (class ++ moved) → AreClasses new after ×
+    IsUnited from to labels new
 one_class labels new members after from to moved class are in_from in_to apart at_moved is at_class after_is =
     let of_moved : numbers_of members from ≡ moved = get_or_from_slice_get members from moved [] at_moved in
-    let of_class : numbers_of (slice_set members from []) to ≡ class = get_or_from_slice_get (slice_set members from []) to class [] at_class in
-    let is' : IsRelabelled to (numbers_of members from) labels new = subst (λ l. IsRelabelled to l labels new) (sym of_moved) is in
+    let of_class : numbers_of (slice_set members from []) to ≡ class = get_or_from_slice_get
+    (slice_set members from []) to class [] at_class in
+    let is' : IsRelabelled to (numbers_of members from) labels new = subst (λ l. IsRelabelled to l labels new)
+    (sym of_moved) is in
     let after_is' : put_together members from to ≡ after =
     ap (λ l. slice_set (slice_set (slice_set members from []) to []) to (l ++ numbers_of members from)) of_class
     ∙ (ap (λ l. slice_set (slice_set (slice_set members from []) to []) to (class ++ l)) of_moved ∙ sym after_is) in (

@@ -58,7 +58,8 @@ module _ (copy : CopyFunction) (targets sources : List Row) (first first_source 
 
   -- a row that is not mapped has none
   pub adds_skip : (bound : ℕ) (row : RowId) (old new : List Link) → row.0 ≡ bound → source_at copy row ≡ None
-      → AddsLinks copy targets sources first first_source bound old new → AddsLinks copy targets sources first first_source (bound + 1) old new
+      → AddsLinks copy targets sources first first_source bound old new → AddsLinks copy targets sources first
+      first_source (bound + 1) old new
   adds_skip bound row old new at none adds = record {
     kept = adds.kept;
     only = λ link c. ⊎_elim (λ o. inl o) (λ is. inr (wider bound link is)) (adds.only link c);
@@ -83,17 +84,24 @@ module _ (copy : CopyFunction) (targets sources : List Row) (first first_source 
     all = λ r l below is_l. all r l below is_l (cases_lt r.0 bound);
   }
     where
-      only : (l : Link) → Contains new l ⊎ (link ≡ l) → Contains old l ⊎ IsLinkBelow copy targets sources first first_source (bound + 1) l
+      only : (l : Link) → Contains new l ⊎ (link ≡ l) → Contains old l ⊎ IsLinkBelow copy targets sources first
+          first_source (bound + 1) l
       only l (inl c) = ⊎_elim (λ o. inl o) (λ b. inr (wider bound l b)) (adds.only l c)
       only l (inr e) =
-          inr (record { row = row; below = omega (arith, at); is_link = subst (IsLinkOf copy targets sources first first_source row) e is })
+          inr (record {
+            row = row;
+            below = omega (arith, at);
+            is_link =
+                subst (IsLinkOf copy targets sources first first_source row) e is;
+          })
 
       all : (r : RowId) (l : Link) → r.0 < bound + 1 → IsLinkOf copy targets sources first first_source r l
           → (r.0 < bound) ⊎ (bound ≤ r.0) → Contains (new ++ link ∷ []) l
       all r l below is_l (inl low) = Contains-append_left new (link ∷ []) l (adds.all r l low is_l)
       all r l below is_l (inr high) =
           let same : row ≡ r = same_row row r (omega (arith, at)) in
-          let one : link ≡ l = one_link r link l (subst (λ q. IsLinkOf copy targets sources first first_source q link) same is) is_l in
+          let one : link ≡ l = one_link r link l
+          (subst (λ q. IsLinkOf copy targets sources first first_source q link) same is) is_l in
           subst (Contains (new ++ link ∷ [])) one (Contains-push new link)
 
 -- ---- numbers of a relation's entities are small
@@ -109,7 +117,8 @@ fits relations firsts members rel r facts are is_r k d below =
 
 -- the link of a mapped row is one between the two entities
 between : (s : Spec) (firsts : List ℕ) (k : ℕ) (copy : CopyFunction) (target source : Relation) (row : RowId) (link : Link)
-    → slice_get s.copies k ≡ Some copy → slice_get s.relations copy.target.0 ≡ Some target → slice_get s.relations copy.source.0 ≡ Some source
+    → slice_get s.copies k ≡ Some copy → slice_get s.relations copy.target.0 ≡ Some target → slice_get s.relations
+    copy.source.0 ≡ Some source
     → IsLinkOf copy target.rows source.rows (slice_index firsts copy.target.0) (slice_index firsts copy.source.0) row link
     → IsLinkBetween s firsts link
 between s firsts k copy target source row link at is_target is_source is = record {
@@ -141,11 +150,13 @@ below_none s firsts = record {
   all = λ a b copied below. absurd (omega arith);
 }
 
-pub below_more : (s : Spec) (firsts : List ℕ) (k : ℕ) (copy : CopyFunction) (old new : List Link) → slice_get s.copies k ≡ Some copy
+pub below_more : (s : Spec) (firsts : List ℕ) (k : ℕ) (copy : CopyFunction) (old new : List Link)
+    → slice_get s.copies k ≡ Some copy
     → AreLinksBelow s firsts k old → AddsLinksOf s.relations firsts copy old new → AreLinksBelow s firsts (k + 1) new
 below_more s firsts k copy old new at are adds = record {
   only = λ link c. ⊎_elim (λ o. are.only link o)
-      (λ (b : IsLinkBelow copy adds.target.rows adds.source.rows (slice_index firsts copy.target.0) (slice_index firsts copy.source.0) (length adds.target.rows) link).
+      (λ (b : IsLinkBelow copy adds.target.rows adds.source.rows (slice_index firsts copy.target.0)
+      (slice_index firsts copy.source.0) (length adds.target.rows) link).
       between s firsts k copy adds.target adds.source b.row link at adds.is_target adds.is_source b.is_link)
       (adds.adds.only link c);
   all = λ a b copied below. all a b copied below (cases_lt copied.k k);
@@ -153,7 +164,8 @@ below_more s firsts k copy old new at are adds = record {
   where
     all : (a b : Cell) (copied : IsCopiedFrom s a b) → copied.k < k + 1 → (copied.k < k) ⊎ (k ≤ copied.k)
         → HasLink new (number firsts a) (number firsts b)
-    all a b copied below (inl low) = adds.adds.kept (record { one = number firsts a; other = number firsts b }) (are.all a b copied low)
+    all a b copied below (inl low) = adds.adds.kept (record { one = number firsts a; other = number firsts b })
+        (are.all a b copied low)
     all a b copied below (inr high) =
         let same : copied.k ≡ k = omega arith in
         let one : copied.copy ≡ copy = same_Some copied.copy copy (sym copied.is_copy ∙ (ap (slice_get s.copies) same ∙ at)) in
@@ -178,7 +190,8 @@ below_more s firsts k copy old new at are adds = record {
           is_other = ap (λ n. slice_index firsts n + b.ent) (copied.of_source ∙ ap (λ (c : CopyFunction). c.source.0) one);
         })
 
-pub below_all : (s : Spec) (firsts : List ℕ) (bound : ℕ) (links : List Link) → length s.copies ≤ bound → AreLinksBelow s firsts bound links
+pub below_all : (s : Spec) (firsts : List ℕ) (bound : ℕ) (links : List Link) → length s.copies ≤ bound
+    → AreLinksBelow s firsts bound links
     → AreLinksOf s firsts links
 below_all s firsts bound links whole are = record {
   only = are.only;

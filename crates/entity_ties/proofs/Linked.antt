@@ -22,7 +22,8 @@ linked_back links a b (backward _ c _ first has) = linked_on links b c a (onward
 -- ---- two numbers are joined
 
 -- they were in one class
-pub joined_same : (one other : ℕ) (labels : List ℕ) → slice_get labels one ≡ slice_get labels other → IsJoined one other labels labels
+pub joined_same : (one other : ℕ) (labels : List ℕ) → slice_get labels one ≡ slice_get labels other
+    → IsJoined one other labels labels
 joined_same one other labels same = record {
   many = refl;
   equal = same;
@@ -31,11 +32,13 @@ joined_same one other labels same = record {
 }
 
 -- their labels are made one
-pub joined : (one other p q : ℕ) (old new : List ℕ) → slice_get old one ≡ Some p → slice_get old other ≡ Some q → p ≢ q → IsUnited p q old new
+pub joined : (one other p q : ℕ) (old new : List ℕ) → slice_get old one ≡ Some p → slice_get old other ≡ Some q
+    → p ≢ q → IsUnited p q old new
     → IsJoined one other old new
 joined one other p q old new at_one at_other apart is = record {
   many = is.many;
-  equal = is.each one p at_one ∙ (ap Some (united_moved p q p refl ∙ sym (united_kept p q q (λ e. apart (sym e)))) ∙ sym (is.each other q at_other));
+  equal = is.each one p at_one ∙ (ap Some (united_moved p q p refl ∙ sym (united_kept p q q (λ e. apart (sym e))))
+      ∙ sym (is.each other q at_other));
   kept = kept;
   sound = sound;
 }
@@ -94,7 +97,8 @@ pub record IsSoFar (count : ℕ) (links : List Link) (place : ℕ) (labels : Lis
   pub classes : AreClasses labels members
   pub many : length labels ≡ count
   pub sound : (a b : ℕ) → a < count → b < count → slice_get labels a ≡ slice_get labels b → AreLinked links a b
-  pub met : (k : ℕ) (link : Link) → k < place → slice_get links k ≡ Some link → slice_get labels link.one ≡ slice_get labels link.other
+  pub met : (k : ℕ) (link : Link) → k < place → slice_get links k ≡ Some link → slice_get labels link.one ≡ slice_get
+      labels link.other
 
 pub so_far_none : (count : ℕ) (links : List Link) (labels : List ℕ) (members : List (List ℕ)) → AreSingle count labels members
     → IsSoFar count links 0 labels members
@@ -106,7 +110,8 @@ so_far_none count links labels members s = record {
 }
 
 pub so_far_more : (count place : ℕ) (links : List Link) (link : Link) (old new : List ℕ) (members now : List (List ℕ))
-    → slice_get links place ≡ Some link → All (λ (l : Link). (l.one < count) × (l.other < count)) links → IsSoFar count links place old members
+    → slice_get links place ≡ Some link → All (λ (l : Link). (l.one < count) × (l.other < count)) links
+    → IsSoFar count links place old members
     → IsJoined link.one link.other old new → AreClasses new now → IsSoFar count links (place + 1) new now
 so_far_more count place links link old new members now at within far is classes = record {
   classes = classes;
@@ -122,7 +127,8 @@ so_far_more count place links link old new members now at within far is classes 
     has = at_place links place link at
 
     sound : (a b : ℕ) → a < count → b < count
-        → (slice_get old a ≡ slice_get old b) ⊎ (AreAcross old link.one link.other a b ⊎ AreAcross old link.other link.one a b) → AreLinked links a b
+        → (slice_get old a ≡ slice_get old b) ⊎ (AreAcross old link.one link.other a b ⊎ AreAcross old link.other
+        link.one a b) → AreLinked links a b
     sound a b in_a in_b (inl e) = far.sound a b in_a in_b e
     sound a b in_a in_b (inr (inl h)) =
         linked_on links a link.other b (onward a link.one link.other (far.sound a link.one in_a inside.0 h.first) has)
@@ -131,7 +137,8 @@ so_far_more count place links link old new members now at within far is classes 
         linked_on links a link.one b (backward a link.other link.one (far.sound a link.other in_a inside.1 h.first) has)
         (far.sound link.one b inside.0 in_b (sym h.second))
 
-    met : (k : ℕ) (l : Link) → slice_get links k ≡ Some l → (k < place) ⊎ (place ≤ k) → k < place + 1 → slice_get new l.one ≡ slice_get new l.other
+    met : (k : ℕ) (l : Link) → slice_get links k ≡ Some l → (k < place) ⊎ (place ≤ k) → k < place + 1
+        → slice_get new l.one ≡ slice_get new l.other
     met k l at_k (inl low) below =
         let in_l = all_at (λ (l : Link). (l.one < count) × (l.other < count)) links k l within at_k in
         is.kept l.one l.other (omega (arith, in_l.0, far.many)) (omega (arith, in_l.1, far.many)) (far.met k l low at_k)
@@ -150,7 +157,8 @@ so_far_all count place links labels members all far = record {
     ends : (a b : ℕ) → HasLink links a b → slice_get labels a ≡ slice_get labels b
     ends a b has =
         let at = place_of links (record { one = a; other = b }) has in
-        far.met at.0 (record { one = a; other = b }) (omega (arith, slice_get_within links at.0 (record { one = a; other = b }) at.1)) at.1
+        far.met at.0 (record { one = a; other = b })
+        (omega (arith, slice_get_within links at.0 (record { one = a; other = b }) at.1)) at.1
 
     equal : (a b : ℕ) → AreLinked links a b → slice_get labels a ≡ slice_get labels b
     equal a b (here _) = refl

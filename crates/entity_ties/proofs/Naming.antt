@@ -38,7 +38,8 @@ named_none names count is = record {
   where
     none : (label : ℕ) → (label < count) ⊎ (count ≤ label) → name_at (replicate count None) label ≡ None
     none label (inl low) = get_or-replicate count label None None low
-    none label (inr high) = get_or_past (replicate count None) label None (omega (arith, length-replicate {A = Option ℕ} count None))
+    none label (inr high) = get_or_past (replicate count None) label None
+        (omega (arith, length-replicate {A = Option ℕ} count None))
 
     nothing : (label name : ℕ) → name_at names label ≡ Some name → ⊥
     nothing label name at =
@@ -48,7 +49,8 @@ named_none names count is = record {
 module _ (old new : List ℕ) (name : ℕ) (many : length new ≡ length old) where
   still_first : ((n m b : ℕ) → n < m → slice_get new b ≡ Some m → (a : ℕ) × (a < b) × (slice_get new a ≡ Some n))
       → ((n : ℕ) → n < name → (a : ℕ) × (slice_get new a ≡ Some n))
-      → (n m b : ℕ) → n < m → slice_get (new ++ name ∷ []) b ≡ Some m → (a : ℕ) × (a < b) × (slice_get (new ++ name ∷ []) a ≡ Some n)
+      → (n m b : ℕ) → n < m → slice_get (new ++ name ∷ []) b ≡ Some m → (a : ℕ) × (a < b) ×
+      (slice_get (new ++ name ∷ []) a ≡ Some n)
   still_first first smaller n m b less at = by (pushed new name b m at)
     where
       kept : (a : ℕ) → slice_get new a ≡ Some n → slice_get (new ++ name ∷ []) a ≡ Some n
@@ -80,8 +82,12 @@ was_named old new names now count next label name are w = record {
   from = λ l n at. from l n (are.from l n (was l n at));
   one = λ l o n at at'. are.one l o n (was l n at) (was o n at');
   below = λ l n at. omega (arith, are.below l n (was l n at), w.as_many);
-  used = λ n low. (let u = are.used n (omega (arith, w.as_many)) in (u.0, ap (λ (ns : List (Option ℕ)). name_at ns u.0) w.as_before ∙ u.1));
-  first = still_first old new name are.many are.first (λ n low. stands old new names count n are (omega (arith, are.below label name w.had)));
+  used = λ n low. (let u = are.used n (omega (arith, w.as_many)) in (
+    u.0,
+    ap (λ (ns : List (Option ℕ)). name_at ns u.0) w.as_before ∙ u.1,
+  ));
+  first = still_first old new name are.many are.first (λ n low. stands old new names count n are
+      (omega (arith, are.below label name w.had)));
 }
   where
     was : (l n : ℕ) → name_at now l ≡ Some n → name_at names l ≡ Some n
@@ -106,7 +112,8 @@ was_named old new names now count next label name are w = record {
     }
 
 -- one number more, whose label gets a name
-got_name : (old new : List ℕ) (names now : List (Option ℕ)) (count next label name : ℕ) → label < length names → AreNamed old names new count
+got_name : (old new : List ℕ) (names now : List (Option ℕ)) (count next label name : ℕ) → label < length names
+    → AreNamed old names new count
     → GotName names now count next label name → AreNamed (old ++ label ∷ []) now (new ++ name ∷ []) next
 got_name old new names now count next label name inside are g = record {
   many = length_push new name ∙ (ap (λ n. n + 1) are.many ∙ sym (length_push old label));
@@ -146,7 +153,8 @@ got_name old new names now count next label name inside are g = record {
       is_new = at_end new name a (omega (arith, h.0, are.many));
     }
 
-    from : (l n : ℕ) → (l ≡ label) ⊎ (l ≡ label → ⊥) → name_at now l ≡ Some n → (a : ℕ) × (slice_get (old ++ label ∷ []) a ≡ Some l)
+    from : (l n : ℕ) → (l ≡ label) ⊎ (l ≡ label → ⊥) → name_at now l ≡ Some n →
+        (a : ℕ) × (slice_get (old ++ label ∷ []) a ≡ Some l)
     from l n (inl e) at = (length old, at_end old label (length old) refl ∙ ap Some (sym e))
     from l n (inr apart) at =
         let found = are.from l n (sym (other l apart) ∙ at) in
@@ -156,7 +164,8 @@ got_name old new names now count next label name inside are g = record {
     below l n (inl e) at = omega (arith, is_count l n e at, g.one_more)
     below l n (inr apart) at = omega (arith, are.below l n (sym (other l apart) ∙ at), g.one_more)
 
-    one : (l o n : ℕ) → (l ≡ label) ⊎ (l ≡ label → ⊥) → (o ≡ label) ⊎ (o ≡ label → ⊥) → name_at now l ≡ Some n → name_at now o ≡ Some n → l ≡ o
+    one : (l o n : ℕ) → (l ≡ label) ⊎ (l ≡ label → ⊥) → (o ≡ label) ⊎ (o ≡ label → ⊥) → name_at now l ≡ Some n
+        → name_at now o ≡ Some n → l ≡ o
     one l o n (inl e) (inl f) at at' = e ∙ sym f
     one l o n (inl e) (inr apart) at at' = absurd (omega (arith, is_count l n e at, are.below o n (sym (other o apart) ∙ at')))
     one l o n (inr apart) (inl f) at at' = absurd (omega (arith, is_count o n f at', are.below l n (sym (other l apart) ∙ at)))
@@ -169,17 +178,21 @@ got_name old new names now count next label name inside are g = record {
     used n low (inr high) = (let same : count ≡ n = omega (arith, g.one_more) in (label, here ∙ ap Some same))
 
 -- one number more
-pub named_more : (i label name count next : ℕ) (old new : List ℕ) (names now : List (Option ℕ)) → slice_get old i ≡ Some label → label < length names
-    → AreNamed (take i old) names new count → IsNamed names now count next label name → AreNamed (take (i + 1) old) now (new ++ name ∷ []) next
+pub named_more : (i label name count next : ℕ) (old new : List ℕ) (names now : List (Option ℕ))
+    → slice_get old i ≡ Some label → label < length names
+    → AreNamed (take i old) names new count → IsNamed names now count next label name → AreNamed (take (i + 1) old)
+    now (new ++ name ∷ []) next
 named_more i label name count next old new names now at inside are is =
     let more : take (i + 1) old ≡ take i old ++ label ∷ [] =
-    take_more old i label (slice_get_within old i label at) ∙ ap (λ z. take i old ++ z ∷ []) (get_or_from_slice_get old i label label at) in
+    take_more old i label (slice_get_within old i label at) ∙ ap (λ z. take i old ++ z ∷ [])
+    (get_or_from_slice_get old i label label at) in
     subst (λ l. AreNamed l now (new ++ name ∷ []) next) (sym more)
     (⊎_elim (λ w. was_named (take i old) new names now count next label name are w)
     (λ g. got_name (take i old) new names now count next label name inside are g) is.either)
 
 -- the room for names stays
-pub as_much_room : (names now : List (Option ℕ)) (count next label name : ℕ) → IsNamed names now count next label name → length now ≡ length names
+pub as_much_room : (names now : List (Option ℕ)) (count next label name : ℕ) → IsNamed names now count next label
+    name → length now ≡ length names
 as_much_room names now count next label name is =
     ⊎_elim (λ (w : WasNamed names now count next label name). ap length w.as_before)
     (λ (g : GotName names now count next label name). ap length g.put ∙ length-set names label (Some count)) is.either
@@ -209,7 +222,8 @@ named_all old new names count are = record {
         → slice_get old a ≡ slice_get old b → slice_get new a ≡ slice_get new b
     equal a b l m at_a at_b ha hb e =
         let same : l ≡ m = same_Some l m (sym at_a ∙ (e ∙ at_b)) in
-        let names_same : ha.name ≡ hb.name = same_Some ha.name hb.name (sym ha.is_name ∙ (ap (name_at names) same ∙ hb.is_name)) in
+        let names_same : ha.name ≡ hb.name = same_Some ha.name hb.name
+        (sym ha.is_name ∙ (ap (name_at names) same ∙ hb.is_name)) in
         ha.is_new ∙ (ap Some names_same ∙ sym hb.is_new)
 
     below : (a n : ℕ) → slice_get new a ≡ Some n → n < count

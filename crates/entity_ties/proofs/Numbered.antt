@@ -25,7 +25,8 @@ adds_more rel count old new adds = record {
         at_end new (member rel count) (length old + ent) (omega (arith, adds.many)) ∙ ap (λ n. Some (member rel n)) same
 
 -- where the first numbers of relations stand, with one more
-first_kept : (firsts : List ℕ) (first rel : ℕ) → rel < length firsts → slice_index (firsts ++ first ∷ []) rel ≡ slice_index firsts rel
+first_kept : (firsts : List ℕ) (first rel : ℕ) → rel < length firsts → slice_index (firsts ++ first ∷ []) rel ≡
+    slice_index firsts rel
 first_kept firsts first rel below = get_or_append_left firsts (first ∷ []) 0 rel below
 
 first_new : (firsts : List ℕ) (first rel : ℕ) → rel ≡ length firsts → slice_index (firsts ++ first ∷ []) rel ≡ first
@@ -51,7 +52,8 @@ numbered_more relations count first r firsts old new is_r is_first are adds = re
         let same : count ≡ rel = omega arith in
         same_Some r o (sym is_r ∙ (ap (slice_get relations) same ∙ is_o))
 
-    there_now : (rel : ℕ) (o : Relation) → rel < count + 1 → slice_get relations rel ≡ Some o → (ent : ℕ) → ent < length o.entities
+    there_now : (rel : ℕ) (o : Relation) → rel < count + 1 → slice_get relations rel ≡ Some o → (ent : ℕ)
+        → ent < length o.entities
         → slice_get new (slice_index (firsts ++ first ∷ []) rel + ent) ≡ Some (member rel ent)
     there_now rel o below is_o ent within = by (cases_lt rel count)
       where
@@ -63,7 +65,8 @@ numbered_more relations count first r firsts old new is_r is_first are adds = re
             ∙ (adds.kept (slice_index firsts rel + ent) inside ∙ was)
         by (inr high) =
             let same : count ≡ rel = omega arith in
-            let fits : ent < length r.entities = subst (λ (q : Relation). ent < length q.entities) (sym (is_last rel o high below is_o)) within in
+            let fits : ent < length r.entities = subst (λ (q : Relation). ent < length q.entities)
+            (sym (is_last rel o high below is_o)) within in
             ap (λ n. slice_get new (n + ent)) (last rel high below) ∙ (adds.added ent fits ∙ ap (λ n. Some (member n ent)) same)
 
     back_now : (number : ℕ) (m : Member) → slice_get new number ≡ Some m → (number < length old) ⊎ (length old ≤ number)
@@ -82,7 +85,8 @@ numbered_more relations count first r firsts old new is_r is_first are adds = re
         let ent : ℕ = number - length old in
         let within : ent < length r.entities = omega (arith, adds.many) in
         let place : length old + ent ≡ number = omega arith in
-        let is : member count ent ≡ m = same_Some (member count ent) m (sym (adds.added ent within) ∙ (ap (slice_get new) place ∙ at)) in
+        let is : member count ent ≡ m = same_Some (member count ent) m (sym (adds.added ent within) ∙
+        (ap (slice_get new) place ∙ at)) in
         let made : IsNumbered relations (firsts ++ first ∷ []) number (member count ent) = record {
           relation = r;
           is_relation = is_r;
@@ -97,8 +101,19 @@ numbered_more relations count first r firsts old new is_r is_first are adds = re
     fit_now rel o below is_o = by (cases_lt rel count)
       where
         by : (rel < count) ⊎ (count ≤ rel) → slice_index (firsts ++ first ∷ []) rel + length o.entities ≤ length new
-        by (inl low) = omega (arith, are.fit rel o low is_o, first_kept firsts first rel (omega (arith, are.per_relation)), adds.many)
-        by (inr high) = omega (arith, ap (λ (q : Relation). length q.entities) (is_last rel o high below is_o), last rel high below, adds.many)
+        by (inl low) = omega (
+          arith,
+          are.fit rel o low is_o,
+          first_kept firsts first rel
+              (omega (arith, are.per_relation)),
+          adds.many,
+        )
+        by (inr high) = omega (
+          arith,
+          ap (λ (q : Relation). length q.entities) (is_last rel o high below is_o),
+          last rel high below,
+          adds.many,
+        )
 
     apart_now : (rel other : ℕ) (o : Relation) → rel < other → other < count + 1 → slice_get relations rel ≡ Some o
         → slice_index (firsts ++ first ∷ []) rel + length o.entities ≤ slice_index (firsts ++ first ∷ []) other
@@ -109,5 +124,11 @@ numbered_more relations count first r firsts old new is_r is_first are adds = re
 
         by : (other < count) ⊎ (count ≤ other)
             → slice_index (firsts ++ first ∷ []) rel + length o.entities ≤ slice_index (firsts ++ first ∷ []) other
-        by (inl low) = omega (arith, kept, are.apart rel other o less low is_o, first_kept firsts first other (omega (arith, are.per_relation)))
+        by (inl low) = omega (
+          arith,
+          kept,
+          are.apart rel other o less low is_o,
+          first_kept firsts first other
+              (omega (arith, are.per_relation)),
+        )
         by (inr high) = omega (arith, kept, are.fit rel o (omega arith) is_o, last other high below)

@@ -20,12 +20,14 @@ pub nothing_in : {A : Type 0} (count place : ℕ) (x : A) → Contains (list_at 
 nothing_in {A} count place x c =
     let empty : list_at (replicate {A = List A} count []) place ≡ [] =
     ⊎_elim (λ (low : place < count). get_or-replicate {A = List A} count place [] [] low)
-    (λ (high : count ≤ place). get_or_past (replicate {A = List A} count []) place [] (omega (arith, length-replicate {A = List A} count [], high)))
+    (λ (high : count ≤ place). get_or_past (replicate {A = List A} count []) place []
+    (omega (arith, length-replicate {A = List A} count [], high)))
     (cases_lt place count) in
     let none : Contains [] x = subst (λ (l : List A). Contains l x) empty c in
     omega (arith, none.1)
 
-pub puts : {A : Type 0} (place : ℕ) (item : A) (list : List A) (old new : List (List A)) → place < length old → slice_get old place ≡ Some list
+pub puts : {A : Type 0} (place : ℕ) (item : A) (list : List A) (old new : List (List A)) → place < length old
+    → slice_get old place ≡ Some list
     → new ≡ slice_set (slice_set old place []) place (list ++ item ∷ []) → Puts place item old new
 puts {A} place item list old new inside at new_is = record {
   many = ap length new_is ∙ (length-set (slice_set old place []) place (list ++ item ∷ []) ∙ length-set old place []);
@@ -43,7 +45,8 @@ puts {A} place item list old new inside at new_is = record {
 
     other : (p : ℕ) → p ≢ place → list_at new p ≡ list_at old p
     other p apart = ap (λ (l : List (List A)). list_at l p) new_is
-        ∙ (get_or-set_other (slice_set old place []) place p (list ++ item ∷ []) [] apart ∙ get_or-set_other old place p [] [] apart)
+        ∙ (get_or-set_other (slice_set old place []) place p (list ++ item ∷ []) [] apart ∙ get_or-set_other old
+        place p [] [] apart)
 
     kept : (p : ℕ) (x : A) → (p ≡ place) ⊎ (p ≡ place → ⊥) → Contains (list_at old p) x → Contains (list_at new p) x
     kept p x (inl e) c =
@@ -51,7 +54,8 @@ puts {A} place item list old new inside at new_is = record {
         (Contains-append_left list (item ∷ []) x (subst (λ (l : List A). Contains l x) (ap (list_at old) e ∙ was) c))
     kept p x (inr apart) c = subst (λ (l : List A). Contains l x) (sym (other p apart)) c
 
-    only : (p : ℕ) (x : A) → (p ≡ place) ⊎ (p ≡ place → ⊥) → Contains (list_at new p) x → Contains (list_at old p) x ⊎ ((p ≡ place) × (item ≡ x))
+    only : (p : ℕ) (x : A) → (p ≡ place) ⊎ (p ≡ place → ⊥) → Contains (list_at new p) x → Contains (list_at old p) x
+        ⊎ ((p ≡ place) × (item ≡ x))
     only p x (inl e) c =
         ⊎_elim
         (λ (o : Contains list x). inl (subst (λ (l : List A). Contains l x) (sym (ap (list_at old) e ∙ was)) o))
@@ -64,7 +68,8 @@ puts {A} place item list old new inside at new_is = record {
 -- the entities of the numbers below a bound, by their labels
 pub record ArePartsBelow (members : List Member) (labels : List ℕ) (count bound : ℕ) (parts : List (List Member)) : Type 0 where
   pub many : length parts ≡ count
-  pub each : (label : ℕ) (m : Member) (is : IsPartMember members labels label m) → is.number < bound → Contains (list_at parts label) m
+  pub each : (label : ℕ) (m : Member) (is : IsPartMember members labels label m) → is.number < bound
+      → Contains (list_at parts label) m
   pub only : (label : ℕ) (m : Member) → Contains (list_at parts label) m → IsPartMember members labels label m
 
 pub parts_none : (members : List Member) (labels : List ℕ) (count : ℕ) (parts : List (List Member)) → parts ≡ replicate count []
@@ -85,7 +90,8 @@ parts_more members labels count bound label m old new at_m at_l are put = record
       record { number = bound; is_member = at_m ∙ ap Some e.1; is_label = at_l ∙ ap Some (sym e.0) }) (put.only l x c);
 }
   where
-    each : (l : ℕ) (x : Member) (is : IsPartMember members labels l x) → is.number < bound + 1 → (is.number < bound) ⊎ (bound ≤ is.number)
+    each : (l : ℕ) (x : Member) (is : IsPartMember members labels l x) → is.number < bound + 1 →
+        (is.number < bound) ⊎ (bound ≤ is.number)
         → Contains (list_at new l) x
     each l x is below (inl low) = put.kept l x (are.each l x is low)
     each l x is below (inr high) =
@@ -104,8 +110,10 @@ parts_all members labels count bound parts whole are = record {
 
 -- ---- labels by relation
 
-pub cut_more : (relations : List Relation) (count : ℕ) (firsts labels : List ℕ) (lists : List (List ℕ)) (r : Relation) (list : List ℕ)
-    → slice_get relations count ≡ Some r → list ≡ slice_range labels (slice_index firsts count) (slice_index firsts count + length r.entities)
+pub cut_more : (relations : List Relation) (count : ℕ) (firsts labels : List ℕ) (lists : List (List ℕ))
+    (r : Relation) (list : List ℕ)
+    → slice_get relations count ≡ Some r → list ≡ slice_range labels (slice_index firsts count)
+    (slice_index firsts count + length r.entities)
     → AreCut relations count firsts labels lists → AreCut relations (count + 1) firsts labels (lists ++ list ∷ [])
 cut_more relations count firsts labels lists r list at is are = record {
   many = length_push lists list ∙ omega (arith, are.many);
@@ -113,8 +121,10 @@ cut_more relations count firsts labels lists r list at is are = record {
 }
   where
     each : (rel : ℕ) (o : Relation) → rel < count + 1 → slice_get relations rel ≡ Some o → (rel < count) ⊎ (count ≤ rel)
-        → list_at (lists ++ list ∷ []) rel ≡ slice_range labels (slice_index firsts rel) (slice_index firsts rel + length o.entities)
-    each rel o below at_o (inl low) = get_or_append_left lists (list ∷ []) [] rel (omega (arith, are.many)) ∙ are.each rel o low at_o
+        → list_at (lists ++ list ∷ []) rel ≡ slice_range labels (slice_index firsts rel)
+        (slice_index firsts rel + length o.entities)
+    each rel o below at_o (inl low) = get_or_append_left lists (list ∷ []) [] rel (omega (arith, are.many))
+        ∙ are.each rel o low at_o
     each rel o below at_o (inr high) =
         let same : count ≡ rel = omega arith in
         let one : r ≡ o = same_Some r o (sym at ∙ (ap (slice_get relations) same ∙ at_o)) in

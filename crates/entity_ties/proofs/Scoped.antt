@@ -46,10 +46,12 @@ entity_is [] n = refl
 entity_is (r ∷ rows) zero = refl
 entity_is (r ∷ rows) (suc n) = entity_is rows n
 
-module _ (s : Spec) (t : Labelling) (parts : List (List Member)) (chosen : List ℕ) (facts : AreRelations s.relations) (ties : AreTies s t)
+module _ (s : Spec) (t : Labelling) (parts : List (List Member)) (chosen : List ℕ) (facts : AreRelations s.relations)
+    (ties : AreTies s t)
     (held : AreHeld t.labels parts) where
   group_at : (rel : ℕ) (r : Relation) → slice_get s.relations rel ≡ Some r → slice_get t.groups rel ≡ Some (grouping_of r)
-  group_at rel r at = ap (λ (l : List Grouping). slice_get l rel) ties.groups ∙ (slice_get-map grouping_of s.relations rel ∙ ap (option_map grouping_of) at)
+  group_at rel r at = ap (λ (l : List Grouping). slice_get l rel) ties.groups ∙
+      (slice_get-map grouping_of s.relations rel ∙ ap (option_map grouping_of) at)
 
   pub as_many_groups : length t.groups ≡ length s.relations
   as_many_groups = ap length ties.groups ∙ length-map s.relations grouping_of
@@ -72,18 +74,30 @@ module _ (s : Spec) (t : Labelling) (parts : List (List Member)) (chosen : List 
         let is = is_among chosen (label_of t (cell rel ent)) h in
         are.each (member rel ent) (record { part = is.n; is_chosen = is.has; has = held.each is.n (member rel ent) is.is })
 
-    below : (rel : ℕ) (r : Relation) (ent : ℕ) → slice_get s.relations rel ≡ Some r → Contains (list_at found rel) ent → ent < length r.entities
+    below : (rel : ℕ) (r : Relation) (ent : ℕ) → slice_get s.relations rel ≡ Some r → Contains (list_at found rel)
+        ent → ent < length r.entities
     below rel r ent at c =
         let is = are.only rel ent c in
-        omega (arith, slice_get_within (labels_in t rel) ent is.part (held.only is.part (member rel ent) is.has), ties.per_entity rel r at)
+        omega (
+          arith,
+          slice_get_within (labels_in t rel) ent is.part (held.only is.part (member rel ent) is.has),
+          ties.per_entity rel r at,
+        )
 
-    pub found_within : (rel : ℕ) (group : Grouping) → slice_get t.groups rel ≡ Some group → All (λ ent. ent < group.count) (list_at found rel)
+    pub found_within : (rel : ℕ) (group : Grouping) → slice_get t.groups rel ≡ Some group
+        → All (λ ent. ent < group.count) (list_at found rel)
     found_within rel group at k d inside =
         let r = there s.relations rel (omega (arith, slice_get_within t.groups rel group at, as_many_groups)) in
         let one : grouping_of r.0 ≡ group = same_Some (grouping_of r.0) group (sym (group_at rel r.0 r.1) ∙ at) in
-        omega (arith, below rel r.0 (get_or (list_at found rel) k d) r.1 (Contains-get_or (list_at found rel) k d inside), ap (λ (g : Grouping). g.count) one)
+        omega (
+          arith,
+          below rel r.0 (get_or (list_at found rel) k d) r.1
+              (Contains-get_or (list_at found rel) k d inside),
+          ap (λ (g : Grouping). g.count) one,
+        )
 
-    pub are_places : (n : Places) → AreAllPlaces t.groups found (length t.groups) n.rows n.entities → ArePlacesOf s.relations (scope_of t chosen) n
+    pub are_places : (n : Places) → AreAllPlaces t.groups found (length t.groups) n.rows n.entities
+        → ArePlacesOf s.relations (scope_of t chosen) n
     are_places n all = record {
       rows_per_relation = all.per_rows ∙ as_many_groups;
       entities_per_relation = all.per_entities ∙ as_many_groups;
@@ -103,17 +117,20 @@ module _ (s : Spec) (t : Labelling) (parts : List (List Member)) (chosen : List 
       where
         places : (rel : ℕ) (r : Relation) → slice_get s.relations rel ≡ Some r
             → ArePlacesIn (grouping_of r) (list_at found rel) (list_at n.rows rel) (list_at n.entities rel)
-        places rel r at = all.each rel (grouping_of r) (slice_get_within t.groups rel (grouping_of r) (group_at rel r at)) (group_at rel r at)
+        places rel r at = all.each rel (grouping_of r) (slice_get_within t.groups rel (grouping_of r)
+            (group_at rel r at)) (group_at rel r at)
 
         rows_up : (rel : ℕ) → (rel < length t.groups) ⊎ (length t.groups ≤ rel) → RowsAscend (list_at n.rows rel)
         rows_up rel (inl low) = (let g = there t.groups rel low in (all.each rel g.0 low g.1).rows_ascend)
         rows_up rel (inr high) = λ i j x y less at at'.
-            absurd (none-some x (sym (ap (λ (l : List RowId). slice_get l i) (get_or_past n.rows rel [] (omega (arith, high, all.per_rows)))) ∙ at))
+            absurd (none-some x (sym (ap (λ (l : List RowId). slice_get l i)
+            (get_or_past n.rows rel [] (omega (arith, high, all.per_rows)))) ∙ at))
 
         entities_up : (rel : ℕ) → (rel < length t.groups) ⊎ (length t.groups ≤ rel) → EntitiesAscend (list_at n.entities rel)
         entities_up rel (inl low) = (let g = there t.groups rel low in (all.each rel g.0 low g.1).entities_ascend)
         entities_up rel (inr high) = λ i j x y less at at'.
-            absurd (none-some x (sym (ap (λ (l : List EntId). slice_get l i) (get_or_past n.entities rel [] (omega (arith, high, all.per_entities)))) ∙ at))
+            absurd (none-some x (sym (ap (λ (l : List EntId). slice_get l i)
+            (get_or_past n.entities rel [] (omega (arith, high, all.per_entities)))) ∙ at))
 
   pub is_closed : IsClosed s (scope_of t chosen)
   is_closed k copy is_copy target source is_target is_source row from mapped ent source_ent row_of from_of =
@@ -135,4 +152,5 @@ module _ (s : Spec) (t : Labelling) (parts : List (List Member)) (chosen : List 
         row_of = row_of;
         from_of = from_of;
       } in
-      ap (in_parts chosen) ((ties.tied a b (target_there s a b facts copied) (source_there s a b facts copied)).1 (to_source a a b (same a) copied))
+      ap (in_parts chosen) ((ties.tied a b (target_there s a b facts copied) (source_there s a b facts copied)).1
+      (to_source a a b (same a) copied))

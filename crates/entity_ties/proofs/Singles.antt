@@ -18,7 +18,8 @@ no_numbers members none n a c =
     let empty : Contains [] a = subst (λ (l : List ℕ). Contains l a) past c in
     omega (arith, empty.1)
 
-pub single_none : (labels : List ℕ) (members : List (List ℕ)) → length labels ≡ 0 → length members ≡ 0 → AreSingle 0 labels members
+pub single_none : (labels : List ℕ) (members : List (List ℕ)) → length labels ≡ 0 → length members ≡ 0
+    → AreSingle 0 labels members
 single_none labels members no_labels no_members = record {
   many = no_labels;
   own = λ a below. absurd (omega arith);
@@ -30,10 +31,12 @@ single_none labels members no_labels no_members = record {
   };
 }
 
-kept_numbers : (members : List (List ℕ)) (class : List ℕ) (n : ℕ) → n < length members → numbers_of (members ++ class ∷ []) n ≡ numbers_of members n
+kept_numbers : (members : List (List ℕ)) (class : List ℕ) (n : ℕ) → n < length members → numbers_of
+    (members ++ class ∷ []) n ≡ numbers_of members n
 kept_numbers members class n below = get_or_append_left members (class ∷ []) [] n below
 
-new_numbers : (members : List (List ℕ)) (class : List ℕ) (n : ℕ) → n ≡ length members → numbers_of (members ++ class ∷ []) n ≡ class
+new_numbers : (members : List (List ℕ)) (class : List ℕ) (n : ℕ) → n ≡ length members → numbers_of
+    (members ++ class ∷ []) n ≡ class
 new_numbers members class n e = get_or_from_slice_get (members ++ class ∷ []) n class [] (at_end members class n e)
 
 -- an item of a list of one item is that item
@@ -77,7 +80,8 @@ single_more count labels members s = record {
         let alone : Contains (count ∷ []) a = (0, omega arith, same) in
         subst (λ (l : List ℕ). Contains l a) (sym (new_numbers members (count ∷ []) n place)) alone
 
-    only : (a n : ℕ) → Contains (numbers_of (members ++ (count ∷ []) ∷ []) n) a → (n < count) ⊎ (count ≤ n) → (count < n) ⊎ (n ≤ count)
+    only : (a n : ℕ) → Contains (numbers_of (members ++ (count ∷ []) ∷ []) n) a → (n < count) ⊎ (count ≤ n) →
+        (count < n) ⊎ (n ≤ count)
         → slice_get (labels ++ count ∷ []) a ≡ Some n
     only a n c (inl low) other =
         let below : n < length members = omega (arith, s.many, s.classes.as_many) in
@@ -85,12 +89,14 @@ single_more count labels members s = record {
         at_old labels (count ∷ []) a (slice_get_within labels a n was) ∙ was
     only a n c (inr high) (inl above) =
         let past : numbers_of (members ++ (count ∷ []) ∷ []) n ≡ [] =
-        get_or_past (members ++ (count ∷ []) ∷ []) n [] (omega (arith, s.many, s.classes.as_many, length_push members (count ∷ []))) in
+        get_or_past (members ++ (count ∷ []) ∷ []) n []
+        (omega (arith, s.many, s.classes.as_many, length_push members (count ∷ []))) in
         let empty : Contains [] a = subst (λ (l : List ℕ). Contains l a) past c in
         absurd (omega (arith, empty.1))
     only a n c (inr high) (inr below) =
         let place : n ≡ length members = omega (arith, s.many, s.classes.as_many) in
-        let same : count ≡ a = the_one count a (subst (λ (l : List ℕ). Contains l a) (new_numbers members (count ∷ []) n place) c) in
+        let same : count ≡ a = the_one count a
+        (subst (λ (l : List ℕ). Contains l a) (new_numbers members (count ∷ []) n place) c) in
         let is : count ≡ n = omega arith in
         at_end labels count a (omega (arith, s.many)) ∙ ap Some is
 

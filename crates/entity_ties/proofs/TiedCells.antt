@@ -17,27 +17,32 @@ use Rattle.entity_ties.specs.Tied.{Cell, IsCell, IsCopiedFrom, AreTied, same, to
 -- what a copied row is of, is there
 pub target_there : (s : Spec) (a b : Cell) → AreRelations s.relations → IsCopiedFrom s a b → IsCell s a
 target_there s a b facts copied =
-    let at : slice_get s.relations a.rel ≡ Some copied.target_relation = ap (slice_get s.relations) copied.of_target ∙ copied.is_target in
+    let at : slice_get s.relations a.rel ≡ Some copied.target_relation = ap (slice_get s.relations) copied.of_target
+    ∙ copied.is_target in
     record {
       relation = copied.target_relation;
       is_relation = at;
-      within = entity_below copied.target_relation copied.row.0 a.ent (all_at IsRelation s.relations a.rel copied.target_relation facts.each at) copied.row_of;
+      within = entity_below copied.target_relation copied.row.0 a.ent
+          (all_at IsRelation s.relations a.rel copied.target_relation facts.each at) copied.row_of;
     }
 
 pub source_there : (s : Spec) (a b : Cell) → AreRelations s.relations → IsCopiedFrom s a b → IsCell s b
 source_there s a b facts copied =
-    let at : slice_get s.relations b.rel ≡ Some copied.source_relation = ap (slice_get s.relations) copied.of_source ∙ copied.is_source in
+    let at : slice_get s.relations b.rel ≡ Some copied.source_relation = ap (slice_get s.relations) copied.of_source
+    ∙ copied.is_source in
     record {
       relation = copied.source_relation;
       is_relation = at;
-      within = entity_below copied.source_relation copied.from.0 b.ent (all_at IsRelation s.relations b.rel copied.source_relation facts.each at) copied.from_of;
+      within = entity_below copied.source_relation copied.from.0 b.ent
+          (all_at IsRelation s.relations b.rel copied.source_relation facts.each at) copied.from_of;
     }
 
 module _ (s : Spec) (firsts : List ℕ) (members : List Member) (facts : AreRelations s.relations)
     (are : AreNumbered s.relations (length s.relations) firsts members) where
   -- an entity stands at its number
   pub cell_at : (a : Cell) → IsCell s a → slice_get members (number firsts a) ≡ Some (member a.rel a.ent)
-  cell_at a is = are.there a.rel is.relation (slice_get_within s.relations a.rel is.relation is.is_relation) is.is_relation a.ent is.within
+  cell_at a is = are.there a.rel is.relation (slice_get_within s.relations a.rel is.relation is.is_relation)
+      is.is_relation a.ent is.within
 
   pub number_below : (a : Cell) → IsCell s a → number firsts a < length members
   number_below a is = slice_get_within members (number firsts a) (member a.rel a.ent) (cell_at a is)
@@ -70,7 +75,8 @@ module _ (s : Spec) (firsts : List ℕ) (members : List Member) (facts : AreRela
         let before = tied_at a is x z e l in
         let link = link_are.only (record { one = z; other = y }) has in
         let is_target = target_there s link.target link.source facts link.copied in
-        let one : before.cell ≡ link.target = one_cell before.cell link.target before.is_cell is_target (before.at ∙ link.is_one) in
+        let one : before.cell ≡ link.target = one_cell before.cell link.target before.is_cell is_target
+        (before.at ∙ link.is_one) in
         record {
           cell = link.source;
           is_cell = source_there s link.target link.source facts link.copied;
@@ -81,7 +87,8 @@ module _ (s : Spec) (firsts : List ℕ) (members : List Member) (facts : AreRela
         let before = tied_at a is x z e l in
         let link = link_are.only (record { one = y; other = z }) has in
         let is_source = source_there s link.target link.source facts link.copied in
-        let one : before.cell ≡ link.source = one_cell before.cell link.source before.is_cell is_source (before.at ∙ link.is_other) in
+        let one : before.cell ≡ link.source = one_cell before.cell link.source before.is_cell is_source
+        (before.at ∙ link.is_other) in
         record {
           cell = link.target;
           is_cell = target_there s link.target link.source facts link.copied;
@@ -89,7 +96,8 @@ module _ (s : Spec) (firsts : List ℕ) (members : List Member) (facts : AreRela
           tied = to_target a link.source link.target (subst (AreTied s a) one before.tied) link.copied;
         }
 
-    pub tied_if_linked : (a b : Cell) → IsCell s a → IsCell s b → AreLinked links (number firsts a) (number firsts b) → AreTied s a b
+    pub tied_if_linked : (a b : Cell) → IsCell s a → IsCell s b → AreLinked links (number firsts a) (number firsts b)
+        → AreTied s a b
     tied_if_linked a b is_a is_b l =
         let found = tied_at a is_a (number firsts a) (number firsts b) refl l in
         subst (AreTied s a) (one_cell found.cell b found.is_cell is_b found.at) found.tied
@@ -103,7 +111,8 @@ module _ (s : Spec) (firsts : List ℕ) (members : List Member) (facts : AreRela
           omega (arith, is.is_other, number_below is.source (source_there s is.target is.source facts is.copied)),
         )
 
-    pub cell_labels : (labels new : List ℕ) (count : ℕ) → length labels ≡ length members → AreLabels links labels → AreInOrder labels new count
+    pub cell_labels : (labels new : List ℕ) (count : ℕ) → length labels ≡ length members → AreLabels links labels
+        → AreInOrder labels new count
         → AreCellLabels s firsts members new count
     cell_labels labels new count many exact order = record {
       many = order.many ∙ many;

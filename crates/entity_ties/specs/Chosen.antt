@@ -51,7 +51,8 @@ pub record ArePlacesIn (group : Grouping) (numbers : List ℕ) (rows : List RowI
   pub entities_are : (ent : EntId) → Contains entities ent ↔ Contains numbers ent.0
 
 -- the same for the first relations
-pub record AreAllPlaces (groups : List Grouping) (found : List (List ℕ)) (count : ℕ) (rows : List (List RowId)) (entities : List (List EntId)) : Type 0 where
+pub record AreAllPlaces (groups : List Grouping) (found : List (List ℕ)) (count : ℕ) (rows : List (List RowId))
+    (entities : List (List EntId)) : Type 0 where
   pub per_rows : length rows ≡ count
   pub per_entities : length entities ≡ count
   pub each : (rel : ℕ) (group : Grouping) → rel < count → slice_get groups rel ≡ Some group

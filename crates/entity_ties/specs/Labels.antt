@@ -14,7 +14,8 @@ cell rel ent = record { rel = rel; ent = ent }
 
 -- ---- by number
 
--- the labels of all entities, by number: two have one label just where they are tied; labels count in the order in which they come first
+-- the labels of all entities, by number: two have one label just where they are tied; labels count in the order in
+-- which they come first
 pub record AreCellLabels (s : Spec) (firsts : List ℕ) (members : List Member) (labels : List ℕ) (count : ℕ) : Type 0 where
   pub many : length labels ≡ length members
   pub tied : (a b : Cell) → IsCell s a → IsCell s b
@@ -25,7 +26,8 @@ pub record AreCellLabels (s : Spec) (firsts : List ℕ) (members : List Member) 
 
 -- ---- by relation
 
--- for each relation the label of each of its entities, which is the number of its part; how many parts there are; the rows of each entity
+-- for each relation the label of each of its entities, which is the number of its part; how many parts there are; the
+-- rows of each entity
 pub record Labelling : Type 0 where
   pub labels : List (List ℕ)
   pub count : ℕ
@@ -51,7 +53,8 @@ pub record IsBefore (a b : Cell) : Type 0 where
 abbrev pub grouping_of : Relation → Grouping
 grouping_of r = record { count = length r.entities; entities = entities_of r.rows }
 
--- the parts are the smallest: two entities are of one part just where they are tied. They count in the order of their first entities
+-- the parts are the smallest: two entities are of one part just where they are tied. They count in the order of their
+-- first entities
 pub record AreTies (s : Spec) (t : Labelling) : Type 0 where
   pub per_relation : length t.labels ≡ length s.relations
   pub per_entity : (rel : ℕ) (r : Relation) → slice_get s.relations rel ≡ Some r → length (labels_in t rel) ≡ length r.entities

@@ -15,7 +15,8 @@ abbrev pub number : List ℕ → Cell → ℕ
 number firsts cell = slice_index firsts cell.rel + cell.ent
 
 -- the link of a mapped row, where the first entities of both relations have these numbers
-pub record IsLinkOf (copy : CopyFunction) (targets sources : List Row) (first first_source : ℕ) (row : RowId) (link : Link) : Type 0 where
+pub record IsLinkOf (copy : CopyFunction) (targets sources : List Row) (first first_source : ℕ) (row : RowId)
+    (link : Link) : Type 0 where
   pub from : RowId
   pub ent : ℕ
   pub source_ent : ℕ
@@ -26,16 +27,20 @@ pub record IsLinkOf (copy : CopyFunction) (targets sources : List Row) (first fi
   pub is_other : link.other ≡ first_source + source_ent
 
 -- the link of one of the first rows
-pub record IsLinkBelow (copy : CopyFunction) (targets sources : List Row) (first first_source bound : ℕ) (link : Link) : Type 0 where
+pub record IsLinkBelow (copy : CopyFunction) (targets sources : List Row) (first first_source bound : ℕ)
+    (link : Link) : Type 0 where
   pub row : RowId
   pub below : row.0 < bound
   pub is_link : IsLinkOf copy targets sources first first_source row link
 
 -- the links of the first rows were added
-pub record AddsLinks (copy : CopyFunction) (targets sources : List Row) (first first_source bound : ℕ) (old new : List Link) : Type 0 where
+pub record AddsLinks (copy : CopyFunction) (targets sources : List Row) (first first_source bound : ℕ)
+    (old new : List Link) : Type 0 where
   pub kept : (link : Link) → Contains old link → Contains new link
-  pub only : (link : Link) → Contains new link → Contains old link ⊎ IsLinkBelow copy targets sources first first_source bound link
-  pub all : (row : RowId) (link : Link) → row.0 < bound → IsLinkOf copy targets sources first first_source row link → Contains new link
+  pub only : (link : Link) → Contains new link → Contains old link ⊎ IsLinkBelow copy targets sources first
+      first_source bound link
+  pub all : (row : RowId) (link : Link) → row.0 < bound → IsLinkOf copy targets sources first first_source row link
+      → Contains new link
 
 -- the links of a copy function's rows were added
 pub record AddsLinksOf (relations : List Relation) (firsts : List ℕ) (copy : CopyFunction) (old new : List Link) : Type 0 where
@@ -43,7 +48,8 @@ pub record AddsLinksOf (relations : List Relation) (firsts : List ℕ) (copy : C
   pub source : Relation
   pub is_target : slice_get relations copy.target.0 ≡ Some target
   pub is_source : slice_get relations copy.source.0 ≡ Some source
-  pub adds : AddsLinks copy target.rows source.rows (slice_index firsts copy.target.0) (slice_index firsts copy.source.0) (length target.rows) old new
+  pub adds : AddsLinks copy target.rows source.rows (slice_index firsts copy.target.0)
+      (slice_index firsts copy.source.0) (length target.rows) old new
 
 -- a link is that of two entities of which a row of the one is copied from a row of the other
 pub record IsLinkBetween (s : Spec) (firsts : List ℕ) (link : Link) : Type 0 where

@@ -21,7 +21,8 @@ pub record IsNumbered (relations : List Relation) (firsts : List ℕ) (number : 
   pub within : m.ent.0 < length relation.entities
   pub is_number : slice_index firsts m.rel.0 + m.ent.0 ≡ number
 
--- the entities of so many relations are numbered: those of each relation follow its first number, behind those of the relations before
+-- the entities of so many relations are numbered: those of each relation follow its first number, behind those of the
+-- relations before
 pub record AreNumbered (relations : List Relation) (count : ℕ) (firsts : List ℕ) (members : List Member) : Type 0 where
   pub per_relation : length firsts ≡ count
   pub there : (rel : ℕ) (r : Relation) → rel < count → slice_get relations rel ≡ Some r → (ent : ℕ) → ent < length r.entities

@@ -4,7 +4,8 @@ use Rattle.std.specs.Prelude.{◌≡◌, ◌<◌, ◌+◌, ◌⊎◌, ◌↔◌,
 -- labels that are equal where the old ones are, and count from 0 on in the order in which they come first
 pub record AreInOrder (old new : List ℕ) (count : ℕ) : Type 0 where
   pub many : length new ≡ length old
-  pub same : (a b : ℕ) → a < length old → b < length old → (slice_get new a ≡ slice_get new b) ↔ (slice_get old a ≡ slice_get old b)
+  pub same : (a b : ℕ) → a < length old → b < length old → (slice_get new a ≡ slice_get new b) ↔
+      (slice_get old a ≡ slice_get old b)
   pub below : (a n : ℕ) → slice_get new a ≡ Some n → n < count
   pub used : (n : ℕ) → n < count → (a : ℕ) × (slice_get new a ≡ Some n)
   pub first : (n m b : ℕ) → n < m → slice_get new b ≡ Some m → (a : ℕ) × (a < b) × (slice_get new a ≡ Some n)

@@ -28,7 +28,8 @@ pub record ArePartsOf (members : List Member) (labels : List ℕ) (count : ℕ) 
 
 -- the entities of each relation have a label each
 abbrev pub IsRoom : List Relation → List ℕ → ℕ → Type 0
-IsRoom relations firsts count = (rel : ℕ) (r : Relation) → slice_get relations rel ≡ Some r → slice_index firsts rel + length r.entities ≤ count
+IsRoom relations firsts count = (rel : ℕ) (r : Relation) → slice_get relations rel ≡ Some r → slice_index firsts rel
+    + length r.entities ≤ count
 
 -- the labels of the first relations' entities, by relation
 pub record AreCut (relations : List Relation) (count : ℕ) (firsts labels : List ℕ) (lists : List (List ℕ)) : Type 0 where

@@ -51,7 +51,8 @@ pub(crate) fn places_of(
     found: &ItemList<NumberList>,
 ) -> Result<Places, NoMemory>
     requires many { length found.now ≡ length groups.now }
-    requires within { (rel : ℕ) (group : Grouping) → slice_get groups.now rel ≡ Some group → All (λ ent. ent < group.count) (list_at found.now rel) }
+    requires within { (rel : ℕ) (group : Grouping) → slice_get groups.now rel ≡ Some group
+        → All (λ ent. ent < group.count) (list_at found.now rel) }
     ensures { IfOk result (λ places. AreAllPlaces groups.now found.now (length groups.now) places.rows places.entities) }
 {
     let mut rows = ItemList::new(alloc);

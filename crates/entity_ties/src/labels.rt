@@ -16,9 +16,11 @@ pub(crate) fn part_labels(
     spec: &Specification,
     numbering: &Numbering,
 ) -> Result<Ordered, NoMemory>
-    requires numbers { AreNumbered spec.now.relations (length spec.now.relations) numbering.now.firsts.items numbering.now.members.items }
+    requires numbers { AreNumbered spec.now.relations (length spec.now.relations) numbering.now.firsts.items
+        numbering.now.members.items }
     requires few { length numbering.now.members.items < 2 ^ 32 }
-    ensures { IfOk result (λ o. AreCellLabels spec.now numbering.now.firsts.items numbering.now.members.items o.labels.items o.count) }
+    ensures { IfOk result (λ o. AreCellLabels spec.now numbering.now.firsts.items numbering.now.members.items
+        o.labels.items o.count) }
 {
     let _relations = spec.relations();
     let links = links_of(alloc, spec, numbering)?;

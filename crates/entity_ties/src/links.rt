@@ -23,7 +23,8 @@ pub(crate) fn links_of(
     spec: &Specification,
     numbering: &Numbering,
 ) -> Result<Vec<Link>, NoMemory>
-    requires numbers { AreNumbered spec.now.relations (length spec.now.relations) numbering.now.firsts.items numbering.now.members.items }
+    requires numbers { AreNumbered spec.now.relations (length spec.now.relations) numbering.now.firsts.items
+        numbering.now.members.items }
     requires few { length numbering.now.members.items < 2 ^ 32 }
     ensures { IfOk result (λ links. AreLinksOf spec.now numbering.now.firsts.items links.items) }
 {
@@ -67,7 +68,8 @@ fn add_links(
     requires few { length targets.now + 1 < 2 ^ 32 }
     requires targets { All (λ row. first + row.entity.0 < 2 ^ 32) targets.now }
     requires sources { All (λ row. first_source + row.entity.0 < 2 ^ 32) sources.now }
-    ensures { OnOk result (AddsLinks copy.now targets.now sources.now first first_source (length targets.now) links.old.items links.new.items) }
+    ensures { OnOk result (AddsLinks copy.now targets.now sources.now first first_source (length targets.now)
+        links.old.items links.new.items) }
 {
     for row in 0..targets.len() {
         let row = RowId(row as u32);

@@ -107,7 +107,8 @@ fn chosen_places(
     requires held { AreHeld labels.now parts.now }
     requires ties { AreTies spec.now (labelling labels.now (length parts.now) groups.now) }
     requires chosen { All (λ part. part < length parts.now) chosen.now }
-    ensures places { IfOk result (ArePlacesOf spec.now.relations (scope_of (labelling labels.now (length parts.now) groups.now) chosen.now)) }
+    ensures places { IfOk result (ArePlacesOf spec.now.relations
+        (scope_of (labelling labels.now (length parts.now) groups.now) chosen.now)) }
     ensures closed { IsClosed spec.now (scope_of (labelling labels.now (length parts.now) groups.now) chosen.now) }
 {
     let _relations = spec.relations();

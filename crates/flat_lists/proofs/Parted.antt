@@ -13,7 +13,8 @@ leb-false x number is = go (cases_lt number x)
     go (inl h) = h
     go (inr h) = absurd (false≢true (sym is ∙ le-leb x number h))
 
-module _ (xs : List ℕ) (number at : ℕ) (parted : Parted xs number at) (some : 0 < length xs) (first : slice_index xs 0 ≤ number) where
+module _ (xs : List ℕ) (number at : ℕ) (parted : Parted xs number at) (some : 0 < length xs)
+    (first : slice_index xs 0 ≤ number) where
   pub some_up_to : 1 ≤ at
   some_up_to = go (cases_lt 0 at)
     where

@@ -16,18 +16,21 @@ use Rattle.forced_closure.proofs.Agree.{horn_of, IsCase, only_one}
 said_within : (m : Subject) (o : Origin) (premises : List ℕ) (conclusion : ℕ) → IsSaid m o premises conclusion
     → ((slot : ℕ) → Contains premises slot → slot < cells_of m.layout.sizes) × (conclusion < cells_of m.layout.sizes)
 said_within m (origin.Rule rule ground) premises conclusion r = (
-  (λ slot c. let q = r.premises_are.each slot c in slot_in m.layout r.rule.relation.0 q.pair.attr.0 q.pair.earlier q.pair.later slot q.is_slot),
+  (λ slot c. let q = r.premises_are.each slot c in slot_in m.layout r.rule.relation.0 q.pair.attr.0 q.pair.earlier
+      q.pair.later slot q.is_slot),
   slot_in m.layout r.rule.relation.0 r.atom.attr.0 r.earlier r.later conclusion r.conclusion_is,
 )
 said_within m (origin.Copy copy place first second) premises conclusion (from, e, q) =
-    let source = slot_in m.layout q.are.copy.source.0 q.are.place.source.0 q.are.are_at.rows.first_source q.are.are_at.rows.second_source from q.source in (
+    let source = slot_in m.layout q.are.copy.source.0 q.are.place.source.0 q.are.are_at.rows.first_source
+    q.are.are_at.rows.second_source from q.source in (
       (λ slot c. subst (λ n. n < cells_of m.layout.sizes) (only_one from slot premises e c) source),
       slot_in m.layout q.are.copy.target.0 q.are.place.target.0 first second conclusion q.target,
     )
 said_within m (origin.Back copy place first second) premises conclusion (to, e, q) =
     let target = slot_in m.layout q.are.copy.target.0 q.are.place.target.0 first second to q.target in (
       (λ slot c. subst (λ n. n < cells_of m.layout.sizes) (only_one to slot premises e c) target),
-      slot_in m.layout q.are.copy.source.0 q.are.place.source.0 q.are.are_at.rows.first_source q.are.are_at.rows.second_source conclusion q.source,
+      slot_in m.layout q.are.copy.source.0 q.are.place.source.0 q.are.are_at.rows.first_source
+          q.are.are_at.rows.second_source conclusion q.source,
     )
 
 pub is_horn : (m : Subject) (facts : List ℕ) (t : Told) → IsCase m facts t → IsHorn (horn_of m facts t)
@@ -41,7 +44,8 @@ is_horn m facts t is =
           let o = item_at t.origins k (omega (arith, below, are.premises)) in
           let c = item_at t.conclusions k (omega (arith, below, are.premises, are.conclusions)) in
           let said = are.each k o.0 (get_or t.premises k d) c.0 o.1 (slice_get-get_or t.premises k d below) c.1 in
-          (said_within m o.0 (get_or t.premises k d) c.0 said).0 (get_or (get_or t.premises k d) i e) (Contains-get_or (get_or t.premises k d) i e within);
+          (said_within m o.0 (get_or t.premises k d) c.0 said).0 (get_or (get_or t.premises k d) i e)
+          (Contains-get_or (get_or t.premises k d) i e within);
       conclusions = λ k d below.
           let o = item_at t.origins k (omega (arith, below, are.conclusions)) in
           let ps = item_at t.premises k (omega (arith, below, are.premises, are.conclusions)) in
@@ -55,16 +59,36 @@ is_horn m facts t is =
 -- the cells of the least set are there
 pub least_within : (h : Horn) → IsHorn h → (slot : ℕ) → IsLeast h slot → slot < cells_of h.sizes
 least_within h is _ (fact slot c) = subst (λ n. n < cells_of h.sizes) c.2 (is.facts c.0 slot c.1)
-least_within h is _ (joined first second third meet one two) = cell_in h.sizes meet.square meet.row meet.column third meet.third_is
+least_within h is _ (joined first second third meet one two) = cell_in h.sizes meet.square meet.row meet.column third
+    meet.third_is
 least_within h is _ (clause k premises conclusion are_premises is_conclusion all) =
     let c = contains_at h.conclusions k conclusion is_conclusion in
     subst (λ n. n < cells_of h.sizes) c.2 (is.conclusions c.0 conclusion c.1)
 
 -- the same cells, facts and clauses, told by other lists
-pub horn_same : (m : Subject) (facts : List ℕ) (t : Told) (sizes : List ℕ) (premises : List (List ℕ)) (conclusions : List ℕ) → sizes ≡ m.layout.sizes
+pub horn_same : (m : Subject) (facts : List ℕ) (t : Told) (sizes : List ℕ) (premises : List (List ℕ))
+    (conclusions : List ℕ) → sizes ≡ m.layout.sizes
     → premises ≡ t.premises → conclusions ≡ t.conclusions
     → horn_of m facts t ≡ record { sizes = sizes; facts = facts; premises = premises; conclusions = conclusions }
 horn_same m facts t sizes premises conclusions same_sizes same_premises same_conclusions =
-    ap (λ (xs : List ℕ). let h : Horn = record { sizes = xs; facts = facts; premises = t.premises; conclusions = t.conclusions } in h) (sym same_sizes)
-    ∙ (ap (λ (xs : List (List ℕ)). let h : Horn = record { sizes = sizes; facts = facts; premises = xs; conclusions = t.conclusions } in h) (sym same_premises)
-    ∙ ap (λ (xs : List ℕ). let h : Horn = record { sizes = sizes; facts = facts; premises = premises; conclusions = xs } in h) (sym same_conclusions))
+    ap (λ (xs : List ℕ). let h : Horn = record {
+      sizes = xs;
+      facts = facts;
+      premises = t.premises;
+      conclusions =
+          t.conclusions;
+    } in h) (sym same_sizes)
+    ∙ (ap (λ (xs : List (List ℕ)). let h : Horn = record {
+      sizes = sizes;
+      facts = facts;
+      premises = xs;
+      conclusions =
+          t.conclusions;
+    } in h) (sym same_premises)
+    ∙ ap (λ (xs : List ℕ). let h : Horn = record {
+      sizes = sizes;
+      facts = facts;
+      premises = premises;
+      conclusions =
+          xs;
+    } in h) (sym same_conclusions))

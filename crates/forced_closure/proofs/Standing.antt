@@ -80,11 +80,14 @@ pair_parts attr (Some a) (Some b) p e = go (a.0 == b.0) e
     go true e = absurd (none-some p e)
     go false e =
         let same : pair ≡ p = same_Some pair p e in
-        subst (IsPairAt attr (Some a) (Some b)) same (let r : IsPairAt attr (Some a) (Some b) pair = record { attr_is = refl; earlier_is = refl; later_is = refl } in r)
+        subst (IsPairAt attr (Some a) (Some b)) same (let r : IsPairAt attr (Some a) (Some b) pair =
+        record { attr_is = refl; earlier_is = refl; later_is = refl } in r)
 
 -- rows that are taken for the variables are of one entity
-chosen_stands : (relations : List Relation) (rel : ℕ) (r : Relation) (vars : ℕ) (rows : List RowId) (attr : ℕ) (v w : ℕ) (a b : RowId) → slice_get relations rel ≡ Some r
-    → IsChoice r.rows vars rows → attr < length (kinds_of r) → slice_get rows v ≡ Some a → slice_get rows w ≡ Some b → Stand relations rel attr a b
+chosen_stands : (relations : List Relation) (rel : ℕ) (r : Relation) (vars : ℕ) (rows : List RowId) (attr : ℕ)
+    (v w : ℕ) (a b : RowId) → slice_get relations rel ≡ Some r
+    → IsChoice r.rows vars rows → attr < length (kinds_of r) → slice_get rows v ≡ Some a → slice_get rows w ≡ Some b
+    → Stand relations rel attr a b
 chosen_stands relations rel r vars rows attr v w a b at choice within at_a at_b =
     let many = length-map r.attrs (λ x. x.kind) in
     record {
@@ -96,8 +99,10 @@ chosen_stands relations rel r vars rows attr v w a b at choice within at_a at_b 
       later_of = all_at (λ (row : RowId). entity_of r.rows row.0 ≡ Some choice.ent) rows w b choice.of_entity at_b;
     }
 
-pair_stands : (relations : List Relation) (rel : ℕ) (r : Relation) (vars : ℕ) (rows : List RowId) (attr : AttrId) (v w : ℕ) (p : Pair) → slice_get relations rel ≡ Some r
-    → IsChoice r.rows vars rows → attr.0 < length (kinds_of r) → pair_at attr (slice_get rows v) (slice_get rows w) ≡ Some p → StandsIn relations rel p
+pair_stands : (relations : List Relation) (rel : ℕ) (r : Relation) (vars : ℕ) (rows : List RowId) (attr : AttrId)
+    (v w : ℕ) (p : Pair) → slice_get relations rel ≡ Some r
+    → IsChoice r.rows vars rows → attr.0 < length (kinds_of r) → pair_at attr (slice_get rows v) (slice_get rows w) ≡
+    Some p → StandsIn relations rel p
 pair_stands relations rel r vars rows attr v w p at choice within e =
     let parts = pair_parts attr (slice_get rows v) (slice_get rows w) p e in
     let here : p.attr.0 < length (kinds_of r) = subst (λ (x : AttrId). x.0 < length (kinds_of r)) (sym parts.attr_is) within in
@@ -109,25 +114,32 @@ both_parts (Some q) (Some rest) qs e = (q, rest, refl, refl, same_Some (q ∷ re
 both_parts (Some q) None qs e = absurd (none-some qs e)
 both_parts None ps qs e = absurd (none-some qs e)
 
-premises_stand : (relations : List Relation) (rel : ℕ) (r : Relation) (vars : ℕ) (rows : List RowId) (ps : List Predicate) (qs : List Pair) → slice_get relations rel ≡ Some r
-    → IsChoice r.rows vars rows → All (IsPredicate vars (kinds_of r)) ps → premises_of rows ps ≡ Some qs → All (StandsIn relations rel) qs
-premises_stand relations rel r vars rows [] qs at choice are e = subst (All (StandsIn relations rel)) (same_Some [] qs e) (All-nil (StandsIn relations rel))
+premises_stand : (relations : List Relation) (rel : ℕ) (r : Relation) (vars : ℕ) (rows : List RowId)
+    (ps : List Predicate) (qs : List Pair) → slice_get relations rel ≡ Some r
+    → IsChoice r.rows vars rows → All (IsPredicate vars (kinds_of r)) ps → premises_of rows ps ≡ Some qs
+    → All (StandsIn relations rel) qs
+premises_stand relations rel r vars rows [] qs at choice are e = subst (All (StandsIn relations rel))
+    (same_Some [] qs e) (All-nil (StandsIn relations rel))
 premises_stand relations rel r vars rows (Order atom ∷ more) qs at choice are e =
     let parts = both_parts (atom_pair rows atom) (premises_of rows more) qs e in
     let is = All-head (IsPredicate vars (kinds_of r)) (Order atom) more are in
     subst (All (StandsIn relations rel)) parts.4 (All-cons (StandsIn relations rel) parts.0 parts.1
     (pair_stands relations rel r vars rows atom.attr atom.earlier atom.later parts.0 at choice is.attr parts.2)
-    (premises_stand relations rel r vars rows more parts.1 at choice (All-tail (IsPredicate vars (kinds_of r)) (Order atom) more are) parts.3))
+    (premises_stand relations rel r vars rows more parts.1 at choice (All-tail (IsPredicate vars (kinds_of r))
+    (Order atom) more are) parts.3))
 premises_stand relations rel r vars rows (Compare left cmp right ∷ more) qs at choice are e =
-    premises_stand relations rel r vars rows more qs at choice (All-tail (IsPredicate vars (kinds_of r)) (Compare left cmp right) more are) e
+    premises_stand relations rel r vars rows more qs at choice (All-tail (IsPredicate vars (kinds_of r))
+    (Compare left cmp right) more are) e
 
-instance_premises : (rule : Rule) (table : List Row) (rows : List RowId) (i : RuleInstance) → instance_of rule table rows ≡ Some i → premises_of rows rule.predicates ≡ Some i.premises
+instance_premises : (rule : Rule) (table : List Row) (rows : List RowId) (i : RuleInstance) → instance_of rule table
+    rows ≡ Some i → premises_of rows rule.predicates ≡ Some i.premises
 instance_premises rule table rows i e = go (values_hold rule table rows) (premises_of rows rule.predicates) e
   where
     made : List Pair → RuleInstance
     made ps = record { premises = ps; conclusion = concluded rows rule.conclusion }
 
-    go : (values : Bool) (premises : Option (List Pair)) → (if values then option_map made premises else None) ≡ Some i → premises ≡ Some i.premises
+    go : (values : Bool) (premises : Option (List Pair)) → (if values then option_map made premises else None) ≡ Some
+        i → premises ≡ Some i.premises
     go false premises e = absurd (none-some i e)
     go true None e = absurd (none-some i e)
     go true (Some ps) e = ap Some (ap (λ (j : RuleInstance). j.premises) (same_Some (made ps) i e))
@@ -140,7 +152,8 @@ pub record IsGroundOf (m : Subject) (k : ℕ) (rule : Rule) (rows : List RowId) 
   pub choice : IsChoice relation.rows rule.vars rows
   pub instance : is_some (instance_of rule relation.rows rows) ≡ true
 
-pub ground_of : (m : Subject) (k : ℕ) (rule : Rule) (grounds : List (List RowId)) (ground : ℕ) (rows : List RowId) → IsSubject m → slice_get m.spec.rules k ≡ Some rule
+pub ground_of : (m : Subject) (k : ℕ) (rule : Rule) (grounds : List (List RowId)) (ground : ℕ) (rows : List RowId)
+    → IsSubject m → slice_get m.spec.rules k ≡ Some rule
     → slice_get m.rules k ≡ Some grounds → slice_get grounds ground ≡ Some rows → IsGroundOf m k rule rows
 ground_of m k rule grounds ground rows is at_rule at_grounds at_rows =
     let of = all_at (IsRuleOf m.spec.relations) m.spec.rules k rule is.facts.rules.each at_rule in
@@ -148,37 +161,50 @@ ground_of m k rule grounds ground rows is at_rule at_grounds at_rows =
     let g = all_at (IsGround rule of.relation.rows) grounds ground rows are.each at_rows in
     record { relation = of.relation; is_relation = of.is_relation; fits = of.fits; choice = g.choice; instance = g.instance }
 
-pub ground_premises : (m : Subject) (k : ℕ) (rule : Rule) (rows : List RowId) (relation : Relation) (i : RuleInstance) → IsGroundOf m k rule rows
-    → slice_get m.spec.relations rule.relation.0 ≡ Some relation → instance_of rule relation.rows rows ≡ Some i → All (StandsIn m.spec.relations rule.relation.0) i.premises
+pub ground_premises : (m : Subject) (k : ℕ) (rule : Rule) (rows : List RowId) (relation : Relation)
+    (i : RuleInstance) → IsGroundOf m k rule rows
+    → slice_get m.spec.relations rule.relation.0 ≡ Some relation → instance_of rule relation.rows rows ≡ Some i
+    → All (StandsIn m.spec.relations rule.relation.0) i.premises
 ground_premises m k rule rows relation i g at e =
     let same : relation ≡ g.relation = same_Some relation g.relation (sym at ∙ g.is_relation) in
-    let here : instance_of rule g.relation.rows rows ≡ Some i = ap (λ (r : Relation). instance_of rule r.rows rows) (sym same) ∙ e in
-    premises_stand m.spec.relations rule.relation.0 g.relation rule.vars rows rule.predicates i.premises g.is_relation g.choice g.fits.predicates
+    let here : instance_of rule g.relation.rows rows ≡ Some i = ap (λ (r : Relation). instance_of rule r.rows rows)
+    (sym same) ∙ e in
+    premises_stand m.spec.relations rule.relation.0 g.relation rule.vars rows rule.predicates i.premises
+    g.is_relation g.choice g.fits.predicates
     (instance_premises rule g.relation.rows rows i here)
 
 pub ground_instance : (m : Subject) (k : ℕ) (rule : Rule) (rows : List RowId) (relation : Relation) → IsGroundOf m k rule rows
     → slice_get m.spec.relations rule.relation.0 ≡ Some relation → instance_of rule relation.rows rows ≡ None → ⊥
 ground_instance m k rule rows relation g at none =
     let same : relation ≡ g.relation = same_Some relation g.relation (sym at ∙ g.is_relation) in
-    let here : instance_of rule g.relation.rows rows ≡ None = ap (λ (r : Relation). instance_of rule r.rows rows) (sym same) ∙ none in
+    let here : instance_of rule g.relation.rows rows ≡ None = ap (λ (r : Relation). instance_of rule r.rows rows)
+    (sym same) ∙ none in
     false≢true (sym (ap is_some here) ∙ g.instance)
 
 -- the atom that a rule concludes speaks of its variables and of an attribute
-pub concluded_atom : (m : Subject) (k : ℕ) (rule : Rule) (rows : List RowId) (atom : OrderAtom) (g : IsGroundOf m k rule rows) → rule.conclusion ≡ conclusion.Order atom
+pub concluded_atom : (m : Subject) (k : ℕ) (rule : Rule) (rows : List RowId) (atom : OrderAtom)
+    (g : IsGroundOf m k rule rows) → rule.conclusion ≡ conclusion.Order atom
     → (atom.earlier < length rows) × (atom.later < length rows) × (atom.attr.0 < length (kinds_of g.relation))
 concluded_atom m k rule rows atom g is =
-    let a : IsAtom rule.vars (kinds_of g.relation) atom = subst (IsConclusion rule.vars (kinds_of g.relation)) is g.fits.conclusion in
+    let a : IsAtom rule.vars (kinds_of g.relation) atom = subst (IsConclusion rule.vars (kinds_of g.relation)) is
+    g.fits.conclusion in
     (omega (arith, a.earlier, g.choice.one_each), omega (arith, a.later, g.choice.one_each), a.attr)
 
-pub ground_conclusion : (m : Subject) (k : ℕ) (rule : Rule) (rows : List RowId) (atom : OrderAtom) (a b : RowId) → IsGroundOf m k rule rows → rule.conclusion ≡ conclusion.Order atom
-    → slice_get rows atom.earlier ≡ Some a → slice_get rows atom.later ≡ Some b → Stand m.spec.relations rule.relation.0 atom.attr.0 a b
+pub ground_conclusion : (m : Subject) (k : ℕ) (rule : Rule) (rows : List RowId) (atom : OrderAtom) (a b : RowId)
+    → IsGroundOf m k rule rows → rule.conclusion ≡ conclusion.Order atom
+    → slice_get rows atom.earlier ≡ Some a → slice_get rows atom.later ≡ Some b → Stand m.spec.relations
+    rule.relation.0 atom.attr.0 a b
 ground_conclusion m k rule rows atom a b g is at_a at_b =
     let c = concluded_atom m k rule rows atom g is in
-    chosen_stands m.spec.relations rule.relation.0 g.relation rule.vars rows atom.attr.0 atom.earlier atom.later a b g.is_relation g.choice c.2 at_a at_b
+    chosen_stands m.spec.relations rule.relation.0 g.relation rule.vars rows atom.attr.0 atom.earlier atom.later a b
+    g.is_relation g.choice c.2 at_a at_b
 
-pub rule_clause : (m : Subject) (k : ℕ) (rule : Rule) (grounds : List (List RowId)) (ground : ℕ) (rows : List RowId) (relation : Relation) (i : RuleInstance) (atom : OrderAtom) (a b : RowId)
-    (ps : List ℕ) (c : ℕ) → IsGroundOf m k rule rows → slice_get m.spec.rules k ≡ Some rule → slice_get m.rules k ≡ Some grounds → slice_get grounds ground ≡ Some rows
-    → slice_get m.spec.relations rule.relation.0 ≡ Some relation → instance_of rule relation.rows rows ≡ Some i → rule.conclusion ≡ conclusion.Order atom
+pub rule_clause : (m : Subject) (k : ℕ) (rule : Rule) (grounds : List (List RowId)) (ground : ℕ) (rows : List RowId)
+    (relation : Relation) (i : RuleInstance) (atom : OrderAtom) (a b : RowId)
+    (ps : List ℕ) (c : ℕ) → IsGroundOf m k rule rows → slice_get m.spec.rules k ≡ Some rule → slice_get m.rules k ≡
+    Some grounds → slice_get grounds ground ≡ Some rows
+    → slice_get m.spec.relations rule.relation.0 ≡ Some relation → instance_of rule relation.rows rows ≡ Some i
+    → rule.conclusion ≡ conclusion.Order atom
     → slice_get rows atom.earlier ≡ Some a → slice_get rows atom.later ≡ Some b → AreSlots m.layout rule.relation.0 i.premises ps
     → IsSlot m.layout rule.relation.0 atom.attr.0 a b c → IsRuleClause m k ground ps c
 rule_clause m k rule grounds ground rows relation i atom a b ps c g at_rule at_grounds at_rows at e is at_a at_b slots slot =
@@ -223,7 +249,8 @@ pub record IsPairOf (m : Subject) (copy : CopyFunction) (p : CopiedPair) : Type 
   pub places : All (IsPlaceBetween target source) copy.places
   pub pair : IsCopiedPair copy target.rows source.rows p
 
-pub pair_of : (m : Subject) (k : ℕ) (copy : CopyFunction) (p : CopiedPair) → IsSubject m → slice_get m.spec.copies k ≡ Some copy → HasPair m k p → IsPairOf m copy p
+pub pair_of : (m : Subject) (k : ℕ) (copy : CopyFunction) (p : CopiedPair) → IsSubject m → slice_get m.spec.copies
+    k ≡ Some copy → HasPair m k p → IsPairOf m copy p
 pair_of m k copy p is at has =
     let among = all_at (IsCopyAmong m.spec.relations) m.spec.copies k copy is.facts.copies.each at in
     let pairs = item_at m.copies k (omega (arith, is.copies.per_copy, slice_get_within m.spec.copies k copy at)) in
@@ -238,7 +265,8 @@ pair_of m k copy p is at has =
       pair = all_at (IsCopiedPair copy among.target.rows among.source.rows) pairs.0 st.0 p are.each st.1;
     }
 
-pub source_stands : (m : Subject) (copy : CopyFunction) (p : CopiedPair) (at : ℕ) (place : Place) (f g : RowId) → IsPairOf m copy p → slice_get copy.places at ≡ Some place
+pub source_stands : (m : Subject) (copy : CopyFunction) (p : CopiedPair) (at : ℕ) (place : Place) (f g : RowId)
+    → IsPairOf m copy p → slice_get copy.places at ≡ Some place
     → source_at copy p.first ≡ Some f → source_at copy p.second ≡ Some g → Stand m.spec.relations copy.source.0 place.source.0 f g
 source_stands m copy p at place f g of is_place from_f from_g =
     let between = all_at (IsPlaceBetween of.target of.source) copy.places at place of.places is_place in
@@ -256,7 +284,8 @@ source_stands m copy p at place f g of is_place from_f from_g =
       later_of = ap (λ (r : RowId). entity_of of.source.rows r.0) (sym second) ∙ t.second_source_of;
     }
 
-pub target_stands : (m : Subject) (copy : CopyFunction) (p : CopiedPair) (at : ℕ) (place : Place) → IsPairOf m copy p → slice_get copy.places at ≡ Some place
+pub target_stands : (m : Subject) (copy : CopyFunction) (p : CopiedPair) (at : ℕ) (place : Place) → IsPairOf m copy p
+    → slice_get copy.places at ≡ Some place
     → Stand m.spec.relations copy.target.0 place.target.0 p.first p.second
 target_stands m copy p at place of is_place =
     let between = all_at (IsPlaceBetween of.target of.source) copy.places at place of.places is_place in
@@ -271,8 +300,10 @@ target_stands m copy p at place of is_place =
       later_of = of.pair.together.second_of;
     }
 
-pub copy_clause : (m : Subject) (k at : ℕ) (copy : CopyFunction) (place : Place) (p : CopiedPair) (f g : RowId) (from to : ℕ) → IsPairOf m copy p
-    → slice_get m.spec.copies k ≡ Some copy → slice_get copy.places at ≡ Some place → source_at copy p.first ≡ Some f → source_at copy p.second ≡ Some g
+pub copy_clause : (m : Subject) (k at : ℕ) (copy : CopyFunction) (place : Place) (p : CopiedPair) (f g : RowId)
+    (from to : ℕ) → IsPairOf m copy p
+    → slice_get m.spec.copies k ≡ Some copy → slice_get copy.places at ≡ Some place → source_at copy p.first ≡ Some f
+    → source_at copy p.second ≡ Some g
     → IsSlot m.layout copy.source.0 place.source.0 f g from → IsSlot m.layout copy.target.0 place.target.0 p.first p.second to
     → IsCopyClause m k at p.first p.second from to
 copy_clause m k at copy place p f g from to of is_copy is_place from_f from_g source target =

@@ -28,14 +28,16 @@ use Rattle.forced_closure.proofs.Agree.{horn_of, IsCase, move_slot, the_one, mad
 
 -- ---- cells and pairs
 
-pub told_at : (m : Subject) (origins : List Origin) (derived : List Derived) (pairs : List Forced) → AreTold m origins derived pairs (length derived) → (i : ℕ) (d : Derived)
+pub told_at : (m : Subject) (origins : List Origin) (derived : List Derived) (pairs : List Forced)
+    → AreTold m origins derived pairs (length derived) → (i : ℕ) (d : Derived)
     → slice_get derived i ≡ Some d → (f : Forced) × (slice_get pairs i ≡ Some f) × IsTold m origins d f
 told_at m origins derived pairs are i d at =
     let f = item_at pairs i (omega (arith, are.many, slice_get_within derived i d at)) in
     (f.0, f.1, are.each i d f.0 at f.1)
 
 -- a pair whose slot is that of a pair that was told is this one
-is_pair : (m : Subject) (origins : List Origin) (d : Derived) (f : Forced) (rel attr : ℕ) (a b : RowId) (slot : ℕ) → IsTold m origins d f → d.slot ≡ slot
+is_pair : (m : Subject) (origins : List Origin) (d : Derived) (f : Forced) (rel attr : ℕ) (a b : RowId) (slot : ℕ)
+    → IsTold m origins d f → d.slot ≡ slot
     → IsSlot m.layout rel attr a b slot → IsPair f rel attr a b
 is_pair m origins d f rel attr a b slot told same at =
     let one = one_pair m.layout f.rel.0 f.pair.attr.0 f.pair.earlier f.pair.later rel attr a b slot
@@ -43,7 +45,8 @@ is_pair m origins d f rel attr a b slot told same at =
     record { rel_is = one.rels; attr_is = one.attrs; earlier_is = one.earliers; later_is = one.laters }
 
 -- pairs of slots that stand before were told before
-among_before : (m : Subject) (origins : List Origin) (derived : List Derived) (pairs : List Forced) → AreTold m origins derived pairs (length derived)
+among_before : (m : Subject) (origins : List Origin) (derived : List Derived) (pairs : List Forced)
+    → AreTold m origins derived pairs (length derived)
     → (n : ℕ) (rel attr : ℕ) (a b : RowId) (slot : ℕ) → cells.IsAmong (take n derived) slot → IsSlot m.layout rel attr a b slot
     → IsAmong (take n pairs) rel attr a b
 among_before m origins derived pairs are n rel attr a b slot among at =
@@ -56,12 +59,19 @@ among_before m origins derived pairs are n rel attr a b slot among at =
       is_pair = is_pair m origins among.one f.0 rel attr a b slot f.2 among.slot_is at;
     }
 
-among_all : (m : Subject) (origins : List Origin) (derived : List Derived) (pairs : List Forced) → AreTold m origins derived pairs (length derived)
-    → (rel attr : ℕ) (a b : RowId) (slot : ℕ) → cells.IsAmong derived slot → IsSlot m.layout rel attr a b slot → IsAmong pairs rel attr a b
+among_all : (m : Subject) (origins : List Origin) (derived : List Derived) (pairs : List Forced)
+    → AreTold m origins derived pairs (length derived)
+    → (rel attr : ℕ) (a b : RowId) (slot : ℕ) → cells.IsAmong derived slot → IsSlot m.layout rel attr a b slot
+    → IsAmong pairs rel attr a b
 among_all m origins derived pairs are rel attr a b slot among at =
     let st = stands derived among.one among.is_in in
     let f = told_at m origins derived pairs are st.0 among.one st.1 in
-    record { forced = f.0; is_in = contains_at pairs st.0 f.0 f.1; is_pair = is_pair m origins among.one f.0 rel attr a b slot f.2 among.slot_is at }
+    record {
+      forced = f.0;
+      is_in = contains_at pairs st.0 f.0 f.1;
+      is_pair = is_pair m origins among.one f.0 rel attr
+          a b slot f.2 among.slot_is at;
+    }
 
 -- ---- derivations
 
@@ -74,16 +84,20 @@ same_pair p q attrs earliers laters =
 -- the first so many of what was derived, and as they were told
 module _ (m : Subject) (facts : List ℕ) (t : Told) (is : IsCase m facts t) (derived : List Derived) (pairs : List Forced)
     (are : AreTold m t.origins derived pairs (length derived)) (n : ℕ) where
-  fact_derived : (rel : RelId) (pair : Pair) (slot : ℕ) → Contains facts slot → IsSlot m.layout rel.0 pair.attr.0 pair.earlier pair.later slot → IsGiven m.spec rel.0 pair
+  fact_derived : (rel : RelId) (pair : Pair) (slot : ℕ) → Contains facts slot → IsSlot m.layout rel.0 pair.attr.0
+      pair.earlier pair.later slot → IsGiven m.spec rel.0 pair
   fact_derived rel pair slot c at =
       let g = is.facts_are.each slot c in
-      let one = one_pair m.layout g.rel g.pair.attr.0 g.pair.earlier g.pair.later rel.0 pair.attr.0 pair.earlier pair.later slot g.is_slot at in
-      subst (λ r. IsGiven m.spec r pair) one.rels (subst (IsGiven m.spec g.rel) (same_pair g.pair pair one.attrs one.earliers one.laters) g.is_given)
+      let one = one_pair m.layout g.rel g.pair.attr.0 g.pair.earlier g.pair.later rel.0 pair.attr.0 pair.earlier
+      pair.later slot g.is_slot at in
+      subst (λ r. IsGiven m.spec r pair) one.rels
+      (subst (IsGiven m.spec g.rel) (same_pair g.pair pair one.attrs one.earliers one.laters) g.is_given)
 
   joined_derived : (f : Forced) (slot first second : ℕ) → cells.IsJoined (horn_of m facts t) (take n derived) slot first second
       → IsSlot m.layout f.rel.0 f.pair.attr.0 f.pair.earlier f.pair.later slot → IsJoined (take n pairs) f first second
   joined_derived f slot first second j at =
-      let p = parts m.layout is.subject.layout f.rel.0 f.pair.attr.0 f.pair.earlier f.pair.later j.one.slot j.other.slot slot at j.meet in
+      let p = parts m.layout is.subject.layout f.rel.0 f.pair.attr.0 f.pair.earlier f.pair.later j.one.slot
+      j.other.slot slot at j.meet in
       let one_at = get_take n derived first j.one j.is_one in
       let other_at = get_take n derived second j.other j.is_other in
       let one = told_at m t.origins derived pairs are first j.one one_at.1 in
@@ -95,21 +109,30 @@ module _ (m : Subject) (facts : List ℕ) (t : Told) (is : IsCase m facts t) (de
         is_one = take_get n pairs first one.0 one_at.0 one.1;
         is_other = take_get n pairs second other.0 other_at.0 other.1;
         one_is = is_pair m t.origins j.one one.0 f.rel.0 f.pair.attr.0 f.pair.earlier p.middle j.one.slot one.2 refl p.first_is;
-        other_is = is_pair m t.origins j.other other.0 f.rel.0 f.pair.attr.0 p.middle f.pair.later j.other.slot other.2 refl p.second_is;
+        other_is = is_pair m t.origins j.other other.0 f.rel.0 f.pair.attr.0 p.middle f.pair.later j.other.slot
+            other.2 refl p.second_is;
       }
 
-  ruled_derived : (f : Forced) (slot : ℕ) (rule : RuleId) (ground : ℕ) (rows : List RowId) (grounds : List (List RowId)) (premises : List ℕ)
-      → IsRuleClause m rule.0 ground premises slot → slice_get m.rules rule.0 ≡ Some grounds → slice_get grounds ground ≡ Some rows
+  ruled_derived : (f : Forced) (slot : ℕ) (rule : RuleId) (ground : ℕ) (rows : List RowId)
+      (grounds : List (List RowId)) (premises : List ℕ)
+      → IsRuleClause m rule.0 ground premises slot → slice_get m.rules rule.0 ≡ Some grounds
+      → slice_get grounds ground ≡ Some rows
       → ((premise : ℕ) → Contains premises premise → cells.IsAmong (take n derived) premise)
       → IsSlot m.layout f.rel.0 f.pair.attr.0 f.pair.earlier f.pair.later slot → IsRuled m.spec (take n pairs) f rule.0 rows
   ruled_derived f slot rule ground rows grounds premises r at_grounds at_rows before at =
-      let one = one_pair m.layout r.rule.relation.0 r.atom.attr.0 r.earlier r.later f.rel.0 f.pair.attr.0 f.pair.earlier f.pair.later slot r.conclusion_is at in
+      let one = one_pair m.layout r.rule.relation.0 r.atom.attr.0 r.earlier r.later f.rel.0 f.pair.attr.0
+      f.pair.earlier f.pair.later slot r.conclusion_is at in
       let lists : r.grounds ≡ grounds = same_Some r.grounds grounds (sym r.are_grounds ∙ at_grounds) in
-      let same_rows : r.rows ≡ rows = same_Some r.rows rows (sym r.are_rows ∙ (ap (λ (g : List (List RowId)). slice_get g ground) lists ∙ at_rows)) in
-      let taken : (x : IsInstance m.spec r.rule r.taken r.atom r.earlier r.later) × (x.number ≡ rule.0) × (x.rows ≡ rows) = (r.is_instance, r.of_rule, r.of_rows ∙ same_rows) in
-      let moved : (x : IsInstance m.spec r.rule r.taken r.atom f.pair.earlier f.pair.later) × (x.number ≡ rule.0) × (x.rows ≡ rows) =
-      subst (λ (e : RowId). (x : IsInstance m.spec r.rule r.taken r.atom e f.pair.later) × (x.number ≡ rule.0) × (x.rows ≡ rows)) one.earliers
-      (subst (λ (e : RowId). (x : IsInstance m.spec r.rule r.taken r.atom r.earlier e) × (x.number ≡ rule.0) × (x.rows ≡ rows)) one.laters taken) in
+      let same_rows : r.rows ≡ rows = same_Some r.rows rows
+      (sym r.are_rows ∙ (ap (λ (g : List (List RowId)). slice_get g ground) lists ∙ at_rows)) in
+      let taken : (x : IsInstance m.spec r.rule r.taken r.atom r.earlier r.later) × (x.number ≡ rule.0) ×
+      (x.rows ≡ rows) = (r.is_instance, r.of_rule, r.of_rows ∙ same_rows) in
+      let moved : (x : IsInstance m.spec r.rule r.taken r.atom f.pair.earlier f.pair.later) × (x.number ≡ rule.0) ×
+      (x.rows ≡ rows) =
+      subst (λ (e : RowId). (x : IsInstance m.spec r.rule r.taken r.atom e f.pair.later) × (x.number ≡ rule.0) ×
+      (x.rows ≡ rows)) one.earliers
+      (subst (λ (e : RowId). (x : IsInstance m.spec r.rule r.taken r.atom r.earlier e) × (x.number ≡ rule.0) ×
+      (x.rows ≡ rows)) one.laters taken) in
       record {
         rule = r.rule;
         taken = r.taken;
@@ -120,35 +143,48 @@ module _ (m : Subject) (facts : List ℕ) (t : Told) (is : IsCase m facts t) (de
         is_pair = record { rel_is = sym one.rels; attr_is = sym one.attrs; earlier_is = refl; later_is = refl };
         premises = λ p c.
             let q = r.premises_are.all p c in
-            among_before m t.origins derived pairs are n r.rule.relation.0 p.attr.0 p.earlier p.later q.slot (before q.slot q.is_in) q.is_slot;
+            among_before m t.origins derived pairs are n r.rule.relation.0 p.attr.0 p.earlier p.later q.slot
+            (before q.slot q.is_in) q.is_slot;
       }
 
-  copied_derived : (f : Forced) (slot : ℕ) (copy : CopyId) (place : ℕ) (first second : RowId) (premises : List ℕ) (from : ℕ) → premises ≡ from ∷ []
-      → IsCopyClause m copy.0 place first second from slot → ((premise : ℕ) → Contains premises premise → cells.IsAmong (take n derived) premise)
-      → IsSlot m.layout f.rel.0 f.pair.attr.0 f.pair.earlier f.pair.later slot → IsCopied m.spec (take n pairs) f copy.0 place first second
+  copied_derived : (f : Forced) (slot : ℕ) (copy : CopyId) (place : ℕ) (first second : RowId) (premises : List ℕ)
+      (from : ℕ) → premises ≡ from ∷ []
+      → IsCopyClause m copy.0 place first second from slot →
+      ((premise : ℕ) → Contains premises premise → cells.IsAmong (take n derived) premise)
+      → IsSlot m.layout f.rel.0 f.pair.attr.0 f.pair.earlier f.pair.later slot → IsCopied m.spec (take n pairs) f
+      copy.0 place first second
   copied_derived f slot copy place first second premises from e q before at =
-      let one = one_pair m.layout f.rel.0 f.pair.attr.0 f.pair.earlier f.pair.later q.are.copy.target.0 q.are.place.target.0 first second slot at q.target in
+      let one = one_pair m.layout f.rel.0 f.pair.attr.0 f.pair.earlier f.pair.later q.are.copy.target.0
+      q.are.place.target.0 first second slot at q.target in
       record {
         are = q.are;
         is_pair = record { rel_is = one.rels; attr_is = one.attrs; earlier_is = one.earliers; later_is = one.laters };
-        source = among_before m t.origins derived pairs are n q.are.copy.source.0 q.are.place.source.0 q.are.are_at.rows.first_source q.are.are_at.rows.second_source from
+        source = among_before m t.origins derived pairs are n q.are.copy.source.0 q.are.place.source.0
+            q.are.are_at.rows.first_source q.are.are_at.rows.second_source from
             (before from (the_one from premises e)) q.source;
       }
 
-  back_derived : (f : Forced) (slot : ℕ) (copy : CopyId) (place : ℕ) (first second : RowId) (premises : List ℕ) (to : ℕ) → premises ≡ to ∷ []
-      → IsCopyClause m copy.0 place first second slot to → ((premise : ℕ) → Contains premises premise → cells.IsAmong (take n derived) premise)
-      → IsSlot m.layout f.rel.0 f.pair.attr.0 f.pair.earlier f.pair.later slot → IsCopiedBack m.spec (take n pairs) f copy.0 place first second
+  back_derived : (f : Forced) (slot : ℕ) (copy : CopyId) (place : ℕ) (first second : RowId) (premises : List ℕ)
+      (to : ℕ) → premises ≡ to ∷ []
+      → IsCopyClause m copy.0 place first second slot to → ((premise : ℕ) → Contains premises premise → cells.IsAmong
+      (take n derived) premise)
+      → IsSlot m.layout f.rel.0 f.pair.attr.0 f.pair.earlier f.pair.later slot → IsCopiedBack m.spec (take n pairs) f
+      copy.0 place first second
   back_derived f slot copy place first second premises to e q before at =
-      let one = one_pair m.layout f.rel.0 f.pair.attr.0 f.pair.earlier f.pair.later q.are.copy.source.0 q.are.place.source.0 q.are.are_at.rows.first_source q.are.are_at.rows.second_source slot at q.source in
+      let one = one_pair m.layout f.rel.0 f.pair.attr.0 f.pair.earlier f.pair.later q.are.copy.source.0
+      q.are.place.source.0 q.are.are_at.rows.first_source q.are.are_at.rows.second_source slot at q.source in
       record {
         are = q.are;
         is_pair = record { rel_is = one.rels; attr_is = one.attrs; earlier_is = one.earliers; later_is = one.laters };
-        target = among_before m t.origins derived pairs are n q.are.copy.target.0 q.are.place.target.0 first second to (before to (the_one to premises e)) q.target;
+        target = among_before m t.origins derived pairs are n q.are.copy.target.0 q.are.place.target.0 first second
+            to (before to (the_one to premises e)) q.target;
       }
 
-  clause_derived : (from : Origin) (rel : RelId) (pair : Pair) (w : Why) (slot : ℕ) (premises : List ℕ) → IsSaid m from premises slot → IsWhyOf m.rules from w
+  clause_derived : (from : Origin) (rel : RelId) (pair : Pair) (w : Why) (slot : ℕ) (premises : List ℕ)
+      → IsSaid m from premises slot → IsWhyOf m.rules from w
       → ((premise : ℕ) → Contains premises premise → cells.IsAmong (take n derived) premise)
-      → IsSlot m.layout rel.0 pair.attr.0 pair.earlier pair.later slot → IsDerived m.spec (take n pairs) (record { rel = rel; pair = pair; why = w })
+      → IsSlot m.layout rel.0 pair.attr.0 pair.earlier pair.later slot → IsDerived m.spec (take n pairs)
+      (record { rel = rel; pair = pair; why = w })
   clause_derived (origin.Rule rule ground) rel pair w slot premises r (rows, e, tells) before at =
       let f : Forced = record { rel = rel; pair = pair; why = why.Rule rule rows } in
       subst (λ (x : Why). IsDerived m.spec (take n pairs) (record { rel = rel; pair = pair; why = x })) (sym e)
@@ -162,18 +198,22 @@ module _ (m : Subject) (facts : List ℕ) (t : Told) (is : IsCase m facts t) (de
       subst (λ (x : Why). IsDerived m.spec (take n pairs) (record { rel = rel; pair = pair; why = x })) (sym e)
       (back_derived f slot copy place first second premises to one q before at)
 
-  one_derived : (how : cell.Why) (rel : RelId) (pair : Pair) (w : Why) (slot : ℕ) → cells.IsDerived (horn_of m facts t) (take n derived) (record { slot = slot; why = how })
+  one_derived : (how : cell.Why) (rel : RelId) (pair : Pair) (w : Why) (slot : ℕ) → cells.IsDerived
+      (horn_of m facts t) (take n derived) (record { slot = slot; why = how })
       → IsWhy m.rules t.origins how w → IsSlot m.layout rel.0 pair.attr.0 pair.earlier pair.later slot
       → IsDerived m.spec (take n pairs) (record { rel = rel; pair = pair; why = w })
   one_derived Fact rel pair w slot d e at =
-      subst (λ (x : Why). IsDerived m.spec (take n pairs) (record { rel = rel; pair = pair; why = x })) (sym e) (fact_derived rel pair slot d at)
+      subst (λ (x : Why). IsDerived m.spec (take n pairs) (record { rel = rel; pair = pair; why = x })) (sym e)
+      (fact_derived rel pair slot d at)
   one_derived (Joined first second) rel pair w slot d e at =
       let f : Forced = record { rel = rel; pair = pair; why = why.Transitive first second } in
-      subst (λ (x : Why). IsDerived m.spec (take n pairs) (record { rel = rel; pair = pair; why = x })) (sym e) (joined_derived f slot first second d at)
+      subst (λ (x : Why). IsDerived m.spec (take n pairs) (record { rel = rel; pair = pair; why = x })) (sym e)
+      (joined_derived f slot first second d at)
   one_derived (Clause k) rel pair w slot d e at =
       let o = made m t k d.premises slot is.clauses.said d.is_clause d.concludes in
       let same : o.from ≡ e.from = same_Some o.from e.from (sym o.is_from ∙ e.is_from) in
-      clause_derived e.from rel pair w slot d.premises (subst (λ (x : Origin). IsSaid m x d.premises slot) same o.said) e.tells d.derived at
+      clause_derived e.from rel pair w slot d.premises (subst (λ (x : Origin). IsSaid m x d.premises slot) same
+      o.said) e.tells d.derived at
 
 -- ---- all of them
 
@@ -184,17 +224,20 @@ pub record IsDone (m : Subject) (facts : List ℕ) (t : Told) (derived : List De
   pub sound : (slot : ℕ) → cells.IsAmong derived slot → IsLeast (horn_of m facts t) slot
   pub told : AreTold m t.origins derived pairs (length derived)
 
-cell_at : (derived : List Derived) (pairs : List Forced) (i : ℕ) (f : Forced) → length pairs ≡ length derived → slice_get pairs i ≡ Some f
+cell_at : (derived : List Derived) (pairs : List Forced) (i : ℕ) (f : Forced) → length pairs ≡ length derived
+    → slice_get pairs i ≡ Some f
     → (d : Derived) × (slice_get derived i ≡ Some d)
 cell_at derived pairs i f many at = item_at derived i (omega (arith, many, slice_get_within pairs i f at))
 
-pub are_forced : (m : Subject) (facts : List ℕ) (t : Told) (derived : List Derived) (pairs : List Forced) → IsDone m facts t derived pairs
+pub are_forced : (m : Subject) (facts : List ℕ) (t : Told) (derived : List Derived) (pairs : List Forced)
+    → IsDone m facts t derived pairs
     → AreForced (record { spec = m.spec; pairs = pairs })
 are_forced m facts t derived pairs done = record {
   each = λ place f at.
       let d = cell_at derived pairs place f done.told.many at in
       let told = done.told.each place d.0 f d.1 at in
-      one_derived m facts t done.is derived pairs done.told place d.0.why f.rel f.pair f.why d.0.slot (done.least.each place d.0 d.1) told.why_is told.is_slot;
+      one_derived m facts t done.is derived pairs done.told place d.0.why f.rel f.pair f.why d.0.slot
+      (done.least.each place d.0 d.1) told.why_is told.is_slot;
   all = λ rel attr earlier later forced.
       let h = forced_least m facts t done.is rel attr earlier later forced in
       among_all m t.origins derived pairs done.told rel attr earlier later h.slot (done.least.all h.slot h.is_least) h.is_slot;
@@ -203,25 +246,31 @@ are_forced m facts t derived pairs done = record {
       let e = cell_at derived pairs j g done.told.many at_j in
       let first = (done.told.each i d.0 f d.1 at_i).is_slot in
       let second = (done.told.each j e.0 g e.1 at_j).is_slot in
-      let one : IsOnePair f.rel.0 f.pair.attr.0 f.pair.earlier f.pair.later g.rel.0 g.pair.attr.0 g.pair.earlier g.pair.later = record {
+      let one : IsOnePair f.rel.0 f.pair.attr.0 f.pair.earlier f.pair.later g.rel.0 g.pair.attr.0 g.pair.earlier
+      g.pair.later = record {
         rels = ap (λ (r : RelId). r.0) rels;
         attrs = ap (λ (p : Pair). p.attr.0) same;
         earliers = ap (λ (p : Pair). p.earlier) same;
         laters = ap (λ (p : Pair). p.later) same;
       } in
-      let moved = move_slot m.layout f.rel.0 f.pair.attr.0 f.pair.earlier f.pair.later g.rel.0 g.pair.attr.0 g.pair.earlier g.pair.later d.0.slot one first in
-      done.least.once i j d.0 e.0 d.1 e.1 (one_slot m.layout done.is.subject.layout g.rel.0 g.pair.attr.0 g.pair.earlier g.pair.later d.0.slot e.0.slot moved second);
+      let moved = move_slot m.layout f.rel.0 f.pair.attr.0 f.pair.earlier f.pair.later g.rel.0 g.pair.attr.0
+      g.pair.earlier g.pair.later d.0.slot one first in
+      done.least.once i j d.0 e.0 d.1 e.1 (one_slot m.layout done.is.subject.layout g.rel.0 g.pair.attr.0
+      g.pair.earlier g.pair.later d.0.slot e.0.slot moved second);
 }
 
 -- each pair that was told is forced
-told_forced : (m : Subject) (facts : List ℕ) (t : Told) (derived : List Derived) (pairs : List Forced) → IsDone m facts t derived pairs → (i : ℕ) (f : Forced)
+told_forced : (m : Subject) (facts : List ℕ) (t : Told) (derived : List Derived) (pairs : List Forced)
+    → IsDone m facts t derived pairs → (i : ℕ) (f : Forced)
     → slice_get pairs i ≡ Some f → IsForced m.spec f.rel.0 f.pair.attr.0 f.pair.earlier f.pair.later
 told_forced m facts t derived pairs done i f at =
     let d = cell_at derived pairs i f done.told.many at in
     let among : cells.IsAmong derived d.0.slot = record { one = d.0; is_in = contains_at derived i d.0 d.1; slot_is = refl } in
-    least_forced m facts t done.is d.0.slot (done.sound d.0.slot among) f.rel.0 f.pair.attr.0 f.pair.earlier f.pair.later (done.told.each i d.0 f d.1 at).is_slot
+    least_forced m facts t done.is d.0.slot (done.sound d.0.slot among) f.rel.0 f.pair.attr.0 f.pair.earlier
+    f.pair.later (done.told.each i d.0 f d.1 at).is_slot
 
-loop_there : (m : Subject) (facts : List ℕ) (t : Told) (derived : List Derived) (pairs : List Forced) → IsDone m facts t derived pairs → HasLoopIn pairs → HasLoop m.spec
+loop_there : (m : Subject) (facts : List ℕ) (t : Told) (derived : List Derived) (pairs : List Forced)
+    → IsDone m facts t derived pairs → HasLoopIn pairs → HasLoop m.spec
 loop_there m facts t derived pairs done loop =
     let f = loop.pair in
     let forced = told_forced m facts t derived pairs done loop.place f loop.is_pair in
@@ -232,13 +281,15 @@ loop_there m facts t derived pairs done loop =
       forced = subst (IsForced m.spec f.rel.0 f.pair.attr.0 f.pair.earlier) (sym loop.same) forced;
     }
 
-loop_told : (m : Subject) (facts : List ℕ) (t : Told) (derived : List Derived) (pairs : List Forced) → IsDone m facts t derived pairs → HasLoop m.spec → HasLoopIn pairs
+loop_told : (m : Subject) (facts : List ℕ) (t : Told) (derived : List Derived) (pairs : List Forced)
+    → IsDone m facts t derived pairs → HasLoop m.spec → HasLoopIn pairs
 loop_told m facts t derived pairs done loop =
     let among = (are_forced m facts t derived pairs done).all loop.rel loop.attr loop.row loop.row loop.forced in
     let st = stands pairs among.forced among.is_in in
     record { place = st.0; pair = among.forced; is_pair = st.1; same = among.is_pair.earlier_is ∙ sym among.is_pair.later_is }
 
-pub is_closure : (m : Subject) (facts : List ℕ) (t : Told) (derived : List Derived) (pairs : List Forced) (table : List Bool) (loops : Bool)
+pub is_closure : (m : Subject) (facts : List ℕ) (t : Told) (derived : List Derived) (pairs : List Forced)
+    (table : List Bool) (loops : Bool)
     → IsDone m facts t derived pairs → IsTable (cells_of m.layout.sizes) derived table → ((loops ≡ true) ↔ HasLoopIn pairs)
     → IsClosure (record { spec = m.spec; pairs = pairs }) m.layout table loops
 is_closure m facts t derived pairs table loops done tabled looped = record {
@@ -247,18 +298,24 @@ is_closure m facts t derived pairs table loops done tabled looped = record {
   within = λ rel attr earlier later slot at. omega (arith, tabled.many, slot_in m.layout rel attr earlier later slot at);
   told = λ rel attr earlier later slot at.
       let below = slot_in m.layout rel attr earlier later slot at in (
-        (λ yes_is. least_forced m facts t done.is slot (done.sound slot ((tabled.each slot below).0 yes_is)) rel attr earlier later at),
+        (λ yes_is. least_forced m facts t done.is slot (done.sound slot ((tabled.each slot below).0 yes_is)) rel attr
+            earlier later at),
         (λ forced.
             let h = forced_least m facts t done.is rel attr earlier later forced in
             let same = one_slot m.layout done.is.subject.layout rel attr earlier later h.slot slot h.is_slot at in
             (tabled.each slot below).1 (done.least.all slot (subst (IsLeast (horn_of m facts t)) same h.is_least))),
       );
-  placed = λ rel attr earlier later forced. let h = forced_least m facts t done.is rel attr earlier later forced in record { slot = h.slot; is_slot = h.is_slot };
-  loops_are = ((λ is. loop_there m facts t derived pairs done (looped.0 is)), (λ loop. looped.1 (loop_told m facts t derived pairs done loop)));
+  placed = λ rel attr earlier later forced. let h = forced_least m facts t done.is rel attr earlier later
+      forced in record { slot = h.slot; is_slot = h.is_slot };
+  loops_are = (
+    (λ is. loop_there m facts t derived pairs done (looped.0 is)),
+    (λ loop. looped.1 (loop_told m facts t derived pairs done loop)),
+  );
 }
 
 -- what was derived can be told
-pub tellable : (m : Subject) (facts : List ℕ) (t : Told) (derived : List Derived) → IsCase m facts t → AreLeast (horn_of m facts t) derived
+pub tellable : (m : Subject) (facts : List ℕ) (t : Told) (derived : List Derived) → IsCase m facts t
+    → AreLeast (horn_of m facts t) derived
     → ((slot : ℕ) → cells.IsAmong derived slot → IsLeast (horn_of m facts t) slot)
     → ((slot : ℕ) → IsLeast (horn_of m facts t) slot → slot < cells_of m.layout.sizes) → AreTellable m t.origins derived
 tellable m facts t derived is least sound within = record {
@@ -274,7 +331,8 @@ tellable m facts t derived is least sound within = record {
     there (origin.Copy copy place first second) premises slot q = tt
     there (origin.Back copy place first second) premises slot q = tt
 
-    by : (before : List Derived) (slot : ℕ) (how : cell.Why) → cells.IsDerived (horn_of m facts t) before (record { slot = slot; why = how }) → IsTellable m.rules t.origins how
+    by : (before : List Derived) (slot : ℕ) (how : cell.Why) → cells.IsDerived (horn_of m facts t) before
+        (record { slot = slot; why = how }) → IsTellable m.rules t.origins how
     by before slot Fact d = tt
     by before slot (Joined first second) d = tt
     by before slot (Clause k) d =
@@ -282,7 +340,8 @@ tellable m facts t derived is least sound within = record {
         record { from = o.from; is_from = o.is_from; is_there = there o.from d.premises slot o.said }
 
 -- the slots of what was derived are below the number of cells
-pub slots_below : (m : Subject) (origins : List Origin) (derived items : List Derived) (count : ℕ) → AreTellable m origins derived → items ≡ derived → count ≡ cells_of m.layout.sizes
+pub slots_below : (m : Subject) (origins : List Origin) (derived items : List Derived) (count : ℕ)
+    → AreTellable m origins derived → items ≡ derived → count ≡ cells_of m.layout.sizes
     → All (λ d. d.slot < count) items
 slots_below m origins derived items count told same counted =
     subst (λ (n : ℕ). All (λ d. d.slot < n) items) (sym counted)

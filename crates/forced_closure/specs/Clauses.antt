@@ -102,7 +102,8 @@ pub record IsRuleClause (m : Subject) (k ground : ℕ) (premises : List ℕ) (co
 -- the slots of two mapped rows' sources and of the mapped rows
 pub record IsCopyClause (m : Subject) (k at : ℕ) (first second : RowId) (from to : ℕ) : Type 0 where
   pub are : AreCopied m.spec k at first second
-  pub source : IsSlot m.layout are.copy.source.0 are.place.source.0 are.are_at.rows.first_source are.are_at.rows.second_source from
+  pub source : IsSlot m.layout are.copy.source.0 are.place.source.0 are.are_at.rows.first_source
+      are.are_at.rows.second_source from
   pub target : IsSlot m.layout are.copy.target.0 are.place.target.0 first second to
 
 -- a clause says what it was made of
@@ -122,13 +123,19 @@ pub record Told : Type 0 where
 -- one clause more
 abbrev pub with_clause : Told → Origin → List ℕ → ℕ → Told
 with_clause t o premises conclusion =
-    record { premises = t.premises ++ premises ∷ []; conclusions = t.conclusions ++ conclusion ∷ []; origins = t.origins ++ o ∷ [] }
+    record {
+      premises = t.premises ++ premises ∷ [];
+      conclusions = t.conclusions ++ conclusion ∷ [];
+      origins =
+          t.origins ++ o ∷ [];
+    }
 
 -- each clause says what it was made of
 pub record AreSaid (m : Subject) (t : Told) : Type 0 where
   pub premises : length t.premises ≡ length t.origins
   pub conclusions : length t.conclusions ≡ length t.origins
-  pub each : (k : ℕ) (o : Origin) (premises : List ℕ) (conclusion : ℕ) → slice_get t.origins k ≡ Some o → slice_get t.premises k ≡ Some premises
+  pub each : (k : ℕ) (o : Origin) (premises : List ℕ) (conclusion : ℕ) → slice_get t.origins k ≡ Some o
+      → slice_get t.premises k ≡ Some premises
       → slice_get t.conclusions k ≡ Some conclusion → IsSaid m o premises conclusion
 
 -- from clauses to more: each of them says what it was made of if that was so before, what was there is, and so is what is asked

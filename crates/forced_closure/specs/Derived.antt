@@ -90,6 +90,7 @@ IsDerived s earlier f = by f.why
 -- exactly the forced pairs of the specification, each once, and each derived from pairs that stand before it
 pub record AreForced (c : Closed) : Type 0 where
   pub each : (place : ℕ) (f : Forced) → slice_get c.pairs place ≡ Some f → IsDerived c.spec (take place c.pairs) f
-  pub all : (rel attr : ℕ) (earlier later : RowId) → IsForced c.spec rel attr earlier later → IsAmong c.pairs rel attr earlier later
+  pub all : (rel attr : ℕ) (earlier later : RowId) → IsForced c.spec rel attr earlier later → IsAmong c.pairs rel
+      attr earlier later
   pub once : (i j : ℕ) (f g : Forced) → slice_get c.pairs i ≡ Some f → slice_get c.pairs j ≡ Some g
       → f.rel ≡ g.rel → f.pair ≡ g.pair → i ≡ j

@@ -20,7 +20,12 @@ impl Model for Gathered {
 
     ghost Value = { Told };
 
-    ghost view = { λ g. record { premises = g.clauses.premises; conclusions = g.clauses.conclusions.items; origins = g.origins.items } };
+    ghost view = { λ g. record {
+      premises = g.clauses.premises;
+      conclusions = g.clauses.conclusions.items;
+      origins =
+          g.origins.items;
+    } };
 }
 
 impl Gathered {

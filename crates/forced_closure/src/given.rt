@@ -24,7 +24,8 @@ fn add_given(subject: &Subject<'_>, rel: RelId, facts: &mut Vec<u32>) -> Result<
     requires each { AreOfGiven subject.now facts.old.items }
     ensures each { OnOk result (AreOfGiven subject.now facts.new.items) }
     ensures grows { OnOk result (Grows facts.old.items facts.new.items) }
-    ensures all { OnOk result ((p : pairs.Pair) → IsGiven subject.now.spec rel.0 p → HasFact subject.now facts.new.items rel.0 p) }
+    ensures all { OnOk result ((p : pairs.Pair) → IsGiven subject.now.spec rel.0 p → HasFact subject.now
+        facts.new.items rel.0 p) }
 {
     for pair in subject.relation(rel).given.iter() {
         push_given(subject, rel, *pair, facts)?;

@@ -27,7 +27,8 @@ impl<'a> Model for Subject<'a> {
 
     ghost view = { λ s. record { spec = s.spec.now; layout = s.squares; rules = s.grounds.rules; copies = s.grounds.copies } };
 
-    ghost invariant = { λ s. IsSubject (record { spec = s.spec.now; layout = s.squares; rules = s.grounds.rules; copies = s.grounds.copies }) };
+    ghost invariant = { λ s. IsSubject
+        (record { spec = s.spec.now; layout = s.squares; rules = s.grounds.rules; copies = s.grounds.copies }) };
 }
 
 impl<'a> Subject<'a> {

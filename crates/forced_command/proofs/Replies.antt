@@ -16,9 +16,11 @@ OneSpec = (told : List (List ℕ × List ℕ)) (name : List ℕ) → IsOne (IsSp
 pub told_due : OneSpec → (told : List (List ℕ × List ℕ)) (name : List ℕ) (s : Spec) (got : Result Done Trouble)
     → IsSpecRead told name (Ok s) → IsForcedDue told name got → IsForcedTold s got
 told_due one_spec told name s got spec h =
-    subst (λ (o : Result Spec Trouble). MatchResult o (λ x. IsForcedTold x got) (λ e. got ≡ Err e)) (one_spec told name h.0 (Ok s) h.1 spec) h.2
+    subst (λ (o : Result Spec Trouble). MatchResult o (λ x. IsForcedTold x got) (λ e. got ≡ Err e))
+    (one_spec told name h.0 (Ok s) h.1 spec) h.2
 
-texts_alike : (text other : List ℕ) (a b : Result Done Trouble) → a ≡ Ok (told_text text) → b ≡ Ok (told_text other) → AreAlike a b
+texts_alike : (text other : List ℕ) (a b : Result Done Trouble) → a ≡ Ok (told_text text) → b ≡ Ok (told_text other)
+    → AreAlike a b
 texts_alike text other a b h k =
     subst (λ (o : Result Done Trouble). AreAlike o b) (sym h)
     (subst (λ (o : Result Done Trouble). AreAlike (Ok (told_text text)) o) (sym k) refl)

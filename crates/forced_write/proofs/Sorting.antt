@@ -38,9 +38,19 @@ pair_less p q laters below (by_earlier e f h) =
     rw (e, f, nat_same q.rel.0, nat_same q.pair.attr.0, nat_less p.pair.earlier.0 q.pair.earlier.0 h) refl
 pair_less p q laters below (by_later e f g in_laters) =
     let h = All-contains (λ (row : RowId). row.0 < q.pair.later.0) laters p.pair.later below in_laters in
-    rw (e, f, g, nat_same q.rel.0, nat_same q.pair.attr.0, nat_same q.pair.earlier.0, nat_less p.pair.later.0 q.pair.later.0 h) refl
+    rw (
+      e,
+      f,
+      g,
+      nat_same q.rel.0,
+      nat_same q.pair.attr.0,
+      nat_same q.pair.earlier.0,
+      nat_less p.pair.later.0
+          q.pair.later.0 h,
+    ) refl
 
-push_by_recursion : {K : Type 0} (P : K → Type 0) (xs : List K) (y : K) → AllByRecursion P xs → P y → AllByRecursion P (xs ++ y ∷ [])
+push_by_recursion : {K : Type 0} (P : K → Type 0) (xs : List K) (y : K) → AllByRecursion P xs → P y
+    → AllByRecursion P (xs ++ y ∷ [])
 push_by_recursion P [] y all here = (here, tt)
 push_by_recursion P (x ∷ xs) y all here = (all.0, push_by_recursion P xs y all.1 here)
 
@@ -49,7 +59,8 @@ unfolding IsStrictlySortedBy
 sorted_none cmp = tt
 
 -- an item that is behind all others
-pub sorted_push : {K : Type 0} (cmp : K → K → Ordering) (xs : List K) (y : K) → IsStrictlySortedBy cmp xs → All (λ x. cmp x y ≡ Less) xs
+pub sorted_push : {K : Type 0} (cmp : K → K → Ordering) (xs : List K) (y : K) → IsStrictlySortedBy cmp xs
+    → All (λ x. cmp x y ≡ Less) xs
     → IsStrictlySortedBy cmp (xs ++ y ∷ [])
 unfolding IsStrictlySortedBy
 sorted_push cmp [] y sorted less = (tt, tt)

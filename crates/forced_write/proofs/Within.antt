@@ -57,11 +57,14 @@ given_within s rel p facts g =
       later_of = sym pair.one_entity.1 ∙ of.1;
     }
 
-joined_within : (s : Spec) (rel attr : ℕ) (a b d : RowId) → IsWithin s rel attr a b → IsWithin s rel attr b d → IsWithin s rel attr a d
+joined_within : (s : Spec) (rel attr : ℕ) (a b d : RowId) → IsWithin s rel attr a b → IsWithin s rel attr b d
+    → IsWithin s rel attr a d
 joined_within s rel attr a b d one next =
     let same : next.relation ≡ one.relation = same_Some next.relation one.relation (sym next.is_relation ∙ one.is_relation) in
-    let middle : entity_of one.relation.rows b.0 ≡ Some next.ent = subst (λ (r : Relation). entity_of r.rows b.0 ≡ Some next.ent) same next.earlier_of in
-    let end : entity_of one.relation.rows d.0 ≡ Some next.ent = subst (λ (r : Relation). entity_of r.rows d.0 ≡ Some next.ent) same next.later_of in
+    let middle : entity_of one.relation.rows b.0 ≡ Some next.ent =
+    subst (λ (r : Relation). entity_of r.rows b.0 ≡ Some next.ent) same next.earlier_of in
+    let end : entity_of one.relation.rows d.0 ≡ Some next.ent =
+    subst (λ (r : Relation). entity_of r.rows d.0 ≡ Some next.ent) same next.later_of in
     record {
       relation = one.relation;
       is_relation = one.is_relation;
@@ -76,16 +79,20 @@ ruled_within : (s : Spec) (rule : Rule) (i : RuleInstance) (atom : OrderAtom) (e
 ruled_within s rule i atom earlier later facts n =
     let of = all_at (IsRuleOf s.relations) s.rules n.number rule facts.rules.each n.is_rule in
     let own : of.relation ≡ n.relation = same_Some of.relation n.relation (sym of.is_relation ∙ n.is_relation) in
-    let fits : IsAtom rule.vars (kinds_of of.relation) atom = subst (IsConclusion rule.vars (kinds_of of.relation)) n.concludes of.fits.conclusion in
-    let within : atom.attr.0 < length (kinds_of n.relation) = subst (λ (r : Relation). atom.attr.0 < length (kinds_of r)) own fits.attr in
+    let fits : IsAtom rule.vars (kinds_of of.relation) atom = subst (IsConclusion rule.vars (kinds_of of.relation))
+    n.concludes of.fits.conclusion in
+    let within : atom.attr.0 < length (kinds_of n.relation) =
+    subst (λ (r : Relation). atom.attr.0 < length (kinds_of r)) own fits.attr in
     let long = length-map n.relation.attrs (λ a. a.kind) in
     record {
       relation = n.relation;
       is_relation = n.is_relation;
       attr_within = omega (arith, long, within);
       ent = n.choice.ent;
-      earlier_of = all_at (λ (row : RowId). entity_of n.relation.rows row.0 ≡ Some n.choice.ent) n.rows atom.earlier earlier n.choice.of_entity n.earlier_is;
-      later_of = all_at (λ (row : RowId). entity_of n.relation.rows row.0 ≡ Some n.choice.ent) n.rows atom.later later n.choice.of_entity n.later_is;
+      earlier_of = all_at (λ (row : RowId). entity_of n.relation.rows row.0 ≡ Some n.choice.ent) n.rows atom.earlier
+          earlier n.choice.of_entity n.earlier_is;
+      later_of = all_at (λ (row : RowId). entity_of n.relation.rows row.0 ≡ Some n.choice.ent) n.rows atom.later
+          later n.choice.of_entity n.later_is;
     }
 
 -- an attribute of a kind is there
@@ -96,7 +103,8 @@ kind_within r s attr kind same at =
     let long = length-map s.attrs (λ a. a.kind) in
     omega (arith, long, within)
 
-copied_within : (s : Spec) (copy : CopyFunction) (place : Place) (first second : RowId) → IsSpecification s → AreCopiedAt s copy place first second
+copied_within : (s : Spec) (copy : CopyFunction) (place : Place) (first second : RowId) → IsSpecification s
+    → AreCopiedAt s copy place first second
     → IsWithin s copy.target.0 place.target.0 first second
 copied_within s copy place first second facts m =
     let among = all_at (IsCopyAmong s.relations) s.copies m.number copy facts.copies.each m.is_copy in
@@ -111,7 +119,8 @@ copied_within s copy place first second facts m =
       later_of = m.rows.second_of;
     }
 
-sources_within : (s : Spec) (copy : CopyFunction) (place : Place) (first second : RowId) → IsSpecification s → (m : AreCopiedAt s copy place first second)
+sources_within : (s : Spec) (copy : CopyFunction) (place : Place) (first second : RowId) → IsSpecification s →
+    (m : AreCopiedAt s copy place first second)
     → IsWithin s copy.source.0 place.source.0 m.rows.first_source m.rows.second_source
 sources_within s copy place first second facts m =
     let among = all_at (IsCopyAmong s.relations) s.copies m.number copy facts.copies.each m.is_copy in
@@ -133,5 +142,7 @@ forced_within s facts _ _ _ _ (given rel p g) = given_within s rel p facts g
 forced_within s facts _ _ _ _ (transitive rel attr a b d one next) =
     joined_within s rel attr a b d (forced_within s facts rel attr a b one) (forced_within s facts rel attr b d next)
 forced_within s facts _ _ _ _ (ruled rule i atom earlier later n premises) = ruled_within s rule i atom earlier later facts n
-forced_within s facts _ _ _ _ (copied copy place first second m apart differ sources) = copied_within s copy place first second facts m
-forced_within s facts _ _ _ _ (back copy place first second m apart differ targets) = sources_within s copy place first second facts m
+forced_within s facts _ _ _ _ (copied copy place first second m apart differ sources) = copied_within s copy place
+    first second facts m
+forced_within s facts _ _ _ _ (back copy place first second m apart differ targets) = sources_within s copy place
+    first second facts m

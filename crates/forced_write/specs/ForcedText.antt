@@ -17,7 +17,8 @@ use Rattle.forced_closure.specs.Forced.{IsForced, HasLoop}
 abbrev pub pair_pieces : List Relation → Asked → List Piece
 pair_pieces relations p =
     word (codes "pair") ++ attribute_pieces relations p.rel.0 p.pair.attr.0 ++ symbol (codes ":")
-    ++ row_pieces relations p.rel.0 p.pair.earlier ++ symbol (codes "<") ++ row_pieces relations p.rel.0 p.pair.later ++ symbol (codes ";")
+    ++ row_pieces relations p.rel.0 p.pair.earlier ++ symbol (codes "<") ++ row_pieces relations p.rel.0 p.pair.later
+    ++ symbol (codes ";")
 
 -- forced = "forced" COUNT [ "loops" ] ";" { pair } "end" ";"
 abbrev pub forced_pieces : List Relation → Bool → List Asked → List Piece

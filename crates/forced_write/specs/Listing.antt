@@ -19,7 +19,8 @@ pub data Precedes (rel attr earlier : ℕ) (laters : List RowId) (p : Asked) : T
   by_rel : p.rel.0 < rel → Precedes rel attr earlier laters p
   by_attr : p.rel.0 ≡ rel → p.pair.attr.0 < attr → Precedes rel attr earlier laters p
   by_earlier : p.rel.0 ≡ rel → p.pair.attr.0 ≡ attr → p.pair.earlier.0 < earlier → Precedes rel attr earlier laters p
-  by_later : p.rel.0 ≡ rel → p.pair.attr.0 ≡ attr → p.pair.earlier.0 ≡ earlier → Contains laters p.pair.later → Precedes rel attr earlier laters p
+  by_later : p.rel.0 ≡ rel → p.pair.attr.0 ≡ attr → p.pair.earlier.0 ≡ earlier → Contains laters p.pair.later
+      → Precedes rel attr earlier laters p
 
 -- a forced pair that comes before it
 pub record IsSeen (s : Spec) (rel attr earlier : ℕ) (laters : List RowId) (p : Asked) : Type 0 where

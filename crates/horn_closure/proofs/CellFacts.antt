@@ -11,7 +11,8 @@ use Rattle.horn_closure.specs.declared.squares.Cell.{Cell}
 
 -- ---- where squares begin
 
-pub base_more : (sizes : List ℕ) (k size : ℕ) → slice_get sizes k ≡ Some size → base_of sizes (k + 1) ≡ base_of sizes k + size * size
+pub base_more : (sizes : List ℕ) (k size : ℕ) → slice_get sizes k ≡ Some size → base_of sizes (k + 1) ≡ base_of sizes
+    k + size * size
 base_more sizes k size at =
     sum_by_more (λ n. n * n) sizes k 0 (slice_get_within sizes k size at)
     ∙ ap (λ n. base_of sizes k + n * n) (get_or_from_slice_get sizes k size 0 at)
@@ -37,7 +38,8 @@ base_order (n ∷ sizes) (suc i) (suc j) h =
 module _ (sizes bases : List ℕ) (are : AreBases sizes bases) where
   base_at : (k d : ℕ) → k < length bases → get_or bases k d ≡ base_of sizes k
   base_at k d less =
-      get_or_from_slice_get bases k (slice_index bases k) d (slice_get-get_or bases k 0 less) ∙ are.each k (omega (arith, are.one_each))
+      get_or_from_slice_get bases k (slice_index bases k) d (slice_get-get_or bases k 0 less) ∙ are.each k
+      (omega (arith, are.one_each))
 
   pub bases_rise : IsNonDecreasing bases
   bases_rise i j d order less =
@@ -55,7 +57,8 @@ pub record IsSameCell (square row column square' row' column' : ℕ) : Type 0 wh
   pub row_is : row ≡ row'
   pub column_is : column ≡ column'
 
-pub one_cell : (sizes : List ℕ) (k row column k' row' column' slot : ℕ) → IsCell sizes k row column slot → IsCell sizes k' row' column' slot
+pub one_cell : (sizes : List ℕ) (k row column k' row' column' slot : ℕ) → IsCell sizes k row column slot
+    → IsCell sizes k' row' column' slot
     → IsSameCell k row column k' row' column'
 one_cell sizes k row column k' row' column' slot c c' = by (cases_lt k k') (cases_lt k' k)
   where
@@ -63,15 +66,29 @@ one_cell sizes k row column k' row' column' slot c c' = by (cases_lt k k') (case
     within square same size is = same_Some c.size size (sym c.is_size ∙ ap (slice_get sizes) same ∙ is)
 
     by : (k < k') ⊎ (k' ≤ k) → (k' < k) ⊎ (k ≤ k') → IsSameCell k row column k' row' column'
-    by (inl h) b = absurd (omega (arith, cell_before sizes k row column slot c, base_order sizes (k + 1) k' (omega arith), c'.slot_is))
-    by (inr h) (inl g) = absurd (omega (arith, cell_before sizes k' row' column' slot c', base_order sizes (k' + 1) k (omega arith), c.slot_is))
+    by (inl h) b = absurd (omega (
+      arith,
+      cell_before sizes k row column slot c,
+      base_order sizes (k + 1) k'
+          (omega arith),
+      c'.slot_is,
+    ))
+    by (inr h) (inl g) = absurd (omega (
+      arith,
+      cell_before sizes k' row' column' slot c',
+      base_order sizes (k' + 1) k
+          (omega arith),
+      c.slot_is,
+    ))
     by (inr h) (inr g) =
         let same : k ≡ k' = omega arith in
         let sizes_are : c.size ≡ c'.size = within k' same c'.size c'.is_size in
         let bases : base_of sizes k ≡ base_of sizes k' = ap (base_of sizes) same in
-        let mine : slot ≡ base_of sizes k + (row * c'.size + column) = c.slot_is ∙ ap (λ n. base_of sizes k + row * n + column) sizes_are ∙ omega arith in
+        let mine : slot ≡ base_of sizes k + (row * c'.size + column) = c.slot_is
+        ∙ ap (λ n. base_of sizes k + row * n + column) sizes_are ∙ omega arith in
         let place : row * c'.size + column ≡ row' * c'.size + column' = omega (arith, mine, bases, c'.slot_is) in
-        let both = same_from_place row column row' column' c'.size (subst (λ n. column < n) sizes_are c.column_in) c'.column_in place in
+        let both = same_from_place row column row' column' c'.size (subst (λ n. column < n) sizes_are c.column_in)
+        c'.column_in place in
         record { square_is = same; row_is = both.0; column_is = both.1 }
 
 -- the cell of a slot in its square
@@ -91,7 +108,8 @@ cell_found sizes k base size slot cell at base_is is = record {
 
 module _ (sizes : List ℕ) (cell : Cell) (slot : ℕ) (is : IsCellAt sizes cell slot) where
   -- the cell in a row and a column of its square
-  pub cell_is : (row column : ℕ) → row < cell.size → column < cell.size → IsCell sizes is.square row column (slot_of cell row column)
+  pub cell_is : (row column : ℕ) → row < cell.size → column < cell.size → IsCell sizes is.square row column
+      (slot_of cell row column)
   cell_is row column row_in column_in = record {
     size = cell.size;
     is_size = is.is_size;
@@ -126,8 +144,13 @@ module _ (sizes : List ℕ) (cell : Cell) (slot : ℕ) (is : IsCellAt sizes cell
   goes_on second third m =
       let same = one_cell sizes m.square m.row m.middle is.square cell.row cell.column slot m.first_is own_cell in
       let one = there m.square m.middle m.column second same.square_is m.second_is in
-      let end = there m.square m.row m.column third same.square_is m.third_is in
-      (m.column, one.1, one.2 ∙ ap (λ row. slot_of cell row m.column) same.column_is, end.2 ∙ ap (λ row. slot_of cell row m.column) same.row_is)
+      let end = there m.square m.row m.column third same.square_is m.third_is in (
+        m.column,
+        one.1,
+        one.2 ∙ ap (λ row. slot_of cell row m.column) same.column_is,
+        end.2
+            ∙ ap (λ row. slot_of cell row m.column) same.row_is,
+      )
 
   -- and what comes to it in a row of the column that its row names
   pub comes_to : (first third : ℕ) → Meet sizes first slot third
@@ -135,10 +158,16 @@ module _ (sizes : List ℕ) (cell : Cell) (slot : ℕ) (is : IsCellAt sizes cell
   comes_to first third m =
       let same = one_cell sizes m.square m.middle m.column is.square cell.row cell.column slot m.second_is own_cell in
       let one = there m.square m.row m.middle first same.square_is m.first_is in
-      let end = there m.square m.row m.column third same.square_is m.third_is in
-      (m.row, one.0, one.2 ∙ ap (λ column. slot_of cell m.row column) same.row_is, end.2 ∙ ap (λ column. slot_of cell m.row column) same.column_is)
+      let end = there m.square m.row m.column third same.square_is m.third_is in (
+        m.row,
+        one.0,
+        one.2 ∙ ap (λ column. slot_of cell m.row column) same.row_is,
+        end.2
+            ∙ ap (λ column. slot_of cell m.row column) same.column_is,
+      )
 
-  pub meet_ahead : (other : ℕ) → other < cell.size → Meet sizes slot (slot_of cell cell.column other) (slot_of cell cell.row other)
+  pub meet_ahead : (other : ℕ) → other < cell.size → Meet sizes slot (slot_of cell cell.column other)
+      (slot_of cell cell.row other)
   meet_ahead other less = record {
     square = is.square;
     row = cell.row;
@@ -149,7 +178,8 @@ module _ (sizes : List ℕ) (cell : Cell) (slot : ℕ) (is : IsCellAt sizes cell
     third_is = cell_is cell.row other is.row_in less;
   }
 
-  pub meet_behind : (other : ℕ) → other < cell.size → Meet sizes (slot_of cell other cell.row) slot (slot_of cell other cell.column)
+  pub meet_behind : (other : ℕ) → other < cell.size → Meet sizes (slot_of cell other cell.row) slot
+      (slot_of cell other cell.column)
   meet_behind other less = record {
     square = is.square;
     row = other;

@@ -12,12 +12,14 @@ use Rattle.horn_closure.proofs.LookFacts.{concludes_before}
 
 -- ---- one cell is gone over
 
-pub gone_over : (sizes : List ℕ) (premises : List (List ℕ)) (conclusions : List ℕ) (place slot : ℕ) (cell : Cell) (old mid new : List Derived)
+pub gone_over : (sizes : List ℕ) (premises : List (List ℕ)) (conclusions : List ℕ) (place slot : ℕ) (cell : Cell)
+    (old mid new : List Derived)
     → StandsAt old place slot → IsCellAt sizes cell slot → AreJoined cell place cell.size old mid
     → AreUsesLookedAt premises conclusions slot mid new → IsGoneOver sizes premises conclusions place old new
 gone_over sizes premises conclusions place slot cell old mid new stands is joined looked = record {
   longer = longer_twice old mid new joined.longer looked.longer;
-  sound = λ facts each. looked.sound (horn sizes facts premises conclusions) refl refl (joined.sound (horn sizes facts premises conclusions) slot is stands each);
+  sound = λ facts each. looked.sound (horn sizes facts premises conclusions) refl refl
+      (joined.sound (horn sizes facts premises conclusions) slot is stands each);
   slot = slot;
   cell = cell;
   is_cell = is;
@@ -30,7 +32,8 @@ gone_over sizes premises conclusions place slot cell old mid new stands is joine
 -- ---- the cells that were gone over
 
 -- a cell among those up to a place is among those before it, or stands there
-among_next : (old : List Derived) (place : ℕ) (d : Derived) (s : ℕ) → slice_get old place ≡ Some d → IsAmong (take (place + 1) old) s
+among_next : (old : List Derived) (place : ℕ) (d : Derived) (s : ℕ) → slice_get old place ≡ Some d
+    → IsAmong (take (place + 1) old) s
     → IsAmong (take place old) s ⊎ (d.slot ≡ s)
 among_next old place d s at a = go (among_stands (take (place + 1) old) s a)
   where
@@ -51,10 +54,12 @@ among_front old n s a =
 
 -- all of some cells are among those before a place, or one of them stands there
 all_next : (old : List Derived) (place : ℕ) (d : Derived) (ps : List ℕ) → slice_get old place ≡ Some d
-    → ((p : ℕ) → Contains ps p → IsAmong (take (place + 1) old) p) → ((p : ℕ) → Contains ps p → IsAmong (take place old) p) ⊎ Contains ps d.slot
+    → ((p : ℕ) → Contains ps p → IsAmong (take (place + 1) old) p) →
+    ((p : ℕ) → Contains ps p → IsAmong (take place old) p) ⊎ Contains ps d.slot
 all_next old place d [] at all = inl (λ p c. absurd (omega (arith, c.1)))
 all_next old place d (q ∷ qs) at all =
-    go (among_next old place d q at (all q (0, omega arith, refl))) (all_next old place d qs at (λ p c. all p (suc c.0, omega (arith, c.1), c.2)))
+    go (among_next old place d q at (all q (0, omega arith, refl)))
+    (all_next old place d qs at (λ p c. all p (suc c.0, omega (arith, c.1), c.2)))
   where
     both : IsAmong (take place old) q → ((p : ℕ) → Contains qs p → IsAmong (take place old) p) → (p i : ℕ) → i < length (q ∷ qs)
         → slice_index_or (q ∷ qs) i p ≡ p → IsAmong (take place old) p
@@ -68,12 +73,18 @@ all_next old place d (q ∷ qs) at all =
     go (inl a) (inl rest) = inl (λ p c. both a rest p c.0 c.1 c.2)
 
 module _ (sizes : List ℕ) (premises : List (List ℕ)) (conclusions : List ℕ) where
-  closed_more : (place : ℕ) (old new : List Derived) (d : Derived) → slice_get old place ≡ Some d → IsGoneOver sizes premises conclusions place old new
-      → IsClosedOver sizes premises conclusions (take place old) old → IsClosedOver sizes premises conclusions (take (place + 1) old) new
+  closed_more : (place : ℕ) (old new : List Derived) (d : Derived) → slice_get old place ≡ Some d
+      → IsGoneOver sizes premises conclusions place old new
+      → IsClosedOver sizes premises conclusions (take place old) old → IsClosedOver sizes premises conclusions
+      (take (place + 1) old) new
   closed_more place old new d at over closed = record {
-    joins = λ first second third m a b. joins first second third m (among_next old place d first at a) (among_next old place d second at b)
+    joins = λ first second third m a b. joins first second third m (among_next old place d first at a)
+        (among_next old place d second at b)
         (among_front old (place + 1) first a) (among_front old (place + 1) second b);
-    clauses = λ k. record { concludes = λ ps slot is_ps is_slot all. clauses k ps slot is_ps is_slot all (all_next old place d ps at all) };
+    clauses = λ k. record {
+      concludes = λ ps slot is_ps is_slot all. clauses k ps slot is_ps is_slot all
+          (all_next old place d ps at all);
+    };
   }
     where
       slot_is : d.slot ≡ over.slot
@@ -91,7 +102,8 @@ module _ (sizes : List ℕ) (premises : List (List ℕ)) (conclusions : List ℕ
 
       joins : (first second third : ℕ) → Meet sizes first second third → IsAmong (take place old) first ⊎ (d.slot ≡ first)
           → IsAmong (take place old) second ⊎ (d.slot ≡ second) → IsAmong old first → IsAmong old second → IsAmong new third
-      joins first second third m (inl a) (inl b) f s = among_longer old new third over.longer (closed.joins first second third m a b)
+      joins first second third m (inl a) (inl b) f s = among_longer old new third over.longer
+          (closed.joins first second third m a b)
       joins first second third m (inr e) b f s = from first second third m (sym e ∙ slot_is) s
       joins first second third m (inl a) (inr e) f s = to first second third m (sym e ∙ slot_is) f
 
@@ -101,7 +113,8 @@ module _ (sizes : List ℕ) (premises : List (List ℕ)) (conclusions : List ℕ
       clauses k ps slot is_ps is_slot all (inl before) =
           among_longer old new slot over.longer ((closed.clauses k).concludes ps slot is_ps is_slot before)
       clauses k ps slot is_ps is_slot all (inr c) =
-          (over.found k ps is_ps (subst (Contains ps) slot_is c)).concludes ps slot is_ps is_slot (λ p in_ps. among_front old (place + 1) p (all p in_ps))
+          (over.found k ps is_ps (subst (Contains ps) slot_is c)).concludes ps slot is_ps is_slot
+          (λ p in_ps. among_front old (place + 1) p (all p in_ps))
 
   -- ---- the loop
 
@@ -109,10 +122,12 @@ module _ (sizes : List ℕ) (premises : List (List ℕ)) (conclusions : List ℕ
   pub record IsClosedUpTo (place : ℕ) (old now : List Derived) : Type 0 where
     pub within : place ≤ length now
     pub longer : IsLonger old now
-    pub sound : (facts : List ℕ) → AreDerived (horn sizes facts premises conclusions) old → AreDerived (horn sizes facts premises conclusions) now
+    pub sound : (facts : List ℕ) → AreDerived (horn sizes facts premises conclusions) old → AreDerived
+        (horn sizes facts premises conclusions) now
     pub closed : IsClosedOver sizes premises conclusions [] old → IsClosedOver sizes premises conclusions (take place now) now
 
-  pub up_to_more : (place : ℕ) (old now new : List Derived) → IsClosedUpTo place old now → IsGoneOver sizes premises conclusions place now new
+  pub up_to_more : (place : ℕ) (old now new : List Derived) → IsClosedUpTo place old now → IsGoneOver sizes premises
+      conclusions place now new
       → IsClosedUpTo (place + 1) old new
   up_to_more place old now new so_far over = record {
     within = within_is;

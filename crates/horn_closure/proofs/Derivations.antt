@@ -26,11 +26,13 @@ get_push [] x (suc i) y at = absurd (none-some y at)
 get_push (z ∷ xs) x zero y at = inl at
 get_push (z ∷ xs) x (suc i) y at = go (get_push xs x i y at)
   where
-    go : (slice_get xs i ≡ Some y) ⊎ ((i ≡ length xs) × (x ≡ y)) → (slice_get xs i ≡ Some y) ⊎ ((suc i ≡ suc (length xs)) × (x ≡ y))
+    go : (slice_get xs i ≡ Some y) ⊎ ((i ≡ length xs) × (x ≡ y)) → (slice_get xs i ≡ Some y) ⊎
+        ((suc i ≡ suc (length xs)) × (x ≡ y))
     go (inl there) = inl there
     go (inr here) = inr (ap suc here.0, here.1)
 
-pub get_take : {A : Type 0} (n : ℕ) (xs : List A) (i : ℕ) (x : A) → slice_get (take n xs) i ≡ Some x → (i < n) × (slice_get xs i ≡ Some x)
+pub get_take : {A : Type 0} (n : ℕ) (xs : List A) (i : ℕ) (x : A) → slice_get (take n xs) i ≡ Some x →
+    (i < n) × (slice_get xs i ≡ Some x)
 get_take zero [] i x at = absurd (none-some x at)
 get_take zero (y ∷ xs) i x at = absurd (none-some x at)
 get_take (suc n) [] i x at = absurd (none-some x at)
@@ -44,7 +46,8 @@ pub at_contains : {A : Type 0} (xs : List A) (x : A) → Contains xs x → (i : 
 at_contains xs x c = (c.0, slice_get-get_or xs c.0 x c.1 ∙ ap Some c.2)
 
 pub take_at : {A : Type 0} (xs : List A) (i : ℕ) (x : A) → slice_get xs i ≡ Some x → take (i + 1) xs ≡ take i xs ++ x ∷ []
-take_at xs i x at = take_more xs i x (slice_get_within xs i x at) ∙ ap (λ y. take i xs ++ y ∷ []) (get_or_from_slice_get xs i x x at)
+take_at xs i x at = take_more xs i x (slice_get_within xs i x at) ∙ ap (λ y. take i xs ++ y ∷ [])
+    (get_or_from_slice_get xs i x x at)
 
 pub take_none : {A : Type 0} (xs : List A) (x : A) → Contains (take 0 xs) x → ⊥
 take_none [] x c = omega (arith, c.1)
@@ -52,7 +55,8 @@ take_none (y ∷ xs) x c = omega (arith, c.1)
 
 -- ---- where cells stand
 
-pub among_at : (derived : List Derived) (place : ℕ) (d : Derived) (slot : ℕ) → slice_get derived place ≡ Some d → d.slot ≡ slot → IsAmong derived slot
+pub among_at : (derived : List Derived) (place : ℕ) (d : Derived) (slot : ℕ) → slice_get derived place ≡ Some d
+    → d.slot ≡ slot → IsAmong derived slot
 among_at derived place d slot at is = record { one = d; is_in = contains_at derived place d at; slot_is = is }
 
 pub stands_among : (derived : List Derived) (place slot : ℕ) → StandsAt derived place slot → IsAmong derived slot
@@ -81,7 +85,8 @@ longer_twice old mid new a b = record {
   is = b.is ∙ ap (λ xs. xs ++ b.rest) a.is ∙ append_assoc old a.rest b.rest;
 }
 
-pub stands_longer : (old new : List Derived) (place slot : ℕ) → IsLonger old new → StandsAt old place slot → StandsAt new place slot
+pub stands_longer : (old new : List Derived) (place slot : ℕ) → IsLonger old new → StandsAt old place slot
+    → StandsAt new place slot
 stands_longer old new place slot l s = record {
   one = s.one;
   is_one = ap (λ xs. slice_get xs place) l.is ∙ get_front old l.rest place s.one s.is_one;
@@ -95,13 +100,15 @@ among_longer old new slot l a =
 
 -- ---- one more
 
-pub derived_push : (h : Horn) (old : List Derived) (d : Derived) → IsDerived h old d → AreDerived h old → AreDerived h (old ++ d ∷ [])
+pub derived_push : (h : Horn) (old : List Derived) (d : Derived) → IsDerived h old d → AreDerived h old
+    → AreDerived h (old ++ d ∷ [])
 derived_push h old d is each place e at = go (get_push old d place e at)
   where
     go : (slice_get old place ≡ Some e) ⊎ ((place ≡ length old) × (d ≡ e)) → IsDerived h (take place (old ++ d ∷ [])) e
     go (inl there) =
         let within = slice_get_within old place e there in
-        subst (λ (ds : List Derived). IsDerived h ds e) (sym (take-append-le place old (d ∷ []) (omega arith))) (each place e there)
+        subst (λ (ds : List Derived). IsDerived h ds e) (sym (take-append-le place old (d ∷ []) (omega arith)))
+        (each place e there)
     go (inr here) =
         let front : take place (old ++ d ∷ []) ≡ old = ap (λ n. take n (old ++ d ∷ [])) here.0 ∙ take-append_seam old (d ∷ []) in
         subst (λ (ds : List Derived). IsDerived h ds e) (sym front) (subst (λ (x : Derived). IsDerived h old x) here.1 is)

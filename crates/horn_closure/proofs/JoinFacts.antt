@@ -28,10 +28,12 @@ one_ahead cell place other second old new less at added = record {
   ahead = λ a. added.among;
 }
   where
-    met : (h : Horn) (slot : ℕ) → IsCellAt h.sizes cell slot → (stands : StandsAt old place slot) → Meet h.sizes stands.one.slot at.one.slot (slot_of cell cell.row other)
+    met : (h : Horn) (slot : ℕ) → IsCellAt h.sizes cell slot → (stands : StandsAt old place slot)
+        → Meet h.sizes stands.one.slot at.one.slot (slot_of cell cell.row other)
     met h slot is stands =
         subst (λ s. Meet h.sizes s at.one.slot (slot_of cell cell.row other)) (sym stands.slot_is)
-        (subst (λ s. Meet h.sizes slot s (slot_of cell cell.row other)) (sym at.slot_is) (meet_ahead h.sizes cell slot is other less))
+        (subst (λ s. Meet h.sizes slot s (slot_of cell cell.row other)) (sym at.slot_is)
+        (meet_ahead h.sizes cell slot is other less))
 
 pub one_behind : (cell : Cell) (place other first : ℕ) (old new : List Derived) → other < cell.size
     → StandsAt old first (slot_of cell other cell.row)
@@ -50,10 +52,12 @@ one_behind cell place other first old new less at added = record {
   behind = λ a. added.among;
 }
   where
-    met : (h : Horn) (slot : ℕ) → IsCellAt h.sizes cell slot → (stands : StandsAt old place slot) → Meet h.sizes at.one.slot stands.one.slot (slot_of cell other cell.column)
+    met : (h : Horn) (slot : ℕ) → IsCellAt h.sizes cell slot → (stands : StandsAt old place slot)
+        → Meet h.sizes at.one.slot stands.one.slot (slot_of cell other cell.column)
     met h slot is stands =
         subst (λ s. Meet h.sizes at.one.slot s (slot_of cell other cell.column)) (sym stands.slot_is)
-        (subst (λ s. Meet h.sizes s slot (slot_of cell other cell.column)) (sym at.slot_is) (meet_behind h.sizes cell slot is other less))
+        (subst (λ s. Meet h.sizes s slot (slot_of cell other cell.column)) (sym at.slot_is)
+        (meet_behind h.sizes cell slot is other less))
 
 -- ---- all of them
 

@@ -32,7 +32,11 @@ get_set xs i j v x at = go (cases_eq i j)
     within = omega (arith, length-set xs i v, slice_get_within (slice_set xs i v) j x at)
 
     go : (i ≡ j) ⊎ (i ≡ j → ⊥) → ((i ≡ j) × (v ≡ x)) ⊎ ((i ≡ j → ⊥) × (slice_get xs j ≡ Some x))
-    go (inl e) = inl (e, same_Some v x (sym (get_set_same xs i v (omega (arith, within))) ∙ ap (slice_get (slice_set xs i v)) e ∙ at))
+    go (inl e) = inl (
+      e,
+      same_Some v x (sym (get_set_same xs i v (omega (arith, within)))
+          ∙ ap (slice_get (slice_set xs i v)) e ∙ at),
+    )
     go (inr d) =
         let before = slice_get-get_or xs j 0 within in
         inr (d, before ∙ sym (get_set_other xs i j v (get_or xs j 0) d before) ∙ at)
@@ -63,12 +67,17 @@ not_among slot (d ∷ ds) none = (ne_eqb slot d.slot (none 0 d refl), not_among 
 distinct : (ds : List Derived) → AreOnce ds → IsDistinct eqb (slots_of ds)
 unfolding IsDistinct
 distinct [] once = tt
-distinct (c ∷ ds) once =
-    (not_among c.slot ds (λ i d at same. let e : 0 ≡ suc i = once 0 (suc i) c d refl at same in absurd (omega arith)), distinct ds (once_rest c ds once))
+distinct (c ∷ ds) once = (
+  not_among c.slot ds (λ i d at same. let e : 0 ≡ suc i = once 0 (suc i) c d refl at same in absurd
+      (omega arith)),
+  distinct ds (once_rest c ds once),
+)
 
-below : (n q : ℕ) (ds : List Derived) → ((i : ℕ) (d : Derived) → slice_get ds i ≡ Some d → d.slot < n) → list_any (eqb q) (slots_of ds) ≡ true → q < n
+below : (n q : ℕ) (ds : List Derived) → ((i : ℕ) (d : Derived) → slice_get ds i ≡ Some d → d.slot < n)
+    → list_any (eqb q) (slots_of ds) ≡ true → q < n
 below n q [] all is = absurd (cc)
-below n q (d ∷ ds) all is = go (λ h. below n q ds (λ i e at. all (suc i) e at) h) (or_cases (eqb q d.slot) (list_any (eqb q) (slots_of ds)) is)
+below n q (d ∷ ds) all is = go (λ h. below n q ds (λ i e at. all (suc i) e at) h)
+    (or_cases (eqb q d.slot) (list_any (eqb q) (slots_of ds)) is)
   where
     go : (list_any (eqb q) (slots_of ds) ≡ true → q < n) → (eqb q d.slot ≡ true) ⊎ (list_any (eqb q) (slots_of ds) ≡ true) → q < n
     go more (inl h) = subst (λ v. v < n) (sym (eqb-true q d.slot h)) (all 0 d refl)
@@ -98,7 +107,11 @@ module _ (places : List ℕ) (derived : List Derived) (is : AreKnown places deri
   -- where a cell that was not derived is derived last
   pub known_more : (slot : ℕ) (why : Why) → slice_get places slot ≡ Some 0
       → AreKnown (slice_set places slot (length derived + 1)) (derived ++ record { slot = slot; why = why } ∷ [])
-  known_more slot why none = record { few = omega (arith, length-set places slot (length derived + 1), is.few); stands = stands; found = found }
+  known_more slot why none = record {
+    few = omega (arith, length-set places slot (length derived + 1), is.few);
+    stands = stands;
+    found = found;
+  }
     where
       new : Derived
       new = record { slot = slot; why = why }
@@ -113,7 +126,8 @@ module _ (places : List ℕ) (derived : List Derived) (is : AreKnown places deri
           → slice_get (slice_set places slot (length derived + 1)) d.slot ≡ Some (place + 1)
       stands place d at = go (get_push derived new place d at)
         where
-          go : (slice_get derived place ≡ Some d) ⊎ ((place ≡ length derived) × (new ≡ d)) → slice_get (slice_set places slot next) d.slot ≡ Some (place + 1)
+          go : (slice_get derived place ≡ Some d) ⊎ ((place ≡ length derived) × (new ≡ d))
+              → slice_get (slice_set places slot next) d.slot ≡ Some (place + 1)
           go (inl there) =
               let was = is.stands place d there in
               get_set_other places slot d.slot next (place + 1)
@@ -126,7 +140,8 @@ module _ (places : List ℕ) (derived : List Derived) (is : AreKnown places deri
           → StandsAt (derived ++ record { slot = slot; why = why } ∷ []) place s
       found s place at = go (get_set places slot s next (place + 1) at)
         where
-          go : ((slot ≡ s) × (next ≡ place + 1)) ⊎ ((slot ≡ s → ⊥) × (slice_get places s ≡ Some (place + 1))) → StandsAt (derived ++ new ∷ []) place s
+          go : ((slot ≡ s) × (next ≡ place + 1)) ⊎ ((slot ≡ s → ⊥) × (slice_get places s ≡ Some (place + 1)))
+              → StandsAt (derived ++ new ∷ []) place s
           go (inl here) =
               let last : place ≡ length derived = omega (arith, here.1) in
               record { one = new; is_one = ap (slice_get (derived ++ new ∷ [])) last ∙ get_last derived new; slot_is = here.0 }
@@ -140,7 +155,8 @@ pub known_room : (places : List ℕ) (derived : List Derived) (slot : ℕ) → A
 known_room places derived slot is none =
     let why : Why = Fact in
     let new : Derived = record { slot = slot; why = why } in
-    let few = known_few (slice_set places slot (length derived + 1)) (derived ++ new ∷ []) (known_more places derived is slot why none) in
+    let few = known_few (slice_set places slot (length derived + 1)) (derived ++ new ∷ [])
+    (known_more places derived is slot why none) in
     omega (arith, few, length-set places slot (length derived + 1), length-append derived (new ∷ []))
 
 -- ---- what is read

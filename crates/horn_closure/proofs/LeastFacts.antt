@@ -17,9 +17,11 @@ one_least h earlier slot (Joined first second) is all =
     joined is.one.slot is.other.slot slot is.meet (all first is.one is.is_one) (all second is.other is.is_other)
 one_least h earlier slot (Clause k) is all =
     clause k is.premises slot is.is_clause is.concludes
-    (λ premise c. let st = among_stands earlier premise (is.derived premise c) in subst (IsLeast h) st.1.slot_is (all st.0 st.1.one st.1.is_one))
+    (λ premise c. let st = among_stands earlier premise (is.derived premise c) in subst (IsLeast h) st.1.slot_is
+    (all st.0 st.1.one st.1.is_one))
 
-least_below : (h : Horn) (derived : List Derived) → AreDerived h derived → (n place : ℕ) (d : Derived) → place < n → slice_get derived place ≡ Some d
+least_below : (h : Horn) (derived : List Derived) → AreDerived h derived → (n place : ℕ) (d : Derived) → place < n
+    → slice_get derived place ≡ Some d
     → IsLeast h d.slot
 least_below h derived each zero place d less at = absurd (omega arith)
 least_below h derived each (suc n) place d less at =
@@ -44,7 +46,8 @@ least_among h derived facts closed slot (clause k premises conclusion is_ps is_s
 
 -- ---- the whole
 
-nothing_meets : (sizes : List ℕ) (premises : List (List ℕ)) (conclusions : List ℕ) (derived : List Derived) → ((k : ℕ) → Concludes premises conclusions k [] derived)
+nothing_meets : (sizes : List ℕ) (premises : List (List ℕ)) (conclusions : List ℕ) (derived : List Derived) →
+    ((k : ℕ) → Concludes premises conclusions k [] derived)
     → IsClosedOver sizes premises conclusions [] derived
 nothing_meets sizes premises conclusions derived clauses = record {
   joins = λ first second third m a b. absurd (omega (arith, a.is_in.1));
@@ -52,12 +55,14 @@ nothing_meets sizes premises conclusions derived clauses = record {
 }
 
 pub all_least : (sizes facts : List ℕ) (premises : List (List ℕ)) (conclusions : List ℕ) (given ready derived : List Derived)
-    → AreGiven facts [] given → AreLookedAt premises conclusions (length premises) given ready → IsClosing sizes premises conclusions ready derived
+    → AreGiven facts [] given → AreLookedAt premises conclusions (length premises) given ready
+    → IsClosing sizes premises conclusions ready derived
     → AreOnce derived → AreLeast (horn sizes facts premises conclusions) derived
 all_least sizes facts premises conclusions given ready derived are_given looked closing once = record {
   each = closing.sound facts (looked.sound h refl refl (are_given.sound h (λ slot c. c) (λ place d at. absurd (none-some d at))));
   all = least_among h derived
-      (λ slot c. among_longer given derived slot (longer_twice given ready derived looked.longer closing.longer) (are_given.all slot c))
+      (λ slot c. among_longer given derived slot (longer_twice given ready derived looked.longer closing.longer)
+      (are_given.all slot c))
       (closing.closed (nothing_meets sizes premises conclusions ready none));
   once = once;
 }
@@ -67,6 +72,7 @@ all_least sizes facts premises conclusions given ready derived are_given looked 
 
     none : (k : ℕ) → Concludes premises conclusions k [] ready
     none k = record {
-      concludes = λ ps slot is_ps is_slot all. (looked.found k (slice_get_within premises k ps is_ps)).concludes ps slot is_ps is_slot
+      concludes = λ ps slot is_ps is_slot all. (looked.found k (slice_get_within premises k ps is_ps)).concludes ps
+          slot is_ps is_slot
           (λ premise c. absurd (omega (arith, (all premise c).is_in.1)));
     }

@@ -11,8 +11,10 @@ pub two_below : (n a b : ℕ) → a < n → b < n → All (λ slot. slot < n) (a
 two_below n a b less also = All-cons (λ slot. slot < n) a (b ∷ []) less (one_below n b also)
 
 -- two clauses over the cells of squares
-pub small_horn : (sizes facts first second : List ℕ) (a b : ℕ) → cells_of sizes < 2 ^ 32 → All (λ slot. slot < cells_of sizes) facts
-    → All (λ slot. slot < cells_of sizes) first → All (λ slot. slot < cells_of sizes) second → a < cells_of sizes → b < cells_of sizes
+pub small_horn : (sizes facts first second : List ℕ) (a b : ℕ) → cells_of sizes < 2 ^ 32
+    → All (λ slot. slot < cells_of sizes) facts
+    → All (λ slot. slot < cells_of sizes) first → All (λ slot. slot < cells_of sizes) second → a < cells_of sizes
+    → b < cells_of sizes
     → IsHorn (horn sizes facts (first ∷ second ∷ []) (a ∷ b ∷ []))
 small_horn sizes facts first second a b few facts_in first_in second_in a_in b_in =
     let below : List ℕ → Type 0 = All (λ slot. slot < cells_of sizes) in

@@ -19,7 +19,8 @@ use_there uses at one some within read = slice_get_read uses (length uses) (at -
 
 -- one use more of a cell, whose last use was known
 pub use_added : (clause slot before : ℕ) (lasts : List ℕ) (uses : List Use) → slice_get lasts slot ≡ Some before → length uses < 4294967295
-    → IsUseAdded clause slot lasts uses (slice_set lasts slot (length uses + 1)) (uses ++ record { clause = clause; before = before } ∷ [])
+    → IsUseAdded clause slot lasts uses (slice_set lasts slot (length uses + 1))
+    (uses ++ record { clause = clause; before = before } ∷ [])
 use_added clause slot before lasts uses was room = record { linked = linked; kept = kept; added = added }
   where
     one : Use
@@ -45,11 +46,13 @@ use_added clause slot before lasts uses was room = record { linked = linked; kep
       by_clauses = λ place u at. in_clauses place u (get_push uses one place u at);
     }
       where
-        in_last : {s : ℕ} (last : ℕ) → ((slot ≡ s) × (length uses + 1 ≡ last)) ⊎ ((slot ≡ s → ⊥) × (slice_get lasts s ≡ Some last)) → last ≤ length uses'
+        in_last : {s : ℕ} (last : ℕ) → ((slot ≡ s) × (length uses + 1 ≡ last)) ⊎
+            ((slot ≡ s → ⊥) × (slice_get lasts s ≡ Some last)) → last ≤ length uses'
         in_last last (inl new) = omega (arith, longer, new.1)
         in_last {s} last (inr old) = omega (arith, longer, are.lasts_in s last old.1)
 
-        in_before : (place : ℕ) (u : Use) → (slice_get uses place ≡ Some u) ⊎ ((place ≡ length uses) × (one ≡ u)) → u.before ≤ place
+        in_before : (place : ℕ) (u : Use) → (slice_get uses place ≡ Some u) ⊎ ((place ≡ length uses) × (one ≡ u))
+            → u.before ≤ place
         in_before place u (inl old) = are.befores place u old
         in_before place u (inr new) = omega (arith, new.0, ap (λ (v : Use). v.before) new.1, are.lasts_in slot before was)
 
@@ -66,7 +69,8 @@ use_added clause slot before lasts uses was room = record { linked = linked; kep
             let on : OnChain uses' k before = chain_longer uses one k before (subst (OnChain uses k) last_is u.on) in
             record {
               last = length uses + 1;
-              is_last = subst (λ i. slice_get lasts' i ≡ Some (length uses + 1)) same (get_set_same lasts slot (length uses + 1) within);
+              is_last = subst (λ i. slice_get lasts' i ≡ Some (length uses + 1)) same
+                  (get_set_same lasts slot (length uses + 1) within);
               on = further (length uses + 1) (length uses) one refl (get_last uses one) on;
             }
         by (inr other) = record {
@@ -84,7 +88,8 @@ use_added clause slot before lasts uses was room = record { linked = linked; kep
 
 -- ---- one use more of each of some cells
 
-pub each_more : (clause i slot : ℕ) (slots lasts lasts' lasts'' : List ℕ) (uses uses' uses'' : List Use) → slice_get slots i ≡ Some slot
+pub each_more : (clause i slot : ℕ) (slots lasts lasts' lasts'' : List ℕ) (uses uses' uses'' : List Use)
+    → slice_get slots i ≡ Some slot
     → IsUseOfEach clause (take i slots) lasts uses lasts' uses' → IsUseAdded clause slot lasts' uses' lasts'' uses''
     → IsUseOfEach clause (take (i + 1) slots) lasts uses lasts'' uses''
 each_more clause i slot slots lasts lasts' lasts'' uses uses' uses'' at so_far more = record {
@@ -106,7 +111,8 @@ uses_more premises k ps lasts lasts' uses uses' at so_far more = record {
   each = λ j qs slot less is c. by j qs slot is c (cases_lt j k) (omega (arith, less));
 }
   where
-    by : (j : ℕ) (qs : List ℕ) (slot : ℕ) → slice_get premises j ≡ Some qs → Contains qs slot → (j < k) ⊎ (k ≤ j) → j ≤ k → IsUsed lasts' uses' slot j
+    by : (j : ℕ) (qs : List ℕ) (slot : ℕ) → slice_get premises j ≡ Some qs → Contains qs slot → (j < k) ⊎ (k ≤ j)
+        → j ≤ k → IsUsed lasts' uses' slot j
     by j qs slot is c (inl less) h = more.kept slot j (so_far.each j qs slot less is c)
     by j qs slot is c (inr past) h =
         let same : k ≡ j = omega arith in

@@ -45,7 +45,8 @@ pub data IsLeast (h : Horn) : ℕ → Type 0 where
   fact : (slot : ℕ) → Contains h.facts slot → IsLeast h slot
   joined : (first second third : ℕ) → Meet h.sizes first second third → IsLeast h first → IsLeast h second → IsLeast h third
   clause : (k : ℕ) (premises : List ℕ) (conclusion : ℕ) → slice_get h.premises k ≡ Some premises
-      → slice_get h.conclusions k ≡ Some conclusion → ((slot : ℕ) → Contains premises slot → IsLeast h slot) → IsLeast h conclusion
+      → slice_get h.conclusions k ≡ Some conclusion → ((slot : ℕ) → Contains premises slot → IsLeast h slot)
+      → IsLeast h conclusion
 
 -- each slot is a cell's, each clause has a conclusion, and there are fewer cells and clauses than numbers
 pub record IsHorn (h : Horn) : Type 0 where

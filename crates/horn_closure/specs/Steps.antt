@@ -27,7 +27,8 @@ pub record AreKnown (places : List ℕ) (derived : List Derived) : Type 0 where
 
 -- no cell was derived twice
 abbrev pub AreOnce : List Derived → Type 0
-AreOnce derived = (i j : ℕ) (c d : Derived) → slice_get derived i ≡ Some c → slice_get derived j ≡ Some d → c.slot ≡ d.slot → i ≡ j
+AreOnce derived = (i j : ℕ) (c d : Derived) → slice_get derived i ≡ Some c → slice_get derived j ≡ Some d
+    → c.slot ≡ d.slot → i ≡ j
 
 -- each is derived from those before it
 abbrev pub AreDerived : Horn → List Derived → Type 0
@@ -102,8 +103,10 @@ pub record IsJoinedBehind (cell : Cell) (place other : ℕ) (old new : List Deri
 pub record AreJoined (cell : Cell) (place upto : ℕ) (old new : List Derived) : Type 0 where
   pub longer : IsLonger old new
   pub sound : (h : Horn) (slot : ℕ) → IsCellAt h.sizes cell slot → StandsAt old place slot → AreDerived h old → AreDerived h new
-  pub ahead : (other : ℕ) → other < upto → IsAmong old (slot_of cell cell.column other) → IsAmong new (slot_of cell cell.row other)
-  pub behind : (other : ℕ) → other < upto → IsAmong old (slot_of cell other cell.row) → IsAmong new (slot_of cell other cell.column)
+  pub ahead : (other : ℕ) → other < upto → IsAmong old (slot_of cell cell.column other) → IsAmong new
+      (slot_of cell cell.row other)
+  pub behind : (other : ℕ) → other < upto → IsAmong old (slot_of cell other cell.row) → IsAmong new
+      (slot_of cell other cell.column)
 
 -- ---- clauses
 
@@ -142,7 +145,8 @@ pub record AreUsesLookedAt (premises : List (List ℕ)) (conclusions : List ℕ)
 -- a use by a clause is met on the way from a use back to the first
 pub data OnChain (uses : List Use) (k : ℕ) : ℕ → Type 0 where
   here : (at place : ℕ) (one : Use) → at ≡ place + 1 → slice_get uses place ≡ Some one → one.clause ≡ k → OnChain uses k at
-  further : (at place : ℕ) (one : Use) → at ≡ place + 1 → slice_get uses place ≡ Some one → OnChain uses k one.before → OnChain uses k at
+  further : (at place : ℕ) (one : Use) → at ≡ place + 1 → slice_get uses place ≡ Some one → OnChain uses k one.before
+      → OnChain uses k at
 
 -- a cell is used by a clause
 pub record IsUsed (lasts : List ℕ) (uses : List Use) (slot k : ℕ) : Type 0 where
@@ -160,7 +164,8 @@ pub record AreLinked (lasts : List ℕ) (uses : List Use) (clauses : ℕ) : Type
 -- each premise of the first so many clauses is used by its clause
 pub record AreUsesUpTo (premises : List (List ℕ)) (upto : ℕ) (lasts : List ℕ) (uses : List Use) : Type 0 where
   pub linked : AreLinked lasts uses (length premises)
-  pub each : (k : ℕ) (ps : List ℕ) (slot : ℕ) → k < upto → slice_get premises k ≡ Some ps → Contains ps slot → IsUsed lasts uses slot k
+  pub each : (k : ℕ) (ps : List ℕ) (slot : ℕ) → k < upto → slice_get premises k ≡ Some ps → Contains ps slot
+      → IsUsed lasts uses slot k
 
 -- each premise of a clause is used by it
 pub record AreUses (premises : List (List ℕ)) (lasts : List ℕ) (uses : List Use) : Type 0 where
@@ -185,7 +190,8 @@ abbrev pub horn : List ℕ → List ℕ → List (List ℕ) → List ℕ → Hor
 horn sizes facts premises conclusions = record { sizes = sizes; facts = facts; premises = premises; conclusions = conclusions }
 
 -- what is made before the first cell is gone over
-pub record IsReady (sizes bases : List ℕ) (premises : List (List ℕ)) (conclusions lasts : List ℕ) (uses : List Use) (cells : ℕ) : Type 0 where
+pub record IsReady (sizes bases : List ℕ) (premises : List (List ℕ)) (conclusions lasts : List ℕ) (uses : List Use)
+    (cells : ℕ) : Type 0 where
   pub bases_are : AreBases sizes bases
   pub clauses_are : AreClauses premises conclusions cells
   pub uses_are : AreUses premises lasts uses
@@ -194,24 +200,31 @@ pub record IsReady (sizes bases : List ℕ) (premises : List (List ℕ)) (conclu
   pub few : cells < 2 ^ 32
 
 -- what follows of the cell at a place and of others that were derived is among those that were derived
-pub record IsGoneOver (sizes : List ℕ) (premises : List (List ℕ)) (conclusions : List ℕ) (place : ℕ) (old new : List Derived) : Type 0 where
+pub record IsGoneOver (sizes : List ℕ) (premises : List (List ℕ)) (conclusions : List ℕ) (place : ℕ)
+    (old new : List Derived) : Type 0 where
   pub longer : IsLonger old new
-  pub sound : (facts : List ℕ) → AreDerived (horn sizes facts premises conclusions) old → AreDerived (horn sizes facts premises conclusions) new
+  pub sound : (facts : List ℕ) → AreDerived (horn sizes facts premises conclusions) old → AreDerived
+      (horn sizes facts premises conclusions) new
   pub slot : ℕ
   pub cell : Cell
   pub is_cell : IsCellAt sizes cell slot
   pub stands : StandsAt old place slot
-  pub ahead : (other : ℕ) → other < cell.size → IsAmong old (slot_of cell cell.column other) → IsAmong new (slot_of cell cell.row other)
-  pub behind : (other : ℕ) → other < cell.size → IsAmong old (slot_of cell other cell.row) → IsAmong new (slot_of cell other cell.column)
+  pub ahead : (other : ℕ) → other < cell.size → IsAmong old (slot_of cell cell.column other) → IsAmong new
+      (slot_of cell cell.row other)
+  pub behind : (other : ℕ) → other < cell.size → IsAmong old (slot_of cell other cell.row) → IsAmong new
+      (slot_of cell other cell.column)
   pub found : (k : ℕ) (ps : List ℕ) → slice_get premises k ≡ Some ps → Contains ps slot → Concludes premises conclusions k old new
 
 -- what follows of some that were derived is among those that were derived
-pub record IsClosedOver (sizes : List ℕ) (premises : List (List ℕ)) (conclusions : List ℕ) (before derived : List Derived) : Type 0 where
-  pub joins : (first second third : ℕ) → Meet sizes first second third → IsAmong before first → IsAmong before second → IsAmong derived third
+pub record IsClosedOver (sizes : List ℕ) (premises : List (List ℕ)) (conclusions : List ℕ)
+    (before derived : List Derived) : Type 0 where
+  pub joins : (first second third : ℕ) → Meet sizes first second third → IsAmong before first → IsAmong before second
+      → IsAmong derived third
   pub clauses : (k : ℕ) → Concludes premises conclusions k before derived
 
 -- what follows of all is, if what clauses with no premises conclude was
 pub record IsClosing (sizes : List ℕ) (premises : List (List ℕ)) (conclusions : List ℕ) (old new : List Derived) : Type 0 where
   pub longer : IsLonger old new
-  pub sound : (facts : List ℕ) → AreDerived (horn sizes facts premises conclusions) old → AreDerived (horn sizes facts premises conclusions) new
+  pub sound : (facts : List ℕ) → AreDerived (horn sizes facts premises conclusions) old → AreDerived
+      (horn sizes facts premises conclusions) new
   pub closed : IsClosedOver sizes premises conclusions [] old → IsClosedOver sizes premises conclusions new new

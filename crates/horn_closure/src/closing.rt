@@ -28,8 +28,21 @@ pub fn least(
     facts: &[u32],
     clauses: &Clauses,
 ) -> Result<Vec<Derived>, NoMemory>
-    requires { IsHorn (record { sizes = sizes.now; facts = facts.now; premises = clauses.now.premises; conclusions = clauses.now.conclusions.items }) }
-    ensures { IfOk result (λ derived. AreLeast (record { sizes = sizes.now; facts = facts.now; premises = clauses.now.premises; conclusions = clauses.now.conclusions.items }) derived.items) }
+    requires { IsHorn (record {
+      sizes = sizes.now;
+      facts = facts.now;
+      premises = clauses.now.premises;
+      conclusions =
+          clauses.now.conclusions.items;
+    }) }
+    ensures { IfOk result (λ derived. AreLeast
+        (record {
+          sizes = sizes.now;
+          facts = facts.now;
+          premises = clauses.now.premises;
+          conclusions =
+              clauses.now.conclusions.items;
+        }) derived.items) }
 {
     let (bases, cells) = bases_of(alloc, sizes)?;
     let uses = uses_of(alloc, clauses, cells)?;
@@ -60,8 +73,10 @@ fn close(
     clauses: &Clauses,
     uses: &Uses,
 ) -> Result<(), NoMemory>
-    requires { IsReady sizes.now bases.now clauses.now.premises clauses.now.conclusions.items uses.now.lasts.items uses.now.uses.items known.old.cells }
-    ensures { OnOk result (IsClosing sizes.now clauses.now.premises clauses.now.conclusions.items known.old.derived known.new.derived) }
+    requires { IsReady sizes.now bases.now clauses.now.premises clauses.now.conclusions.items uses.now.lasts.items
+        uses.now.uses.items known.old.cells }
+    ensures { OnOk result (IsClosing sizes.now clauses.now.premises clauses.now.conclusions.items known.old.derived
+        known.new.derived) }
 {
     let mut next = 0;
     while next < known.len() {
@@ -80,10 +95,12 @@ fn go_over(
     uses: &Uses,
     place: u32,
 ) -> Result<(), NoMemory>
-    requires ready { IsReady sizes.now bases.now clauses.now.premises clauses.now.conclusions.items uses.now.lasts.items uses.now.uses.items known.old.cells }
+    requires ready { IsReady sizes.now bases.now clauses.now.premises clauses.now.conclusions.items
+        uses.now.lasts.items uses.now.uses.items known.old.cells }
     requires there { place < length known.old.derived }
     ensures cells { known.new.cells ≡ known.old.cells }
-    ensures ok { OnOk result (IsGoneOver sizes.now clauses.now.premises clauses.now.conclusions.items place known.old.derived known.new.derived) }
+    ensures ok { OnOk result (IsGoneOver sizes.now clauses.now.premises clauses.now.conclusions.items place
+        known.old.derived known.new.derived) }
 {
     let slot = known.slot(place);
     join(known, cell_at(sizes, bases, slot), place)?;

@@ -11,7 +11,8 @@ use currency_base::NoMemory;
 pub fn look_at_all(known: &mut Known, clauses: &Clauses) -> Result<(), NoMemory>
     requires { AreClauses clauses.now.premises clauses.now.conclusions.items known.old.cells }
     ensures cells { known.new.cells ≡ known.old.cells }
-    ensures ok { OnOk result (AreLookedAt clauses.now.premises clauses.now.conclusions.items (length clauses.now.premises) known.old.derived known.new.derived) }
+    ensures ok { OnOk result (AreLookedAt clauses.now.premises clauses.now.conclusions.items
+        (length clauses.now.premises) known.old.derived known.new.derived) }
 {
     for clause in 0..clauses.premises.len() {
         look(known, clauses, clause as u32)?;
@@ -30,7 +31,8 @@ pub fn look_at_uses(
     requires uses { AreUses clauses.now.premises uses.now.lasts.items uses.now.uses.items }
     requires within { slot < length uses.now.lasts.items }
     ensures cells { known.new.cells ≡ known.old.cells }
-    ensures ok { OnOk result (AreUsesLookedAt clauses.now.premises clauses.now.conclusions.items slot known.old.derived known.new.derived) }
+    ensures ok { OnOk result (AreUsesLookedAt clauses.now.premises clauses.now.conclusions.items slot
+        known.old.derived known.new.derived) }
 {
     let mut at = uses.lasts[slot as usize];
     while at > 0 {
@@ -46,7 +48,8 @@ fn look(known: &mut Known, clauses: &Clauses, clause: u32) -> Result<(), NoMemor
     requires clauses { AreClauses clauses.now.premises clauses.now.conclusions.items known.old.cells }
     requires there { clause < length clauses.now.premises }
     ensures cells { known.new.cells ≡ known.old.cells }
-    ensures ok { OnOk result (IsLookedAt clauses.now.premises clauses.now.conclusions.items clause known.old.derived known.new.derived) }
+    ensures ok { OnOk result (IsLookedAt clauses.now.premises clauses.now.conclusions.items clause known.old.derived
+        known.new.derived) }
 {
     if !are_known(known, clauses.premises.get(clause as usize)) {
         return Ok(());

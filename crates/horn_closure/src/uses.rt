@@ -43,7 +43,8 @@ pub fn uses_of(alloc: Global, clauses: &Clauses, cells: u32) -> Result<Uses, NoM
 fn add_uses(uses: &mut Uses, clause: u32, premises: &[u32]) -> Result<(), NoMemory>
     requires { All (λ slot. slot < length uses.old.lasts.items) premises.now }
     ensures cells { length uses.new.lasts.items ≡ length uses.old.lasts.items }
-    ensures ok { OnOk result (IsUseOfEach clause premises.now uses.old.lasts.items uses.old.uses.items uses.new.lasts.items uses.new.uses.items) }
+    ensures ok { OnOk result (IsUseOfEach clause premises.now uses.old.lasts.items uses.old.uses.items
+        uses.new.lasts.items uses.new.uses.items) }
 {
     for slot in premises {
         add_use(uses, clause, *slot)?;
@@ -55,7 +56,8 @@ fn add_uses(uses: &mut Uses, clause: u32, premises: &[u32]) -> Result<(), NoMemo
 fn add_use(uses: &mut Uses, clause: u32, slot: u32) -> Result<(), NoMemory>
     requires { slot < length uses.old.lasts.items }
     ensures cells { length uses.new.lasts.items ≡ length uses.old.lasts.items }
-    ensures ok { OnOk result (IsUseAdded clause slot uses.old.lasts.items uses.old.uses.items uses.new.lasts.items uses.new.uses.items) }
+    ensures ok { OnOk result (IsUseAdded clause slot uses.old.lasts.items uses.old.uses.items uses.new.lasts.items
+        uses.new.uses.items) }
 {
     if uses.uses.len() >= u32::MAX as usize {
         return Err(NoMemory);

@@ -1,13 +1,13 @@
-ghost use Rattle.std.specs.Prelude.{◌≡◌, ◌+◌, ◌<◌, ◌≤◌, ◌^◌, true, is_ok, length, IfOk, OnOk};
+ghost use Rattle.std.specs.Prelude.{◌≡◌, ◌+◌, ◌<◌, ◌≤◌, ◌^◌, length, IfOk, OnOk};
 ghost use Rattle.copy_functions.specs.Copies.{source_at, IsCopied};
 ghost use Rattle.spec_model.specs.Facts.{AreRelations, IsCopyAmong};
 ghost use Rattle.kept_items.specs.Marked.{is_marked};
 ghost use Rattle.kept_items.specs.Steps.{copied_count, mapped_count, marked_copy, marked_rows, one_if, with_row};
 
 use crate::marks::take_mark;
-use copy_functions::{CopyFault, CopyMap};
+use copy_functions::CopyMap;
 use currency_base::{NoMemory, RowId, Rows};
-use spec_duplicates::unmapped;
+use spec_duplicates::{or_no_memory, unmapped};
 use spec_model::Relation;
 use std::alloc::Global;
 
@@ -85,14 +85,4 @@ fn map_row(
         return Ok(());
     }
     or_no_memory(kept.add(alloc, target_rows, source_rows, row, source))
-}
-
-/// What maps a row can only want memory, since the row is mapped in the whole, to a row of equal values.
-fn or_no_memory(outcome: Result<(), CopyFault>) -> Result<(), NoMemory>
-    ensures { OnOk result (is_ok outcome ≡ true) }
-{
-    match outcome {
-        Ok(()) => Ok(()),
-        Err(_) => Err(NoMemory),
-    }
 }

@@ -124,12 +124,14 @@ pub first_by_cut : (xs : List (List Value)) (tuple x : List Value) (i : ℕ) →
     → is_tuple x tuple ≡ true → Some i ≡ first_place xs tuple
 first_by_cut xs tuple x i cut at same = is_first xs tuple x i at same (none_before xs tuple i cut)
 
-pub nowhere_by_cut : (xs : List (List Value)) (tuple : List Value) (i : ℕ) → ((a b : List Value) → slice_cmp value_cmp a b ≡ Equal → a ≡ b)
+pub nowhere_by_cut : (xs : List (List Value)) (tuple : List Value) (i : ℕ) →
+    ((a b : List Value) → slice_cmp value_cmp a b ≡ Equal → a ≡ b)
     → AreAscending xs → IsCut xs tuple i → ((x : List Value) → slice_get xs i ≡ Some x → is_tuple x tuple ≡ false)
     → None ≡ first_place xs tuple
 nowhere_by_cut xs tuple i exact ascending cut other = is_nowhere xs tuple (λ k y at. by k y at (cases_lt k i) (cases_eq k i))
   where
-    above : (k : ℕ) (y x : List Value) → i < k → slice_get xs k ≡ Some y → slice_get xs i ≡ Some x → (t : Bool) → is_tuple y tuple ≡ t → t ≡ false
+    above : (k : ℕ) (y x : List Value) → i < k → slice_get xs k ≡ Some y → slice_get xs i ≡ Some x → (t : Bool)
+        → is_tuple y tuple ≡ t → t ≡ false
     above k y x past at here false e = refl
     above k y x past at here true e =
         let same : y ≡ tuple = exact y tuple (equal (slice_cmp value_cmp y tuple) e) in

@@ -98,7 +98,8 @@ alike rows attr ent row = filter (same_value rows attr row) (members rows ent)
 -- the earlier row stands before the later one, if the pair is given
 abbrev pub given_clause : RelId → AttrId → RowId → RowId → Relation → Option (List Signed)
 given_clause rel attr earlier later r =
-    if has_pair r.given (record { attr = attr; earlier = earlier; later = later }) then Some (before rel attr earlier later ∷ []) else None
+    if has_pair r.given (record { attr = attr; earlier = earlier; later = later }) then Some
+    (before rel attr earlier later ∷ []) else None
 
 -- of three different rows of one entity
 abbrev pub transitive_clause : RelId → AttrId → RowId → RowId → RowId → Relation → Option (List Signed)
@@ -160,7 +161,8 @@ instance_clause rel (Some i) =
 -- of one row per variable of a rule, all of one entity, for which the rule has an instance
 abbrev pub rule_clause : Rule → List RowId → Relation → Option (List Signed)
 rule_clause rule rows r =
-    if (length rows == rule.vars) && of_one_entity r.rows rows then instance_clause rule.relation (instance_of rule r.rows rows) else None
+    if (length rows == rule.vars) && of_one_entity r.rows rows then instance_clause rule.relation
+    (instance_of rule r.rows rows) else None
 
 -- of two mapped rows at a place: their sources do not stand in this order, or they do
 abbrev pub place_clause : CopyFunction → RowId → RowId → RowId → RowId → Option Place → Option (List Signed)
@@ -217,7 +219,8 @@ of_rule s rows (Some rule) = in_relation s.relations rule.relation (rule_clause 
 abbrev pub of_copy : Spec → ℕ → RowId → RowId → Option CopyFunction → Option (List Signed)
 of_copy s place first second None = None
 of_copy s place first second (Some copy) =
-    in_relation s.relations copy.target (λ target. in_relation s.relations copy.source (copy_clause copy place first second target))
+    in_relation s.relations copy.target (λ target. in_relation s.relations copy.source
+    (copy_clause copy place first second target))
 
 -- what a disjunct gives, if it is there
 abbrev pub of_disjunct : List Relation → List (List Value) → List EntId → List Value → Option Disjunct → Option (List Signed)
@@ -233,7 +236,8 @@ of_query relations answers disjunct entities values (Some q) =
 -- the clause of a label; a label whose condition does not hold has none, and so has a match where no query is asked
 abbrev pub axiom_of : Spec → Posed → Label → Option (List Signed)
 axiom_of s posed (label.Given rel attr earlier later) = in_relation s.relations rel (given_clause rel attr earlier later)
-axiom_of s posed (label.Transitive rel attr first second third) = in_relation s.relations rel (transitive_clause rel attr first second third)
+axiom_of s posed (label.Transitive rel attr first second third) = in_relation s.relations rel
+    (transitive_clause rel attr first second third)
 axiom_of s posed (label.Rule rule rows) = of_rule s rows (slice_get s.rules rule.0)
 axiom_of s posed (label.Copy copy place first second) = of_copy s place first second (slice_get s.copies copy.0)
 axiom_of s posed (label.Above rel attr row other) = in_relation s.relations rel (above_clause rel attr row other)
@@ -268,7 +272,8 @@ says_same relations a b = by a.statement b.statement
         same_place rel attr rel' attr' && (row.0 == row'.0) && same_sign a.negative b.negative
     by (says.Last rel attr row) (says.Last rel' attr' row') =
         same_place rel attr rel' attr' && same_sign a.negative b.negative
-        && same_entity (rows_in (slice_get relations rel.0)) row row' && same_value (rows_in (slice_get relations rel.0)) attr.0 row row'
+        && same_entity (rows_in (slice_get relations rel.0)) row row' && same_value
+        (rows_in (slice_get relations rel.0)) attr.0 row row'
     by (says.Answer tuple) (says.Answer tuple') = (tuple == tuple') && same_sign a.negative b.negative
     by s t = false
 

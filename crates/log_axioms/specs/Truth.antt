@@ -16,7 +16,8 @@ use Rattle.refutation_log.specs.declared.statement.Statement.TheVariants.{Before
 
 -- what a literal of a log with these statements says, if its variable is one of them
 abbrev pub meaning : List Statement → Lit → Option Signed
-meaning statements lit = option_map (λ s. record { statement = s; negative = is_negative lit }) (slice_get statements (var_of lit))
+meaning statements lit = option_map (λ s. record { statement = s; negative = is_negative lit })
+    (slice_get statements (var_of lit))
 
 -- ---- truth in a completion
 
@@ -63,7 +64,8 @@ LitHolds relations c answers statements lit = of (meaning statements lit)
     of None = is_negative lit ≡ true
 
 -- a clause is true in a completion: one of its literals is
-pub record ClauseHolds (relations : List Relation) (c : Rankings) (answers : ℕ → Type 0) (statements : List Statement) (clause : List Lit) : Type 0 where
+pub record ClauseHolds (relations : List Relation) (c : Rankings) (answers : ℕ → Type 0)
+    (statements : List Statement) (clause : List Lit) : Type 0 where
   pub lit : Lit
   pub is_in : Contains clause lit
   pub is_true : LitHolds relations c answers statements lit

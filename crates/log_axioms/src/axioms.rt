@@ -44,7 +44,11 @@ impl<'a> Model for Axioms<'a> {
 
     ghost Value = { Basis };
 
-    ghost view = { λ a. record { spec = a.spec.now; posed = record { query = option_map (λ q. q.now) a.query; answers = a.answers } } };
+    ghost view = { λ a. record {
+      spec = a.spec.now;
+      posed =
+          record { query = option_map (λ q. q.now) a.query; answers = a.answers };
+    } };
 
     ghost invariant = { λ a. AreIndexed a.spec.now.relations a.index };
 }
@@ -58,7 +62,11 @@ impl<'a> Axioms<'a> {
         query: Option<&'a Query>,
         answers: &'a [Tuple],
     ) -> Result<Axioms<'a>, NoMemory>
-        ensures { IfOk result (λ axioms. axioms ≡ record { spec = spec.now; posed = record { query = option_map (λ q. q.now) query.entry; answers = answers.now } }) }
+        ensures { IfOk result (λ axioms. axioms ≡ record {
+          spec = spec.now;
+          posed =
+              record { query = option_map (λ q. q.now) query.entry; answers = answers.now };
+        }) }
     {
         let index = entity_index(alloc, spec.relations())?;
         Ok(Axioms {
@@ -79,7 +87,8 @@ impl<'a> Axioms<'a> {
         label: LabelRef<'_>,
         lits: &[Lit],
     ) -> Result<bool, NoMemory>
-        ensures { IfOk result (λ answer. answer ≡ is_axiom self.now.spec self.now.posed statements.now (label_of label.entry) lits.now) }
+        ensures { IfOk result (λ answer. answer ≡ is_axiom self.now.spec self.now.posed statements.now
+            (label_of label.entry) lits.now) }
     {
         match self.clause_of(label)? {
             Some(clause) => Ok(is_clause(
@@ -156,13 +165,15 @@ impl Axioms<'_> {
     // The rows of the entities of a relation.
     fn members(&self, rel: RelId) -> &EntityRows
         requires { rel.0 < length self.now.spec.relations }
-        ensures { (r : Relation) → slice_get self.now.spec.relations rel.0 ≡ Some r → AreEntityRows r.rows (length r.entities) result.now }
+        ensures { (r : Relation) → slice_get self.now.spec.relations rel.0 ≡ Some r → AreEntityRows r.rows
+            (length r.entities) result.now }
     {
         self.index.get(rel.0 as usize)
     }
 
     fn given(&self, rel: RelId, pair: Pair) -> Result<Option<SignedList>, NoMemory>
-        ensures { IfOk result (λ clause. clause ≡ in_relation self.now.spec.relations rel (given_clause rel pair.attr pair.earlier pair.later)) }
+        ensures { IfOk result (λ clause. clause ≡ in_relation self.now.spec.relations rel
+            (given_clause rel pair.attr pair.earlier pair.later)) }
     {
         match self.relation(rel) {
             Some(relation) => given_clause(self.alloc, rel, pair, relation),
@@ -178,7 +189,8 @@ impl Axioms<'_> {
         second: RowId,
         third: RowId,
     ) -> Result<Option<SignedList>, NoMemory>
-        ensures { IfOk result (λ clause. clause ≡ in_relation self.now.spec.relations rel (transitive_clause rel attr first second third)) }
+        ensures { IfOk result (λ clause. clause ≡ in_relation self.now.spec.relations rel
+            (transitive_clause rel attr first second third)) }
     {
         match self.relation(rel) {
             Some(relation) => transitive_clause(
@@ -256,7 +268,8 @@ impl Axioms<'_> {
         first: RowId,
         second: RowId,
     ) -> Result<Option<SignedList>, NoMemory>
-        ensures { IfOk result (λ clause. clause ≡ of_copy self.now.spec place first second (slice_get self.now.spec.copies copy.0)) }
+        ensures { IfOk result (λ clause. clause ≡ of_copy self.now.spec place first second
+            (slice_get self.now.spec.copies copy.0)) }
     {
         match self.spec.copies().get(copy.0 as usize) {
             Some(copy) => self.copy_of(copy, place, first, second),
@@ -288,7 +301,8 @@ impl Axioms<'_> {
         entities: &[EntId],
         values: &[Value],
     ) -> Result<Option<SignedList>, NoMemory>
-        ensures { IfOk result (λ clause. clause ≡ of_query self.now.spec.relations self.now.posed.answers disjunct entities.now values.now self.now.posed.query) }
+        ensures { IfOk result (λ clause. clause ≡ of_query self.now.spec.relations self.now.posed.answers disjunct
+            entities.now values.now self.now.posed.query) }
     {
         let Some(query) = self.query else {
             return Ok(None);

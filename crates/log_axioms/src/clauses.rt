@@ -190,7 +190,8 @@ fn add_not_before(
     row: RowId,
     members: &[RowId],
 ) -> Result<(), NoMemory>
-    ensures { OnOk result (clause.new ≡ clause.old ++ map (λ other. not_before rel attr other row) (filter (λ other. not (row.0 == other.0)) members.now)) }
+    ensures { OnOk result (clause.new ≡ clause.old ++ map (λ other. not_before rel attr other row)
+        (filter (λ other. not (row.0 == other.0)) members.now)) }
 {
     for other in members {
         push_if(
@@ -211,7 +212,8 @@ fn add_alike(
     relation: &Relation,
     members: &[RowId],
 ) -> Result<(), NoMemory>
-    ensures { OnOk result (clause.new ≡ clause.old ++ map (top rel attr) (filter (same_value relation.now.rows attr.0 row) members.now)) }
+    ensures { OnOk result (clause.new ≡ clause.old ++ map (top rel attr)
+        (filter (same_value relation.now.rows attr.0 row) members.now)) }
 {
     for other in members {
         let wanted = same_value(relation.rows.as_slice(), attr, row, *other);

@@ -16,7 +16,8 @@ use Rattle.log_checker.specs.Shown.{Shown, is_empty, is_unit, shows_unit, IsShow
 use Rattle.log_checker.specs.declared.fault.LogFault.{LogFault}
 
 -- the steps before a place are accepted, the replay has their clauses, and exactly what they show is shown
-pub record IsJudged (s : Spec) (posed : Posed) (statements : List Statement) (steps : List Step) (place : ℕ) (replay : List (List Lit)) (shown : Shown) : Type 0 where
+pub record IsJudged (s : Spec) (posed : Posed) (statements : List Statement) (steps : List Step) (place : ℕ)
+    (replay : List (List Lit)) (shown : Shown) : Type 0 where
   pub clauses : replay ≡ clauses_of (take place steps)
   pub accepted : AreAccepted s posed statements (take place steps)
   pub shown_by : IsShownBy (clauses_of (take place steps)) shown
@@ -62,7 +63,8 @@ in_front (y ∷ xs) (suc k) zero x e = (omega arith, e)
 in_front (y ∷ xs) (suc k) (suc i) x e = let rest = in_front xs k i x e in (let below = rest.0 in omega arith, rest.1)
 
 -- what stands at a place of all stands there in the first ones, if they are more
-pub within_front : {A : Type 0} (xs : List A) (k i : ℕ) (x : A) → i < k → slice_get xs i ≡ Some x → slice_get (take k xs) i ≡ Some x
+pub within_front : {A : Type 0} (xs : List A) (k i : ℕ) (x : A) → i < k → slice_get xs i ≡ Some x
+    → slice_get (take k xs) i ≡ Some x
 within_front [] k i x h e = cc
 within_front (y ∷ xs) zero i x h e = absurd (omega arith)
 within_front (y ∷ xs) (suc k) zero x h e = e
@@ -77,7 +79,8 @@ take_front (y ∷ xs) zero (suc i) h = absurd (omega arith)
 take_front (y ∷ xs) (suc k) (suc i) h = ap (λ ys. y ∷ ys) (take_front xs k i (omega arith))
 
 -- where the step at a place is accepted after those before it, these and it are
-pub accepted_more : (s : Spec) (posed : Posed) (statements : List Statement) (steps : List Step) (k : ℕ) (step : Step) → slice_get steps k ≡ Some step
+pub accepted_more : (s : Spec) (posed : Posed) (statements : List Statement) (steps : List Step) (k : ℕ)
+    (step : Step) → slice_get steps k ≡ Some step
     → AreAccepted s posed statements (take k steps) → IsAcceptedStep s posed statements (clauses_of (take k steps)) step
     → AreAccepted s posed statements (take (k + 1) steps)
 accepted_more s posed statements steps k step at before here i x e =
@@ -98,7 +101,8 @@ accepted_more s posed statements steps k step at before here i x e =
     ]
 
 -- the clauses with one more show what is shown with one more
-pub shown_more : (clauses : List (List Lit)) (clause : List Lit) (old new : Shown) → IsShownBy clauses old → ShowsMore old new clause
+pub shown_more : (clauses : List (List Lit)) (clause : List Lit) (old new : Shown) → IsShownBy clauses old
+    → ShowsMore old new clause
     → IsShownBy (clauses ++ clause ∷ []) new
 shown_more clauses clause old new is more =
     record {
@@ -106,31 +110,41 @@ shown_more clauses clause old new is more =
       empty = more.empty ∙ ap (λ b. b || is_empty clause) is.empty ∙ sym (any_push is_empty clauses clause);
     }
 
-pub judged_more : (s : Spec) (posed : Posed) (statements : List Statement) (steps : List Step) (k : ℕ) (step : Step) (lits : List Lit)
-    → (replay replay' : List (List Lit)) (shown shown' : Shown) → slice_get steps k ≡ Some step → slice_get (clauses_of steps) k ≡ Some lits
+pub judged_more : (s : Spec) (posed : Posed) (statements : List Statement) (steps : List Step) (k : ℕ) (step : Step)
+    (lits : List Lit)
+    → (replay replay' : List (List Lit)) (shown shown' : Shown) → slice_get steps k ≡ Some step
+    → slice_get (clauses_of steps) k ≡ Some lits
     → IsJudged s posed statements steps k replay shown → IsAcceptedStep s posed statements replay step
-    → replay' ≡ replay ++ clause_of step ∷ [] → ShowsMore shown shown' lits → IsJudged s posed statements steps (k + 1) replay' shown'
+    → replay' ≡ replay ++ clause_of step ∷ [] → ShowsMore shown shown' lits → IsJudged s posed statements steps
+    (k + 1) replay' shown'
 judged_more s posed statements steps k step lits replay replay' shown shown' at at_lits judged accepted added more =
     let is_clause : clause_of step ≡ lits =
-    (let both : Some (clause_of step) ≡ Some lits = sym (slice_get-map clause_of steps k ∙ ap (option_map clause_of) at) ∙ at_lits in cc) in
-    let clauses : clauses_of (take (k + 1) steps) ≡ clauses_of (take k steps) ++ clause_of step ∷ [] = clauses_more steps k step at in
+    (let both : Some (clause_of step) ≡ Some lits = sym (slice_get-map clause_of steps k ∙ ap (option_map clause_of)
+    at) ∙ at_lits in cc) in
+    let clauses : clauses_of (take (k + 1) steps) ≡ clauses_of (take k steps) ++ clause_of step ∷ [] =
+    clauses_more steps k step at in
     record {
       clauses = added ∙ ap (λ cs. cs ++ clause_of step ∷ []) judged.clauses ∙ sym clauses;
       accepted = accepted_more s posed statements steps k step at judged.accepted
           (subst (λ cs. IsAcceptedStep s posed statements cs step) judged.clauses accepted);
       shown_by = subst (λ cs. IsShownBy cs shown') (sym clauses)
-          (shown_more (clauses_of (take k steps)) (clause_of step) shown shown' judged.shown_by (subst (ShowsMore shown shown') (sym is_clause) more));
+          (shown_more (clauses_of (take k steps)) (clause_of step) shown shown' judged.shown_by
+          (subst (ShowsMore shown shown') (sym is_clause) more));
       room = more.room ∙ judged.room;
     }
 
 -- nothing is judged yet
 pub judged_none : (s : Spec) (posed : Posed) (statements : List Statement) (steps : List Step) (shown : Shown)
-    → shown ≡ record { units = replicate (2 * length statements) false; empty = false } → IsJudged s posed statements steps 0 [] shown
+    → shown ≡ record { units = replicate (2 * length statements) false; empty = false } → IsJudged s posed statements
+    steps 0 [] shown
 judged_none s posed statements steps shown begun =
     record {
       clauses = refl;
       accepted = λ place step e. cc;
-      shown_by = record { unit = λ lit. ap (λ sh. shows_unit sh lit) begun ∙ none (2 * length statements) lit.0; empty = ap (λ sh. sh.empty) begun };
+      shown_by = record {
+        unit = λ lit. ap (λ sh. shows_unit sh lit) begun ∙ none (2 * length statements) lit.0;
+        empty = ap (λ sh. sh.empty) begun;
+      };
       room = ap (λ sh. length sh.units) begun ∙ count (2 * length statements);
     }
   where
@@ -144,11 +158,16 @@ judged_none s posed statements steps shown begun =
     count (suc n) = ap suc (count n)
 
 -- all steps are judged
-pub judged_all : (s : Spec) (posed : Posed) (statements : List Statement) (steps : List Step) (k : ℕ) (replay : List (List Lit)) (shown : Shown)
-    → length steps ≤ k → IsJudged s posed statements steps k replay shown → AreAccepted s posed statements steps × IsShownBy (clauses_of steps) shown
+pub judged_all : (s : Spec) (posed : Posed) (statements : List Statement) (steps : List Step) (k : ℕ)
+    (replay : List (List Lit)) (shown : Shown)
+    → length steps ≤ k → IsJudged s posed statements steps k replay shown → AreAccepted s posed statements steps ×
+    IsShownBy (clauses_of steps) shown
 judged_all s posed statements steps k replay shown past judged =
-    let all : take k steps ≡ steps = whole steps k past in
-    (subst (AreAccepted s posed statements) all judged.accepted, subst (λ ys. IsShownBy (clauses_of ys) shown) all judged.shown_by)
+    let all : take k steps ≡ steps = whole steps k past in (
+      subst (AreAccepted s posed statements) all judged.accepted,
+      subst (λ ys. IsShownBy (clauses_of ys) shown) all
+          judged.shown_by,
+    )
   where
     whole : {A : Type 0} (xs : List A) (k : ℕ) → length xs ≤ k → take k xs ≡ xs
     whole [] zero h = refl
@@ -157,14 +176,24 @@ judged_all s posed statements steps k replay shown past judged =
     whole (y ∷ xs) (suc k) h = ap (λ ys. y ∷ ys) (whole xs k (omega arith))
 
 -- the step at a place fails, and those before it are accepted
-pub first_fault : (s : Spec) (posed : Posed) (statements : List Statement) (steps : List Step) (k : ℕ) (step : Step) (replay : List (List Lit)) (shown : Shown) (fault : LogFault)
-    → slice_get steps k ≡ Some step → IsJudged s posed statements steps k replay shown → FailsAt s posed statements replay k step fault
+pub first_fault : (s : Spec) (posed : Posed) (statements : List Statement) (steps : List Step) (k : ℕ) (step : Step)
+    (replay : List (List Lit)) (shown : Shown) (fault : LogFault)
+    → slice_get steps k ≡ Some step → IsJudged s posed statements steps k replay shown → FailsAt s posed statements
+    replay k step fault
     → FailsFirst s posed statements steps fault
 first_fault s posed statements steps k step replay shown fault at judged fails =
-    record { place = k; step = step; is_step = at; earlier = judged.accepted; fails = subst (λ cs. FailsAt s posed statements cs k step fault) judged.clauses fails }
+    record {
+      place = k;
+      step = step;
+      is_step = at;
+      earlier = judged.accepted;
+      fails =
+          subst (λ cs. FailsAt s posed statements cs k step fault) judged.clauses fails;
+    }
 
 -- a step's hints are few, and its literals have room
 pub few_hints_at : (statements : List Statement) (steps : List Step) (k : ℕ) (step : Step) → IsNumbered statements steps
     → slice_get steps k ≡ Some step → HasFewHints step
 few_hints_at statements steps k step numbered at =
-    subst HasFewHints (get_or_from_slice_get steps k step step at) (All-get_or HasFewHints steps k step (slice_get_within steps k step at) numbered.few_hints)
+    subst HasFewHints (get_or_from_slice_get steps k step step at)
+    (All-get_or HasFewHints steps k step (slice_get_within steps k step at) numbered.few_hints)

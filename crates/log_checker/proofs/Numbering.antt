@@ -29,7 +29,8 @@ both : (a b : Bool) → (a && b) ≡ true → (a ≡ true) × (b ≡ true)
 both true b e = (refl, e)
 both false b e = cc
 
-each : {A : Type 0} (p : A → Bool) (P : A → Type 0) → ((x : A) → p x ≡ true → P x) → (xs : List A) → list_all p xs ≡ true → All P xs
+each : {A : Type 0} (p : A → Bool) (P : A → Type 0) → ((x : A) → p x ≡ true → P x) → (xs : List A)
+    → list_all p xs ≡ true → All P xs
 each p P says [] e = All-nil P
 each p P says (x ∷ xs) e = let h = both (p x) (list_all p xs) e in All-cons P x xs (says x h.0) (each p P says xs h.1)
 
@@ -45,9 +46,11 @@ module _ (n : ℕ) where
   few_hints : (step : Step) → is_numbered_step n step ≡ true → HasFewHints step
   few_hints (Axiom l lits) e = tt
   few_hints (OnDemand l lits) e = tt
-  few_hints (Learn lits hints counted) e = ltb-true (length hints) (2 ^ 32) (both (are_within n lits) (nat_lt (length hints) (2 ^ 32)) e).1
+  few_hints (Learn lits hints counted) e = ltb-true (length hints) (2 ^ 32)
+      (both (are_within n lits) (nat_lt (length hints) (2 ^ 32)) e).1
 
-pub numbered_by_test : (statements : List Statement) (steps : List Step) → is_numbered statements steps ≡ true → IsNumbered statements steps
+pub numbered_by_test : (statements : List Statement) (steps : List Step) → is_numbered statements steps ≡ true
+    → IsNumbered statements steps
 numbered_by_test statements steps e =
     let n = length statements in
     let all = both (nat_lt n (2 ^ 32) && nat_lt (length steps) (2 ^ 32)) (list_all (is_numbered_step n) steps) e in

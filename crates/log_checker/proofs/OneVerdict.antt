@@ -31,7 +31,8 @@ module _ (s : Spec) (posed : Posed) (statements : List Statement) where
   axiom_fails at l lits (UnknownHint step) passed fails = fails
   axiom_fails at l lits NoMemory passed fails = fails
 
-  follow_fails : (earlier : List (List Lit)) (at : ℕ) (lits : List Lit) (hints : List ℕ) (fault : LogFault) → FollowsFrom earlier lits hints
+  follow_fails : (earlier : List (List Lit)) (at : ℕ) (lits : List Lit) (hints : List ℕ) (fault : LogFault)
+      → FollowsFrom earlier lits hints
       → FailsToFollow earlier at lits hints fault → ⊥
   follow_fails earlier at lits hints (NotAnAxiom step) from fails = fails
   follow_fails earlier at lits hints (NotDerived step place) from fails =
@@ -39,10 +40,12 @@ module _ (s : Spec) (posed : Posed) (statements : List Statement) where
         | inl unit ↦ follows_not_refused earlier lits hints (cause.NotUnit place) from unit
         | inr none ↦ follows_not_refused earlier lits hints cause.NoConflict from none.0
       ]
-  follow_fails earlier at lits hints (UnknownHint step) from fails = follows_not_refused earlier lits hints (cause.UnknownHint fails.1.0) from fails.1.1
+  follow_fails earlier at lits hints (UnknownHint step) from fails = follows_not_refused earlier lits hints
+      (cause.UnknownHint fails.1.0) from fails.1.1
   follow_fails earlier at lits hints NoMemory from fails = fails
 
-  step_fails : (earlier : List (List Lit)) (at : ℕ) (step : Step) (fault : LogFault) → IsAcceptedStep s posed statements earlier step
+  step_fails : (earlier : List (List Lit)) (at : ℕ) (step : Step) (fault : LogFault) → IsAcceptedStep s posed
+      statements earlier step
       → FailsAt s posed statements earlier at step fault → ⊥
   step_fails earlier at (Axiom l lits) fault passed fails = axiom_fails at l lits fault passed fails
   step_fails earlier at (OnDemand l lits) fault passed fails = axiom_fails at l lits fault passed fails
@@ -62,7 +65,8 @@ module _ (s : Spec) (posed : Posed) (statements : List Statement) where
   not_derived m n p q e h = ap (λ k. NotDerived k p) e ∙ ap (NotDerived n) h
 
   module _ (earlier : List (List Lit)) (lits : List Lit) (hints : List ℕ) where
-    same_cause : (one other : StepFault) → IsStepRefusal earlier lits hints one → IsStepRefusal earlier lits hints other → one ≡ other
+    same_cause : (one other : StepFault) → IsStepRefusal earlier lits hints one → IsStepRefusal earlier lits hints
+        other → one ≡ other
     same_cause one other f g = one_refusal earlier lits hints one other f g
 
     same_place : (p q : ℕ) → (IsNoUnit earlier lits hints p ⊎ (ComesToNoConflict earlier lits hints × (p ≡ length hints)))
@@ -77,7 +81,8 @@ module _ (s : Spec) (posed : Posed) (statements : List Statement) where
     not_unknown p q (inl f) g = absurd (let same = same_cause (cause.NotUnit p) (cause.UnknownHint q) f g in cc)
     not_unknown p q (inr f) g = absurd (let same = same_cause cause.NoConflict (cause.UnknownHint q) f.0 g in cc)
 
-    same_follow_fault : (at : ℕ) (one other : LogFault) → FailsToFollow earlier at lits hints one → FailsToFollow earlier at lits hints other → one ≡ other
+    same_follow_fault : (at : ℕ) (one other : LogFault) → FailsToFollow earlier at lits hints one
+        → FailsToFollow earlier at lits hints other → one ≡ other
     same_follow_fault at (NotAnAxiom m) other f g = absurd f
     same_follow_fault at (NotDerived m p) (NotAnAxiom n) f g = absurd g
     same_follow_fault at (NotDerived m p) (NotDerived n q) f g = not_derived m n p q (f.0 ∙ sym g.0) (same_place p q f.1 g.1)
@@ -89,7 +94,8 @@ module _ (s : Spec) (posed : Posed) (statements : List Statement) where
     same_follow_fault at (UnknownHint m) NoMemory f g = absurd g
     same_follow_fault at NoMemory other f g = absurd f
 
-  same_fault : (earlier : List (List Lit)) (at : ℕ) (step : Step) (one other : LogFault) → FailsAt s posed statements earlier at step one
+  same_fault : (earlier : List (List Lit)) (at : ℕ) (step : Step) (one other : LogFault) → FailsAt s posed statements
+      earlier at step one
       → FailsAt s posed statements earlier at step other → one ≡ other
   same_fault earlier at (Axiom l lits) one other f g = same_axiom_fault at l lits one other f g
   same_fault earlier at (OnDemand l lits) one other f g = same_axiom_fault at l lits one other f g
@@ -97,12 +103,15 @@ module _ (s : Spec) (posed : Posed) (statements : List Statement) where
 
   -- ---- a log
 
-  pub accepted_has_no_fault : (steps : List Step) (fault : LogFault) → AreAccepted s posed statements steps → FailsFirst s posed statements steps fault → ⊥
+  pub accepted_has_no_fault : (steps : List Step) (fault : LogFault) → AreAccepted s posed statements steps
+      → FailsFirst s posed statements steps fault → ⊥
   accepted_has_no_fault steps fault accepted first =
-      step_fails (clauses_of (take first.place steps)) first.place first.step fault (accepted first.place first.step first.is_step) first.fails
+      step_fails (clauses_of (take first.place steps)) first.place first.step fault
+      (accepted first.place first.step first.is_step) first.fails
 
   -- where the steps before a later place are accepted, no earlier one fails
-  earlier_fails : (steps : List Step) (one other : LogFault) (f : FailsFirst s posed statements steps one) (g : FailsFirst s posed statements steps other)
+  earlier_fails : (steps : List Step) (one other : LogFault) (f : FailsFirst s posed statements steps one)
+      (g : FailsFirst s posed statements steps other)
       → f.place < g.place → ⊥
   earlier_fails steps one other f g below =
       let at : slice_get (take g.place steps) f.place ≡ Some f.step = within_front steps g.place f.place f.step below f.is_step in
@@ -110,16 +119,19 @@ module _ (s : Spec) (posed : Posed) (statements : List Statement) where
       step_fails (clauses_of (take f.place steps)) f.place f.step one
       (subst (λ ys. IsAcceptedStep s posed statements (clauses_of ys) f.step) front (g.earlier f.place f.step at)) f.fails
 
-  at_one_place : (steps : List Step) (one other : LogFault) (f : FailsFirst s posed statements steps one) (g : FailsFirst s posed statements steps other)
+  at_one_place : (steps : List Step) (one other : LogFault) (f : FailsFirst s posed statements steps one)
+      (g : FailsFirst s posed statements steps other)
       → f.place ≡ g.place → one ≡ other
   at_one_place steps one other f g same =
-      let step : f.step ≡ g.step = (let both : Some f.step ≡ Some g.step = sym f.is_step ∙ ap (slice_get steps) same ∙ g.is_step in cc) in
+      let step : f.step ≡ g.step = (let both : Some f.step ≡ Some g.step = sym f.is_step ∙ ap (slice_get steps) same
+      ∙ g.is_step in cc) in
       let fails : FailsAt s posed statements (clauses_of (take f.place steps)) f.place f.step other =
       subst (λ x. FailsAt s posed statements (clauses_of (take f.place steps)) f.place x other) (sym step)
       (subst (λ n. FailsAt s posed statements (clauses_of (take n steps)) n g.step other) (sym same) g.fails) in
       same_fault (clauses_of (take f.place steps)) f.place f.step one other f.fails fails
 
-  pub one_first_fault : (steps : List Step) (one other : LogFault) → FailsFirst s posed statements steps one → FailsFirst s posed statements steps other → one ≡ other
+  pub one_first_fault : (steps : List Step) (one other : LogFault) → FailsFirst s posed statements steps one
+      → FailsFirst s posed statements steps other → one ≡ other
   one_first_fault steps one other f g =
       elim (cases_order f.place g.place) [
         | inl same ↦ at_one_place steps one other f g same
@@ -129,7 +141,8 @@ module _ (s : Spec) (posed : Posed) (statements : List Statement) where
 
   -- of an accepted log no fault but want of memory is told
   pub no_fault_where_accepted : (steps : List Step) (outcome : Result Shown LogFault) → AreAccepted s posed statements steps
-      → IfErr outcome (λ (e : LogFault). (e ≡ NoMemory) ⊎ FailsFirst s posed statements steps e) → IfErr outcome (λ (e : LogFault). e ≡ NoMemory)
+      → IfErr outcome (λ (e : LogFault). (e ≡ NoMemory) ⊎ FailsFirst s posed statements steps e) → IfErr outcome
+      (λ (e : LogFault). e ≡ NoMemory)
   no_fault_where_accepted steps (Ok shown) accepted refused = refused
   no_fault_where_accepted steps (Err fault) accepted refused =
       elim refused [ inl e ↦ e | inr first ↦ absurd (accepted_has_no_fault steps fault accepted first) ]

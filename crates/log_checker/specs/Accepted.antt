@@ -53,7 +53,8 @@ FailsAt s posed statements earlier at (OnDemand label lits) fault = FailsAsAxiom
 FailsAt s posed statements earlier at (Learn lits hints counted) fault = FailsToFollow earlier at lits hints fault
 
 -- what fails first of steps: those before are accepted, and the one at this place fails
-pub record FailsFirst (s : Spec) (posed : Posed) (statements : List Statement) (steps : List Step) (fault : LogFault) : Type 0 where
+pub record FailsFirst (s : Spec) (posed : Posed) (statements : List Statement) (steps : List Step)
+    (fault : LogFault) : Type 0 where
   pub place : ℕ
   pub step : Step
   pub is_step : slice_get steps place ≡ Some step

@@ -27,7 +27,8 @@ pub fn check(
     requires { IsNumbered log.now.statements log.now.steps }
     ensures accepted { IfOk result (λ _. IsAccepted spec.now (option_map (λ q. q.now) query.entry) log.now) }
     ensures shown { IfOk result (IsShownBy (clauses_of log.now.steps)) }
-    ensures refused { IfErr result (λ e. (e ≡ fault.NoMemory) ⊎ IsFirstFault spec.now (option_map (λ q. q.now) query.entry) log.now e) }
+    ensures refused { IfErr result (λ e. (e ≡ fault.NoMemory) ⊎ IsFirstFault spec.now
+        (option_map (λ q. q.now) query.entry) log.now e) }
     ensures exact { IsAccepted spec.now (option_map (λ q. q.now) query.entry) log.now → IfErr result (λ e. e ≡ fault.NoMemory) }
 {
     judged(alloc, spec, query, log)
@@ -43,7 +44,8 @@ fn judged(
     requires { IsNumbered log.now.statements log.now.steps }
     ensures accepted { IfOk result (λ _. IsAccepted spec.now (option_map (λ q. q.now) query.entry) log.now) }
     ensures shown { IfOk result (IsShownBy (clauses_of log.now.steps)) }
-    ensures refused { IfErr result (λ e. (e ≡ fault.NoMemory) ⊎ IsFirstFault spec.now (option_map (λ q. q.now) query.entry) log.now e) }
+    ensures refused { IfErr result (λ e. (e ≡ fault.NoMemory) ⊎ IsFirstFault spec.now
+        (option_map (λ q. q.now) query.entry) log.now e) }
 {
     let Ok(axioms) = Axioms::new(alloc, spec, query, log.answers.as_slice()) else {
         return Err(LogFault::NoMemory);
@@ -72,7 +74,8 @@ fn check_steps(
     requires begun { checked ≡ record { units = replicate (2 * length statements.now) false; empty = false } }
     ensures accepted { IfOk result (λ _. AreAccepted axioms.now.spec axioms.now.posed statements.now steps.now) }
     ensures shown { IfOk result (IsShownBy (clauses_of steps.now)) }
-    ensures refused { IfErr result (λ e. (e ≡ fault.NoMemory) ⊎ FailsFirst axioms.now.spec axioms.now.posed statements.now steps.now e) }
+    ensures refused { IfErr result (λ e. (e ≡ fault.NoMemory) ⊎ FailsFirst axioms.now.spec axioms.now.posed
+        statements.now steps.now e) }
 {
     let mut replay = Replay::new(alloc);
     for place in 0..steps.len() {

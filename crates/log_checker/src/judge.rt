@@ -21,9 +21,11 @@ pub(crate) fn judge(
     step: StepRef<'_>,
 ) -> Result<(), LogFault>
     requires { HasFewHints (step_of step) }
-    ensures accepted { OnOk result (IsAcceptedStep axioms.now.spec axioms.now.posed statements.now replay.old (step_of step.entry)) }
+    ensures accepted { OnOk result (IsAcceptedStep axioms.now.spec axioms.now.posed statements.now replay.old
+        (step_of step.entry)) }
     ensures added { OnOk result (replay.new ≡ replay.old ++ clause_of (step_of step.entry) ∷ []) }
-    ensures fails { IfErr result (λ e. (e ≡ fault.NoMemory) ⊎ FailsAt axioms.now.spec axioms.now.posed statements.now replay.old at (step_of step.entry) e) }
+    ensures fails { IfErr result (λ e. (e ≡ fault.NoMemory) ⊎ FailsAt axioms.now.spec axioms.now.posed statements.now
+        replay.old at (step_of step.entry) e) }
 {
     match step {
         StepRef::Axiom { label, lits } => judge_axiom(axioms, statements, replay, at, label, lits),
@@ -43,9 +45,11 @@ fn judge_axiom(
     label: LabelRef<'_>,
     lits: &[Lit],
 ) -> Result<(), LogFault>
-    ensures accepted { OnOk result (is_axiom axioms.now.spec axioms.now.posed statements.now (label_of label.entry) lits.now ≡ true) }
+    ensures accepted { OnOk result (is_axiom axioms.now.spec axioms.now.posed statements.now (label_of label.entry)
+        lits.now ≡ true) }
     ensures added { OnOk result (replay.new ≡ replay.old ++ lits.now ∷ []) }
-    ensures fails { IfErr result (λ e. (e ≡ fault.NoMemory) ⊎ FailsAsAxiom axioms.now.spec axioms.now.posed statements.now at (label_of label.entry) lits.now e) }
+    ensures fails { IfErr result (λ e. (e ≡ fault.NoMemory) ⊎ FailsAsAxiom axioms.now.spec axioms.now.posed
+        statements.now at (label_of label.entry) lits.now e) }
 {
     let Ok(is_axiom) = axioms.is_axiom(statements, label, lits) else {
         return Err(LogFault::NoMemory);

@@ -27,7 +27,8 @@ lits_within n (lit ∷ lits) e =
     All-cons (λ lit. var_of lit < n) lit lits (ltb-true (var_of lit) n h.0) (lits_within n lits h.1)
 
 -- where a choice between another fault and this one is none, the test is true and the other is none
-not_this : (b : Bool) (other : Option FormFault) (this : FormFault) → (if b then other else Some this) ≡ None → (b ≡ true) × (other ≡ None)
+not_this : (b : Bool) (other : Option FormFault) (this : FormFault) → (if b then other else Some this) ≡ None →
+    (b ≡ true) × (other ≡ None)
 not_this true other this e = (refl, e)
 not_this false other this e = cc
 
@@ -36,7 +37,8 @@ steps_within : (n at : ℕ) (steps : List Step) → steps_fault n at steps ≡ N
 steps_within n at [] e = All-nil (λ step. All (λ lit. var_of lit < n) (clause_of step))
 steps_within n at (step ∷ steps) e =
     let h = not_this (is_step_within n step) (steps_fault n (at + 1) steps) (fault.Step at) e in
-    All-cons (λ step. All (λ lit. var_of lit < n) (clause_of step)) step steps (lits_within n (clause_of step) h.0) (steps_within n (at + 1) steps h.1)
+    All-cons (λ step. All (λ lit. var_of lit < n) (clause_of step)) step steps (lits_within n (clause_of step) h.0)
+    (steps_within n (at + 1) steps h.1)
 
 -- without one fault or another, there is no other
 no_other : (one other : Option FormFault) → or_else one other ≡ None → other ≡ None
@@ -44,7 +46,8 @@ no_other (Some f) other e = cc
 no_other None other e = e
 
 -- the literals of a well-formed log are of its statements
-pub form_within : (relations : List Relation) (log : Log) → first_fault relations log ≡ None → AreWithin (length log.statements) log.steps
+pub form_within : (relations : List Relation) (log : Log) → first_fault relations log ≡ None
+    → AreWithin (length log.statements) log.steps
 form_within relations log e =
     steps_within (length log.statements) 0 log.steps
     (no_other (statements_fault relations log.answers 0 None log.statements) (steps_fault (length log.statements) 0 log.steps) e)

@@ -104,7 +104,8 @@ is_row rows row = nat_lt row.0 (length rows)
 
 -- the rows of a statement are there
 abbrev pub has_rows : List Relation → Statement → Bool
-has_rows relations (Before rel attr earlier later) = is_row (rows_of relations rel) earlier && is_row (rows_of relations rel) later
+has_rows relations (Before rel attr earlier later) = is_row (rows_of relations rel) earlier
+    && is_row (rows_of relations rel) later
 has_rows relations (Top rel attr row) = is_row (rows_of relations rel) row
 has_rows relations (Last rel attr row) = is_row (rows_of relations rel) row
 has_rows relations (Answer tuple) = true

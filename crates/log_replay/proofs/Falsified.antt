@@ -45,7 +45,11 @@ pub falsifies_with_open : (start : List Lit) (clauses : List (List Lit)) (clause
     → Falsifies start clauses falses
     → IsOnlyOpen falses clause lit → Falsifies start (clauses ++ clause ∷ []) (falses ++ negation lit ∷ [])
 falsifies_with_open start [] clause falses lit same only =
-    inr (lit, subst (λ (f : List Lit). IsOnlyOpen f clause lit) (sym same) only, ap (λ (f : List Lit). f ++ negation lit ∷ []) same)
+    inr (
+      lit,
+      subst (λ (f : List Lit). IsOnlyOpen f clause lit) (sym same) only,
+      ap (λ (f : List Lit). f ++ negation lit ∷ []) same,
+    )
 falsifies_with_open start (c ∷ clauses) clause falses lit (inl h) only =
     inl (h.0, falsifies_with_open start clauses clause falses lit h.1 only)
 falsifies_with_open start (c ∷ clauses) clause falses lit (inr h) only =
@@ -74,7 +78,8 @@ passed_open : (start c : List Lit) (before : List (List Lit)) (clause : List Lit
 passed_open start c before clause lit only rest =
     record { falses = rest.falses; falsified = inr (lit, only, rest.falsified); leaves = rest.leaves }
 
-pub falsifies_up_to : (start : List Lit) (before : List (List Lit)) (clause : List Lit) (after : List (List Lit)) (falses : List Lit)
+pub falsifies_up_to : (start : List Lit) (before : List (List Lit)) (clause : List Lit) (after : List (List Lit))
+    (falses : List Lit)
     → Falsifies start (before ++ clause ∷ after) falses → ArePassed start before clause
 falsifies_up_to start [] clause after falses all =
     record { falses = start; falsified = refl; leaves = passed_first start clause after falses all }

@@ -65,7 +65,8 @@ unknown_not_passed : (earlier : List (List Lit)) (clause : List Lit) (hints : Li
     → IsUnknownHint earlier clause hints place
     → IsPassed earlier clause hints place → ⊥
 unknown_not_passed earlier clause hints place is_unknown passed =
-    let same : is_unknown.hint ≡ passed.hint = same_hint hints place is_unknown.hint passed.hint is_unknown.is_hint passed.is_hint in
+    let same : is_unknown.hint ≡ passed.hint = same_hint hints place is_unknown.hint passed.hint is_unknown.is_hint
+    passed.is_hint in
     let below : passed.hint < length earlier = passed.known in
     let above : length earlier ≤ is_unknown.hint = is_unknown.unknown in
     omega arith
@@ -142,16 +143,20 @@ one_no_unit : (earlier : List (List Lit)) (clause : List Lit) (hints : List ℕ)
     → IsNoUnit earlier clause hints other → place ≡ other
 one_no_unit earlier clause hints place other a b =
     same_place place other
-    (λ below. no_unit_not_passed earlier clause hints place a (passed_before earlier clause hints place other b.falses b.reached below))
-    (λ below. no_unit_not_passed earlier clause hints other b (passed_before earlier clause hints other place a.falses a.reached below))
+    (λ below. no_unit_not_passed earlier clause hints place a
+    (passed_before earlier clause hints place other b.falses b.reached below))
+    (λ below. no_unit_not_passed earlier clause hints other b
+    (passed_before earlier clause hints other place a.falses a.reached below))
 
 one_unknown : (earlier : List (List Lit)) (clause : List Lit) (hints : List ℕ) (place other : ℕ)
     → IsUnknownHint earlier clause hints place
     → IsUnknownHint earlier clause hints other → place ≡ other
 one_unknown earlier clause hints place other a b =
     same_place place other
-    (λ below. unknown_not_passed earlier clause hints place a (passed_before earlier clause hints place other b.falses b.reached below))
-    (λ below. unknown_not_passed earlier clause hints other b (passed_before earlier clause hints other place a.falses a.reached below))
+    (λ below. unknown_not_passed earlier clause hints place a
+    (passed_before earlier clause hints place other b.falses b.reached below))
+    (λ below. unknown_not_passed earlier clause hints other b
+    (passed_before earlier clause hints other place a.falses a.reached below))
 
 -- a known hint is not unknown
 known_or_unknown : (earlier : List (List Lit)) (hints : List ℕ) (place other one hint : ℕ) → place ≡ other
@@ -167,8 +172,10 @@ no_unit_or_unknown : (earlier : List (List Lit)) (clause : List Lit) (hints : Li
     → IsUnknownHint earlier clause hints other → ⊥
 no_unit_or_unknown earlier clause hints place other a b =
     let same : place ≡ other = same_place place other
-    (λ below. no_unit_not_passed earlier clause hints place a (passed_before earlier clause hints place other b.falses b.reached below))
-    (λ below. unknown_not_passed earlier clause hints other b (passed_before earlier clause hints other place a.falses a.reached below)) in
+    (λ below. no_unit_not_passed earlier clause hints place a
+    (passed_before earlier clause hints place other b.falses b.reached below))
+    (λ below. unknown_not_passed earlier clause hints other b
+    (passed_before earlier clause hints other place a.falses a.reached below)) in
     known_or_unknown earlier hints place other a.hint b.hint same a.is_hint a.known b.is_hint b.unknown
 
 -- a hint that fails before the last, or at it, stands within the hints
@@ -185,7 +192,8 @@ no_unit_or_conflict earlier clause hints place a (inl none) = hint_within hints 
 no_unit_or_conflict earlier clause hints place a (inr b) =
     let is_last : b.place + 1 ≡ length hints = b.is_last in
     let before : place + 1 < length hints = a.not_last in
-    no_unit_not_passed earlier clause hints place a (passed_before earlier clause hints place b.place b.falses b.reached (omega arith))
+    no_unit_not_passed earlier clause hints place a (passed_before earlier clause hints place b.place b.falses
+    b.reached (omega arith))
 
 -- a hint that is unknown is the last or stands before it
 unknown_or_last : (earlier : List (List Lit)) (clause : List Lit) (hints : List ℕ) (place last hint : ℕ) (falses : List Lit)
@@ -209,7 +217,8 @@ unknown_or_conflict earlier clause hints place a (inr b) =
     unknown_or_last earlier clause hints place b.place b.hint b.falses a b.is_last b.reached b.is_hint b.known
 
 -- a conflict is none
-conflict_at : (earlier : List (List Lit)) (clause : List Lit) (hints : List ℕ) (place one hint : ℕ) (falses found : List Lit) (lit : Lit)
+conflict_at : (earlier : List (List Lit)) (clause : List Lit) (hints : List ℕ) (place one hint : ℕ)
+    (falses found : List Lit) (lit : Lit)
     → IsReached earlier clause hints place falses → slice_get hints place ≡ Some one → AreFalse falses (clause_at earlier one)
     → IsReached earlier clause hints place found → slice_get hints place ≡ Some hint → Contains (clause_at earlier hint) lit
     → (Contains found lit → ⊥) → ⊥

@@ -34,7 +34,8 @@ pub earlier_more : (earlier : List (List Lit)) (hints : List ℕ) (place hint : 
     → hint < length earlier
     → AreEarlier earlier (take place hints) → AreEarlier earlier (take (place + 1) hints)
 earlier_more earlier hints place hint is_hint known were =
-    All-same (λ (h : ℕ). h < length earlier) (take (place + 1) hints) (take place hints ++ hint ∷ []) (taken_more hints place hint is_hint)
+    All-same (λ (h : ℕ). h < length earlier) (take (place + 1) hints) (take place hints ++ hint ∷ [])
+    (taken_more hints place hint is_hint)
     (All-push (λ (h : ℕ). h < length earlier) (take place hints) hint were known)
 
 pub reached_first : (earlier : List (List Lit)) (clause : List Lit) (hints : List ℕ) → IsReached earlier clause hints 0 clause
@@ -51,18 +52,23 @@ reached_more earlier clause hints place hint falses new reached is_hint used =
       within = omega arith;
       known = earlier_more earlier hints place hint is_hint used.0 reached.known;
       falsified =
-          subst (λ (cs : List (List Lit)). Falsifies clause cs new) (sym (clauses_more earlier hints place hint is_hint)) (go used.1);
+          subst (λ (cs : List (List Lit)). Falsifies clause cs new)
+          (sym (clauses_more earlier hints place hint is_hint)) (go used.1);
     }
   where
     go : (AreFalse falses (clause_at earlier hint) × (new ≡ falses))
         ⊎ ((lit : Lit) × IsOnlyOpen falses (clause_at earlier hint) lit × (new ≡ falses ++ negation lit ∷ []))
         → Falsifies clause (clauses_at earlier (take place hints) ++ clause_at earlier hint ∷ []) new
     go (inl h) =
-        subst (λ (f : List Lit). Falsifies clause (clauses_at earlier (take place hints) ++ clause_at earlier hint ∷ []) f) (sym h.1)
-        (falsifies_with_false clause (clauses_at earlier (take place hints)) (clause_at earlier hint) falses reached.falsified h.0)
+        subst (λ (f : List Lit). Falsifies clause (clauses_at earlier (take place hints) ++ clause_at earlier hint
+        ∷ []) f) (sym h.1)
+        (falsifies_with_false clause (clauses_at earlier (take place hints)) (clause_at earlier hint) falses
+        reached.falsified h.0)
     go (inr h) =
-        subst (λ (f : List Lit). Falsifies clause (clauses_at earlier (take place hints) ++ clause_at earlier hint ∷ []) f) (sym h.2)
-        (falsifies_with_open clause (clauses_at earlier (take place hints)) (clause_at earlier hint) falses h.0 reached.falsified h.1)
+        subst (λ (f : List Lit). Falsifies clause (clauses_at earlier (take place hints) ++ clause_at earlier hint
+        ∷ []) f) (sym h.2)
+        (falsifies_with_open clause (clauses_at earlier (take place hints)) (clause_at earlier hint) falses h.0
+        reached.falsified h.1)
 
 -- a hint that is not the last fails
 pub refused_here : (earlier : List (List Lit)) (clause : List Lit) (hints : List ℕ) (place hint : ℕ) (falses : List Lit)
@@ -71,7 +77,16 @@ pub refused_here : (earlier : List (List Lit)) (clause : List Lit) (hints : List
     → HintFails earlier falses hint place fault → IsStepRefusal earlier clause hints fault
 refused_here earlier clause hints place hint falses (NotUnit at) reached is_hint not_last fails =
     subst (λ (p : ℕ). IsNoUnit earlier clause hints p) (sym fails.0)
-    (record { falses = falses; reached = reached; hint = hint; is_hint = is_hint; known = fails.1; not_last = not_last; open_two = fails.2 })
+    (record {
+      falses = falses;
+      reached = reached;
+      hint = hint;
+      is_hint = is_hint;
+      known = fails.1;
+      not_last =
+          not_last;
+      open_two = fails.2;
+    })
 refused_here earlier clause hints place hint falses NoConflict reached is_hint not_last fails = absurd fails
 refused_here earlier clause hints place hint falses (UnknownHint at) reached is_hint not_last fails =
     subst (λ (p : ℕ). IsUnknownHint earlier clause hints p) (sym fails.0)

@@ -85,7 +85,8 @@ state_with_second falses front first lit differ is_open was = record {
 pub state_by_same : (falses front : List Lit) (first lit : Lit) (same : Bool) → same ≡ eqb first.0 lit.0 → same ≡ true
     → IsOnlyOpen falses front first → IsOnlyOpen falses (front ++ lit ∷ []) first
 state_by_same falses front first lit same tells is_same was =
-    subst (λ (l : Lit). IsOnlyOpen falses (front ++ l ∷ []) first) (same_lit first lit (eqb-true first.0 lit.0 (sym tells ∙ is_same)))
+    subst (λ (l : Lit). IsOnlyOpen falses (front ++ l ∷ []) first)
+    (same_lit first lit (eqb-true first.0 lit.0 (sym tells ∙ is_same)))
     (state_with_again falses front first was)
 
 -- a second one, by the test

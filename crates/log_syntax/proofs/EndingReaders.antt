@@ -25,27 +25,34 @@ pub ended_up_to : {A : Type 0} (k : ℕ) (stop : A → Lexeme → Bool) (test : 
     → ((x : A) → stop x t ≡ true) → test t ≡ false → ends_up_to k stop test xs t ≡ true
 ended_up_to zero stop test xs t each e = refl
 ended_up_to (suc k) stop test [] t each e = ap not e
-ended_up_to (suc k) stop test (x ∷ []) t each e = and_both (stop x t) (ends_up_to k stop test [] t) (each x) (ended_up_to k stop test [] t each e)
+ended_up_to (suc k) stop test (x ∷ []) t each e = and_both (stop x t) (ends_up_to k stop test [] t) (each x)
+    (ended_up_to k stop test [] t each e)
 ended_up_to (suc k) stop test (x ∷ y ∷ ys) t each e = ended_up_to k stop test (y ∷ ys) t each e
 
-joins_up_to : {A : Type 0} (k : ℕ) (P : A → List Lexeme → Type 0) (stop : A → Lexeme → Bool) (test : Lexeme → Bool) → Begins test true P → Ended stop test
+joins_up_to : {A : Type 0} (k : ℕ) (P : A → List Lexeme → Type 0) (stop : A → Lexeme → Bool) (test : Lexeme → Bool)
+    → Begins test true P → Ended stop test
     → Joins stop (UpTo k P) (ends_up_to k stop test) (λ (x : A × List A). ends_up_to (suc k) stop test (x.0 ∷ x.1))
 joins_up_to {A} k P stop test begins goes = record { first = first; second = second; all = all }
   where
-    first : (a : A) (xs : List A) (front rest : List Lexeme) → UpTo k P xs front → Stopped (ends_up_to (suc k) stop test (a ∷ xs)) rest
+    first : (a : A) (xs : List A) (front rest : List Lexeme) → UpTo k P xs front
+        → Stopped (ends_up_to (suc k) stop test (a ∷ xs)) rest
         → Stopped (stop a) (front ++ rest)
     first a [] front rest h m =
-        subst (λ (l : List Lexeme). Stopped (stop a) (l ++ rest)) (sym h.spelled) (stopped_first (stop a) (ends_up_to k stop test []) rest m)
-    first a (y ∷ ys) front rest h m = stopped_at_first (stop a) test (goes a) front rest (up_to_begins k P test true begins y ys front h)
+        subst (λ (l : List Lexeme). Stopped (stop a) (l ++ rest)) (sym h.spelled)
+        (stopped_first (stop a) (ends_up_to k stop test []) rest m)
+    first a (y ∷ ys) front rest h m = stopped_at_first (stop a) test (goes a) front rest
+        (up_to_begins k P test true begins y ys front h)
 
-    second : (a : A) (xs : List A) (rest : List Lexeme) → Stopped (ends_up_to (suc k) stop test (a ∷ xs)) rest → Stopped (ends_up_to k stop test xs) rest
+    second : (a : A) (xs : List A) (rest : List Lexeme) → Stopped (ends_up_to (suc k) stop test (a ∷ xs)) rest
+        → Stopped (ends_up_to k stop test xs) rest
     second a [] rest m = stopped_second (stop a) (ends_up_to k stop test []) rest m
     second a (y ∷ ys) rest m = m
 
     all : (a : A) (xs : List A) (front rest : List Lexeme) → UpTo k P xs front → Stopped (stop a) (front ++ rest)
         → Stopped (ends_up_to k stop test xs) rest → Stopped (ends_up_to (suc k) stop test (a ∷ xs)) rest
     all a [] front rest h m n =
-        stopped_both (stop a) (ends_up_to k stop test []) rest (subst (λ (l : List Lexeme). Stopped (stop a) (l ++ rest)) h.spelled m) n
+        stopped_both (stop a) (ends_up_to k stop test []) rest
+        (subst (λ (l : List Lexeme). Stopped (stop a) (l ++ rest)) h.spelled m) n
     all a (y ∷ ys) front rest h m n = n
 
 pub reads_ending_up_to : {A : Type 0} {P : A → List Lexeme → Type 0} {stop : A → Lexeme → Bool} {p : Parser A} → IsReader P stop p
@@ -54,11 +61,14 @@ pub reads_ending_up_to : {A : Type 0} {P : A → List Lexeme → Type 0} {stop :
 reads_ending_up_to {P = P} {p = p} r test begins goes zero = reads_until (no_more P test p) (λ xs tokens t h. refl)
 reads_ending_up_to {A} {P} {stop} {p} r test begins goes (suc k) =
     reads_as
-    (reads_made (reads_maybe (reads_both r (reads_ending_up_to r test begins goes k) (joins_up_to k P stop test begins goes)) test (λ x tokens h. first_then test true (begins x.0) h)) list_of (ends_up_to (suc k) stop test) same into back)
+    (reads_made (reads_maybe (reads_both r (reads_ending_up_to r test begins goes k)
+    (joins_up_to k P stop test begins goes)) test (λ x tokens h. first_then test true (begins x.0) h)) list_of
+    (ends_up_to (suc k) stop test) same into back)
     (same_reader k test p)
   where
     same : (o : Option (A × List A)) (t : Lexeme)
-        → ends_up_to (suc k) stop test (list_of o) t ≡ maybe_ends (λ (x : A × List A). ends_up_to (suc k) stop test (x.0 ∷ x.1)) test o t
+        → ends_up_to (suc k) stop test (list_of o) t ≡ maybe_ends (λ (x : A × List A). ends_up_to (suc k) stop test
+        (x.0 ∷ x.1)) test o t
     same None t = refl
     same (Some x) t = refl
 
@@ -89,7 +99,8 @@ reads_ending_up_to {A} {P} {stop} {p} r test begins goes (suc k) =
 pub reads_ending : {A : Type 0} {P : A → List Lexeme → Type 0} {stop : A → Lexeme → Bool} {p : Parser A} → IsReader P stop p
     → (test : Lexeme → Bool) → Begins test true P → Ended stop test
     → (k : ℕ) → IsReader (UpTo k P) (ends_up_to k stop test) (gathered pushed [] k test p)
-reads_ending {A} {p = p} r test begins goes k = reads_as (reads_ending_up_to r test begins goes k) (λ tokens. same (many_within k test p tokens))
+reads_ending {A} {p = p} r test begins goes k = reads_as (reads_ending_up_to r test begins goes k)
+    (λ tokens. same (many_within k test p tokens))
   where
     same : (o : Outcome (List A)) → changed (put_all pushed []) o ≡ o
     same (Ok x) = ap (λ (l : List A). Ok (l, x.1)) (all_pushed [] x.0)

@@ -56,7 +56,8 @@ pub either_begins : {A B : Type 0} (word : List ℕ) (words : List (List ℕ)) (
     → BeginsWith words Q → BeginsWith (word ∷ words) (Either (Case word f P) Q)
 either_begins word words f P Q begins = one_of_begins word words (Case word f P) Q (case_begins word f P) begins
 
-pub either_on_begins : {A B : Type 0} (word : List ℕ) (words : List (List ℕ)) (f : ℕ × A → B) (P : A → Language) (Q : B → Language)
+pub either_on_begins : {A B : Type 0} (word : List ℕ) (words : List (List ℕ)) (f : ℕ × A → B) (P : A → Language)
+    (Q : B → Language)
     → BeginsWith words Q → BeginsWith (word ∷ words) (Either (CaseOn word f P) Q)
 either_on_begins word words f P Q begins = one_of_begins word words (CaseOn word f P) Q (case_on_begins word f P) begins
 
@@ -76,10 +77,12 @@ reads_case_on word r f stop' same = reads_mapped (reads_two (reads_word_on word)
 
 -- a rule that begins with a word, or those of others
 pub reads_one_of : {B : Type 0} {P Q : B → Language} {stop : B → Lexeme → Bool} {p q : Parser B}
-    → (word : List ℕ) (words : List (List ℕ)) → IsReader P stop p → BeginsWith (word ∷ []) P → IsReader Q stop q → BeginsWith words Q
+    → (word : List ℕ) (words : List (List ℕ)) → IsReader P stop p → BeginsWith (word ∷ []) P → IsReader Q stop q
+    → BeginsWith words Q
     → Differs word words → IsReader (Either P Q) stop (choose (is_word word) p q)
 reads_one_of word words r begins w begins' differs =
-    reads_choose r w (is_word word) (begins (is_word word) true ((λ t e. e), tt)) (begins' (is_word word) false (answers_apart word words differs))
+    reads_choose r w (is_word word) (begins (is_word word) true ((λ t e. e), tt))
+    (begins' (is_word word) false (answers_apart word words differs))
 
 -- the case of a word, or those of others
 pub reads_cases : {A B : Type 0} {P : A → Language} {Q : B → Language} {stop : B → Lexeme → Bool} {p q : Parser B} {f : A → B}
@@ -89,7 +92,8 @@ pub reads_cases : {A B : Type 0} {P : A → Language} {Q : B → Language} {stop
 reads_cases {P = P} {f = f} word words r w begins differs = reads_one_of word words r (case_begins word f P) w begins differs
 
 pub reads_cases_on : {A B : Type 0} {Q : B → Language} {stop : B → Lexeme → Bool} {p q : Parser B}
-    → (word : List ℕ) (words : List (List ℕ)) (f : ℕ × A → B) (P : A → Language) → IsReader (CaseOn word f P) stop p → IsReader Q stop q → BeginsWith words Q
+    → (word : List ℕ) (words : List (List ℕ)) (f : ℕ × A → B) (P : A → Language) → IsReader (CaseOn word f P) stop p
+    → IsReader Q stop q → BeginsWith words Q
     → Differs word words
     → IsReader (Either (CaseOn word f P) Q) stop (choose (is_word word) p q)
 reads_cases_on word words f P r w begins differs = reads_one_of word words r (case_on_begins word f P) w begins differs

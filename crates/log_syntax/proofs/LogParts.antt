@@ -55,7 +55,8 @@ whole_is {A} {B} f (Ok x) a e = by x.0 x.1 e
     by c (t ∷ ts) e = absurd (cc)
 whole_is f (Err s) a e = absurd (cc)
 
-pub whole_changed : {A B : Type 0} {P : A → List Lexeme → Type 0} {Q : B → List Lexeme → Type 0} {stop : A → Lexeme → Bool} {p : Parser A}
+pub whole_changed : {A B : Type 0} {P : A → List Lexeme → Type 0} {Q : B → List Lexeme → Type 0}
+    {stop : A → Lexeme → Bool} {p : Parser A}
     → IsReader P stop p → (f : A → B) → ((a : A) (tokens : List Lexeme) → P a tokens → Q (f a) tokens)
     → ((b : B) (tokens : List Lexeme) → Q b tokens → Image f P b tokens) → IsWhole Q (whole (mapped f p))
 whole_changed {A} {B} {P} {Q} {p = p} r f into back = record { right = right; all = all; refused = refused }
@@ -79,7 +80,12 @@ whole_changed {A} {B} {P} {Q} {p = p} r f into back = record { right = right; al
         record {
           front = h.front;
           split = h.split;
-          before = record { more = h.before.more; tree = f h.before.tree; spelled = into h.before.tree (h.front ++ h.before.more) h.before.spelled };
+          before = record {
+            more = h.before.more;
+            tree = f h.before.tree;
+            spelled = into h.before.tree
+                (h.front ++ h.before.more) h.before.spelled;
+          };
           here = λ t rest g k. (
               let i = back k.tree ((h.front ++ t ∷ []) ++ k.more) k.spelled in
               h.here t rest g (record { more = k.more; tree = i.tree; spelled = i.spelled }));
@@ -87,19 +93,28 @@ whole_changed {A} {B} {P} {Q} {p = p} r f into back = record { right = right; al
         }
 
 -- ... and then another, where it ends
-pub reads_changed_then : {A B C : Type 0} {P : A → List Lexeme → Type 0} {R : B → List Lexeme → Type 0} {stop : A → Lexeme → Bool} {p : Parser A}
+pub reads_changed_then : {A B C : Type 0} {P : A → List Lexeme → Type 0} {R : B → List Lexeme → Type 0}
+    {stop : A → Lexeme → Bool} {p : Parser A}
     {Q : C → List Lexeme → Type 0} {stop' : C → Lexeme → Bool} {q : Parser C} → IsReader P stop p → (f : A → B)
-    → ((a : A) (tokens : List Lexeme) → P a tokens → R (f a) tokens) → ((b : B) (tokens : List Lexeme) → R b tokens → Image f P b tokens)
+    → ((a : A) (tokens : List Lexeme) → P a tokens → R (f a) tokens) → ((b : B) (tokens : List Lexeme) → R b tokens
+    → Image f P b tokens)
     → IsReader Q stop' q → (test : Lexeme → Bool) → Begins test true Q → Ended stop test
     → IsReader (λ (x : B × C). R x.0 ⋅ Q x.1) (λ x. stop' x.1) (both (mapped f p) q)
 reads_changed_then {A} {B} {C} {P} {R} {stop} {p} {Q} {stop'} {q} r f into back w test begins goes =
-    reads_as (reads_made (reads_then r w test begins goes) make (λ x. stop' x.1) (λ x t. refl) there here) (λ tokens. same tokens (p tokens))
+    reads_as (reads_made (reads_then r w test begins goes) make (λ x. stop' x.1) (λ x t. refl) there here)
+    (λ tokens. same tokens (p tokens))
   where
     make : A × C → B × C
     make x = (f x.0, x.1)
 
     there : (x : A × C) (tokens : List Lexeme) → (P x.0 ⋅ Q x.1) tokens → (R (f x.0) ⋅ Q x.1) tokens
-    there x tokens h = record { front = h.front; rest = h.rest; split = h.split; first = into x.0 h.front h.first; second = h.second }
+    there x tokens h = record {
+      front = h.front;
+      rest = h.rest;
+      split = h.split;
+      first = into x.0 h.front h.first;
+      second = h.second;
+    }
 
     here : (x : B × C) (tokens : List Lexeme) → (R x.0 ⋅ Q x.1) tokens → Image make (λ (x : A × C). P x.0 ⋅ Q x.1) x tokens
     here x tokens h =
@@ -111,7 +126,8 @@ reads_changed_then {A} {B} {C} {P} {R} {stop} {p} {Q} {stop'} {q} r f into back 
         }
 
     same : (tokens : List Lexeme) (o : Outcome A)
-        → and_then (changed f o) (λ b rest. changed (λ c. (b, c)) (q rest)) ≡ changed make (and_then o (λ a rest. changed (λ c. (a, c)) (q rest)))
+        → and_then (changed f o) (λ b rest. changed (λ c. (b, c)) (q rest)) ≡ changed make
+        (and_then o (λ a rest. changed (λ c. (a, c)) (q rest)))
     same tokens (Ok x) = sym (Outcomes.changed_twice (λ (c : C). (x.0, c)) make (q x.1))
     same tokens (Err s) = refl
 
@@ -138,7 +154,8 @@ unfolding log_part_at
 whole_log_part = whole_changed reads_log_or_none log_or_none into_part of_part
 
 -- what begins with tokens that end a log or none, after one
-pub reads_log_part_then : {C : Type 0} {Q : C → List Lexeme → Type 0} {stop' : C → Lexeme → Bool} {q : Parser C} → IsReader Q stop' q
+pub reads_log_part_then : {C : Type 0} {Q : C → List Lexeme → Type 0} {stop' : C → Lexeme → Bool} {q : Parser C}
+    → IsReader Q stop' q
     → (test : Lexeme → Bool) → Begins test true Q → Ended ends_log_or_none test
     → IsReader (λ (x : ReadLog × C). SpellsLogPart x.0 ⋅ Q x.1) (λ x. stop' x.1) (both log_part_at q)
 unfolding log_part_at
@@ -154,7 +171,14 @@ begins_log_part Q test b goes begins x tokens h = elim h.first [
 ]
   where
     with_log : SpellsLog x.0 h.front → Then (FirstIs test b) (Q x.1) tokens
-    with_log k = record { front = h.front; rest = h.rest; split = h.split; first = begins_log test b goes x.0 h.front k; second = h.second }
+    with_log k = record {
+      front = h.front;
+      rest = h.rest;
+      split = h.split;
+      first = begins_log test b goes x.0 h.front
+          k;
+      second = h.second;
+    }
 
 -- ---- what ends a log or none
 
@@ -182,7 +206,8 @@ word_ends_log word (log, (says, (given, (brought, (learned, (derived, u)))))) o 
     by None = ap not (is_no (codes "log") log)
     by (Some r) = ended_log r t (is_no (codes "statement") says)
         (none (is_word (codes "axiom") t) (is_word (codes "demand") t) (is_word (codes "learn") t) (is_word (codes "derive") t)
-        (is_no (codes "axiom") given) (is_no (codes "demand") brought) (is_no (codes "learn") learned) (is_no (codes "derive") derived))
+        (is_no (codes "axiom") given) (is_no (codes "demand") brought) (is_no (codes "learn") learned)
+        (is_no (codes "derive") derived))
 
 -- as the words `end` and `completion` do
 pub end_ends_log : Ended ends_log_or_none (is_word (codes "end"))

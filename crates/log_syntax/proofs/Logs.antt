@@ -122,7 +122,8 @@ on_line x = record { line = x.0; statement = x.1 }
 pub reads_ended_statement : IsReader SpellsEndedStatement always ended_statement_at
 unfolding ended_statement_at
 reads_ended_statement =
-    reads_made (reads_two (reads_word_on (codes "statement")) (before_symbol (codes ";") reads_statement (λ a t e. refl))) on_line always
+    reads_made (reads_two (reads_word_on (codes "statement")) (before_symbol (codes ";") reads_statement
+    (λ a t e. refl))) on_line always
     (λ x t. refl) (λ x tokens h. h) (λ t tokens h. record { tree = (t.line, t.statement); is = refl; spelled = h })
 
 pub begins_ended_statement : Begins (is_word (codes "statement")) true SpellsEndedStatement
@@ -130,9 +131,11 @@ begins_ended_statement t tokens h = begins_word_on (codes "statement") t.line (A
 
 -- ---- what statements say
 
-pub same_said : (answers answers' : List (List Value)) (statements statements' : List Statement) (lines lines' : List ℕ) → answers ≡ answers'
+pub same_said : (answers answers' : List (List Value)) (statements statements' : List Statement)
+    (lines lines' : List ℕ) → answers ≡ answers'
     → statements ≡ statements' → lines ≡ lines'
-    → ◌≡◌ {A = Said} (record { answers = answers; statements = statements; lines = lines }) (record { answers = answers'; statements = statements'; lines = lines' })
+    → ◌≡◌ {A = Said} (record { answers = answers; statements = statements; lines = lines })
+    (record { answers = answers'; statements = statements'; lines = lines' })
 same_said answers answers' statements statements' lines lines' e f g =
     let make : List (List Value) → List Statement → List ℕ → Said = λ a s l. record { answers = a; statements = s; lines = l } in
     ap (λ a. make a statements lines) e ∙ ap (λ s. make answers' s lines) f ∙ ap (λ l. make answers' statements' l) g
@@ -156,18 +159,23 @@ said_more : (said : Said) (line : ℕ) (s : StatementTree) (trees : List Stateme
     → said_with (said_by said line s) trees ≡ said_with said (record { line = line; statement = s } ∷ trees)
 unfolding said_by
 said_more said line (Before rel attr earlier later) trees =
-    same_said _ _ _ _ _ _ refl (append_assoc said.statements (statement.Before rel attr earlier later ∷ []) (statements_of (length said.answers) (said_of trees)))
+    same_said _ _ _ _ _ _ refl (append_assoc said.statements (statement.Before rel attr earlier later ∷ [])
+    (statements_of (length said.answers) (said_of trees)))
     (append_assoc said.lines (line ∷ []) (said_lines_of trees))
 said_more said line (Top rel attr row) trees =
-    same_said _ _ _ _ _ _ refl (append_assoc said.statements (statement.Top rel attr row ∷ []) (statements_of (length said.answers) (said_of trees)))
+    same_said _ _ _ _ _ _ refl (append_assoc said.statements (statement.Top rel attr row ∷ [])
+    (statements_of (length said.answers) (said_of trees)))
     (append_assoc said.lines (line ∷ []) (said_lines_of trees))
 said_more said line (Last rel attr row) trees =
-    same_said _ _ _ _ _ _ refl (append_assoc said.statements (statement.Last rel attr row ∷ []) (statements_of (length said.answers) (said_of trees)))
+    same_said _ _ _ _ _ _ refl (append_assoc said.statements (statement.Last rel attr row ∷ [])
+    (statements_of (length said.answers) (said_of trees)))
     (append_assoc said.lines (line ∷ []) (said_lines_of trees))
 said_more said line (Answer values) trees =
     same_said _ _ _ _ _ _ (append_assoc said.answers (values ∷ []) (answers_of (said_of trees)))
-    (ap (λ (n : ℕ). (said.statements ++ statement.Answer (length said.answers) ∷ []) ++ statements_of n (said_of trees)) (length-append said.answers (values ∷ []))
-    ∙ append_assoc said.statements (statement.Answer (length said.answers) ∷ []) (statements_of (length said.answers + 1) (said_of trees)))
+    (ap (λ (n : ℕ). (said.statements ++ statement.Answer (length said.answers) ∷ []) ++ statements_of n
+    (said_of trees)) (length-append said.answers (values ∷ []))
+    ∙ append_assoc said.statements (statement.Answer (length said.answers) ∷ [])
+    (statements_of (length said.answers + 1) (said_of trees)))
     (append_assoc said.lines (line ∷ []) (said_lines_of trees))
 
 all_said : (said : Said) (trees : List StatementOnLine) → put_all said_too said trees ≡ said_with said trees
@@ -197,7 +205,8 @@ reads_statements = reads_made
     (put_all said_too nothing_said) (λ said. ends_statements said.statements) same into back
   where
     same : (trees : List StatementOnLine) (t : Lexeme)
-        → ends_statements (put_all said_too nothing_said trees).statements t ≡ ends_within 4294967294 (is_word (codes "statement")) trees t
+        → ends_statements (put_all said_too nothing_said trees).statements t ≡ ends_within 4294967294
+        (is_word (codes "statement")) trees t
     same trees t =
         ap (λ (said : Said). ends_statements said.statements t) (all_said nothing_said trees)
         ∙ ends_alike 4294967294 (is_word (codes "statement")) (statements_of 0 (said_of trees)) trees t
@@ -218,7 +227,8 @@ reads_statements = reads_made
     back said tokens h = record {
       tree = h.trees;
       is = all_said nothing_said h.trees
-          ∙ same_said (answers_of (said_of h.trees)) said.answers (statements_of 0 (said_of h.trees)) said.statements (said_lines_of h.trees) said.lines
+          ∙ same_said (answers_of (said_of h.trees)) said.answers (statements_of 0 (said_of h.trees)) said.statements
+          (said_lines_of h.trees) said.lines
           (sym h.answers_are) (sym h.statements_are) (sym h.lines_are);
       spelled = h.spelled;
     }
@@ -232,8 +242,10 @@ ends_both statements (s ∷ steps) t = ends_steps (s ∷ steps) t
 
 step_no_statement : (t : Lexeme) → begins_step t ≡ true → is_word (codes "statement") t ≡ false
 step_no_statement t =
-    either_apart (is_word (codes "axiom") t || is_word (codes "demand") t || is_word (codes "learn") t) (is_word (codes "derive") t) (is_word (codes "statement") t)
-    (either_apart (is_word (codes "axiom") t || is_word (codes "demand") t) (is_word (codes "learn") t) (is_word (codes "statement") t)
+    either_apart (is_word (codes "axiom") t || is_word (codes "demand") t || is_word (codes "learn") t)
+    (is_word (codes "derive") t) (is_word (codes "statement") t)
+    (either_apart (is_word (codes "axiom") t || is_word (codes "demand") t) (is_word (codes "learn") t)
+    (is_word (codes "statement") t)
     (either_apart (is_word (codes "axiom") t) (is_word (codes "demand") t) (is_word (codes "statement") t)
     (apart Word (codes "axiom") Word (codes "statement") refl t) (apart Word (codes "demand") Word (codes "statement") refl t))
     (apart Word (codes "learn") Word (codes "statement") refl t))
@@ -268,26 +280,31 @@ goes : (statements : List Statement) (t : Lexeme) → begins_step t ≡ true →
 goes statements t e = ended_within 4294967294 (is_word (codes "statement")) begins_step step_no_statement statements t e
 
 -- where no step follows
-none_first : (statements : List Statement) (rest : List Lexeme) → Stopped (ends_both statements []) rest → Stopped (ends_statements statements) rest
+none_first : (statements : List Statement) (rest : List Lexeme) → Stopped (ends_both statements []) rest
+    → Stopped (ends_statements statements) rest
 none_first statements rest k = stopped_first (ends_statements statements) (ends_steps []) rest k
 
-none_all : (statements : List Statement) (rest : List Lexeme) → Stopped (ends_statements statements) rest → Stopped (ends_steps []) rest
+none_all : (statements : List Statement) (rest : List Lexeme) → Stopped (ends_statements statements) rest
+    → Stopped (ends_steps []) rest
     → Stopped (ends_both statements []) rest
 none_all statements rest k m = stopped_both (ends_statements statements) (ends_steps []) rest k m
 
-joined_first : (statements : List Statement) (trees : List StepOnLine) (front rest : List Lexeme) → UpTo 4294967294 SpellsEndedStep trees front
+joined_first : (statements : List Statement) (trees : List StepOnLine) (front rest : List Lexeme)
+    → UpTo 4294967294 SpellsEndedStep trees front
     → Stopped (ends_both statements (steps_of trees)) rest → Stopped (ends_statements statements) (front ++ rest)
 joined_first statements [] front rest h k =
     subst (λ (l : List Lexeme). Stopped (ends_statements statements) (l ++ rest)) (sym h.spelled) (none_first statements rest k)
 joined_first statements (s ∷ trees) front rest h k =
-    stopped_at_first (ends_statements statements) begins_step (goes statements) front rest (up_to_begins 4294967294 SpellsEndedStep begins_step true begins_ended_step s trees front h)
+    stopped_at_first (ends_statements statements) begins_step (goes statements) front rest
+    (up_to_begins 4294967294 SpellsEndedStep begins_step true begins_ended_step s trees front h)
 
 joined_second : (statements : List Statement) (steps : List Step) (rest : List Lexeme) → Stopped (ends_both statements steps) rest
     → Stopped (ends_steps steps) rest
 joined_second statements [] rest k = stopped_second (ends_statements statements) (ends_steps []) rest k
 joined_second statements (s ∷ steps) rest k = k
 
-joined_all : (statements : List Statement) (trees : List StepOnLine) (front rest : List Lexeme) → UpTo 4294967294 SpellsEndedStep trees front
+joined_all : (statements : List Statement) (trees : List StepOnLine) (front rest : List Lexeme)
+    → UpTo 4294967294 SpellsEndedStep trees front
     → Stopped (ends_statements statements) (front ++ rest) → Stopped (ends_steps (steps_of trees)) rest
     → Stopped (ends_both statements (steps_of trees)) rest
 joined_all statements [] front rest h k m =
@@ -301,20 +318,23 @@ joined = record { first = first; second = λ said steps rest k. joined_second sa
     first : (said : Said) (steps : SaidSteps) (front rest : List Lexeme) → SteppedBy steps front
         → Stopped (ends_both said.statements steps.steps) rest → Stopped (ends_statements said.statements) (front ++ rest)
     first said steps front rest h k =
-        joined_first said.statements h.trees front rest h.spelled (subst (λ (l : List Step). Stopped (ends_both said.statements l) rest) h.steps_are k)
+        joined_first said.statements h.trees front rest h.spelled
+        (subst (λ (l : List Step). Stopped (ends_both said.statements l) rest) h.steps_are k)
 
     all : (said : Said) (steps : SaidSteps) (front rest : List Lexeme) → SteppedBy steps front
         → Stopped (ends_statements said.statements) (front ++ rest) → Stopped (ends_steps steps.steps) rest
         → Stopped (ends_both said.statements steps.steps) rest
     all said steps front rest h k m =
         subst (λ (l : List Step). Stopped (ends_both said.statements l) rest) (sym h.steps_are)
-        (joined_all said.statements h.trees front rest h.spelled k (subst (λ (l : List Step). Stopped (ends_steps l) rest) h.steps_are m))
+        (joined_all said.statements h.trees front rest h.spelled k
+        (subst (λ (l : List Step). Stopped (ends_steps l) rest) h.steps_are m))
 
 -- what ends a log
 abbrev pub ends_log : ReadLog → Lexeme → Bool
 ends_log r = ends_both r.log.statements r.log.steps
 
-reads_body : IsReader (λ (x : Said × SaidSteps). SaidBy x.0 ⋅ SteppedBy x.1) (λ x. ends_both x.0.statements x.1.steps) (both statements_at steps_at)
+reads_body : IsReader (λ (x : Said × SaidSteps). SaidBy x.0 ⋅ SteppedBy x.1)
+    (λ x. ends_both x.0.statements x.1.steps) (both statements_at steps_at)
 reads_body = reads_both reads_statements reads_steps joined
 
 pub reads_log : IsReader SpellsLog ends_log log_at
@@ -332,9 +352,11 @@ reads_log = reads_made
     })
 
 -- a log begins with the word `log`
-pub begins_log : (test : Lexeme → Bool) (b : Bool) → ((t : Lexeme) → is_word (codes "log") t ≡ true → test t ≡ b) → Begins test b SpellsLog
+pub begins_log : (test : Lexeme → Bool) (b : Bool) → ((t : Lexeme) → is_word (codes "log") t ≡ true → test t ≡ b)
+    → Begins test b SpellsLog
 begins_log test b goes = begins_fixed
-    (λ (r : ReadLog). IsSymbol (codes ";") ⋅ SpellsStatements r.log.answers r.log.statements r.statements ⋅ SpellsSteps r.log.steps r.steps)
+    (λ (r : ReadLog). IsSymbol (codes ";") ⋅ SpellsStatements r.log.answers r.log.statements r.statements ⋅
+    SpellsSteps r.log.steps r.steps)
     Word (codes "log") test b goes
 
 -- a token with which no statement and no step begins ends a log
@@ -345,5 +367,6 @@ ended_log r t e f = by r.log.statements r.log.steps
     said statements = ended_at 4294967294 (is_word (codes "statement")) statements t e
 
     by : (statements : List Statement) (steps : List Step) → ends_both statements steps t ≡ true
-    by statements [] = and_both (ends_statements statements t) (ends_steps [] t) (said statements) (ended_at {A = Step} 4294967294 begins_step [] t f)
+    by statements [] = and_both (ends_statements statements t) (ends_steps [] t) (said statements)
+        (ended_at {A = Step} 4294967294 begins_step [] t f)
     by statements (s ∷ steps) = ended_at 4294967294 begins_step (s ∷ steps) t f

@@ -42,11 +42,13 @@ lits_end text = ended_within 4294967294 (says_some lit_in) (is_symbol text) (sym
 
 reads_row : IsReader (λ (row : RowId). SpellsNumber row.0) always row_at
 unfolding row_at
-reads_row = reads_made reads_number (λ n. record { 0 = n }) always (λ a t. refl) (λ n tokens h. h) (λ row tokens h. record { tree = row.0; is = refl; spelled = h })
+reads_row = reads_made reads_number (λ n. record { 0 = n }) always (λ a t. refl) (λ n tokens h. h)
+    (λ row tokens h. record { tree = row.0; is = refl; spelled = h })
 
 reads_entity : IsReader (λ (entity : EntId). SpellsNumber entity.0) always entity_at
 unfolding entity_at
-reads_entity = reads_made reads_number (λ n. record { 0 = n }) always (λ a t. refl) (λ n tokens h. h) (λ entity tokens h. record { tree = entity.0; is = refl; spelled = h })
+reads_entity = reads_made reads_number (λ n. record { 0 = n }) always (λ a t. refl) (λ n tokens h. h)
+    (λ entity tokens h. record { tree = entity.0; is = refl; spelled = h })
 
 reads_rows : IsReader SpellsRows ends_numbers rows_at
 unfolding rows_at
@@ -106,13 +108,15 @@ reads_some_constants =
     back
   where
     back : (vs : List Value) (tokens : List Lexeme) → SomeConstants vs tokens
-        → Image (λ (x : Value × List Value). put_all pushed (x.0 ∷ []) x.1) (λ (x : Value × List Value). SpellsConstant x.0 ⋅ UpTo 4294967293 SpellsFurther x.1) vs tokens
+        → Image (λ (x : Value × List Value). put_all pushed (x.0 ∷ []) x.1)
+        (λ (x : Value × List Value). SpellsConstant x.0 ⋅ UpTo 4294967293 SpellsFurther x.1) vs tokens
     back [] tokens h = absurd h
     back (v ∷ vs) tokens h = record { tree = (v, vs); is = all_constants v vs; spelled = h }
 
 begins_some_constants : Begins is_inside true SomeConstants
 begins_some_constants [] tokens h = absurd h
-begins_some_constants (v ∷ vs) tokens h = first_then is_inside true (λ front k. record { token = k.token; rest = []; is = k.alone; answers = constant_inside k.token v k.said }) h
+begins_some_constants (v ∷ vs) tokens h = first_then is_inside true
+    (λ front k. record { token = k.token; rest = []; is = k.alone; answers = constant_inside k.token v k.said }) h
 
 reads_constants : IsReader SpellsConstants ends_constants constants_at
 unfolding constants_at
@@ -134,7 +138,8 @@ reads_constants =
 
 constants_end : Ended ends_constants (is_symbol (codes ")"))
 constants_end [] t e = ap (λ (b : Bool). not (not b)) e
-constants_end (v ∷ vs) t e = ended_within 4294967293 (is_symbol (codes ",")) (is_symbol (codes ")")) (apart Symbol (codes ")") Symbol (codes ",") refl) vs t e
+constants_end (v ∷ vs) t e = ended_within 4294967293 (is_symbol (codes ",")) (is_symbol (codes ")"))
+    (apart Symbol (codes ")") Symbol (codes ",") refl) vs t e
 
 pub reads_values : IsReader SpellsValues always values_at
 unfolding values_at
@@ -209,7 +214,8 @@ reads_given = reads_case (codes "given") reads_cell_and_row given_of ends_label 
 
 reads_transitive : IsReader (Case (codes "transitive") transitive_of CellAndRows) ends_label transitive_at
 unfolding transitive_at
-reads_transitive = reads_case (codes "transitive") (reads_two reads_cell (reads_two reads_number reads_number)) transitive_of ends_label (λ a t. refl)
+reads_transitive = reads_case (codes "transitive") (reads_two reads_cell (reads_two reads_number reads_number))
+    transitive_of ends_label (λ a t. refl)
 
 reads_rule : IsReader (Case (codes "rule") rule_of RuleAndRows) ends_label rule_at
 unfolding rule_at
@@ -217,7 +223,8 @@ reads_rule = reads_case (codes "rule") (reads_two reads_number reads_rows) rule_
 
 reads_copy : IsReader (Case (codes "copy") copy_of FourNumbers) ends_label copy_at
 unfolding copy_at
-reads_copy = reads_case (codes "copy") (reads_two reads_number (reads_two reads_number (reads_two reads_number reads_number))) copy_of ends_label (λ a t. refl)
+reads_copy = reads_case (codes "copy")
+    (reads_two reads_number (reads_two reads_number (reads_two reads_number reads_number))) copy_of ends_label (λ a t. refl)
 
 reads_above : IsReader (Case (codes "above") above_of CellAndRow) ends_label above_at
 unfolding above_at
@@ -238,7 +245,8 @@ reads_value = reads_case (codes "value") reads_cell value_of ends_label (λ a t.
 reads_match : IsReader (Case (codes "match") match_of MatchParts) ends_label match_at
 unfolding match_at
 reads_match =
-    reads_case (codes "match") (reads_two reads_number (reads_then reads_entities reads_values (is_symbol (codes "(")) begins_values (numbers_end (codes "("))))
+    reads_case (codes "match") (reads_two reads_number
+    (reads_then reads_entities reads_values (is_symbol (codes "(")) begins_values (numbers_end (codes "("))))
     match_of ends_label (λ a t. refl)
 
 -- labels from some word on, in the order in which they are tried
@@ -348,13 +356,20 @@ spelled_label (label.Rule rule rows) tokens h = inr (inr (inl (record { tree = (
 spelled_label (label.Copy copy place first second) tokens h =
     inr (inr (inr (inl (record { tree = (copy.0, (place, (first.0, second.0))); is = refl; spelled = h }))))
 spelled_label (label.Above rel attr row other) tokens h =
-    inr (inr (inr (inr (inl (record { tree = (record { rel = rel; attr = attr; row = row }, other.0); is = refl; spelled = h })))))
+    inr (inr (inr (inr (inl (record {
+      tree = (record { rel = rel; attr = attr; row = row }, other.0);
+      is =
+          refl;
+      spelled = h;
+    })))))
 spelled_label (label.Top rel attr row) tokens h =
     inr (inr (inr (inr (inr (inl (record { tree = record { rel = rel; attr = attr; row = row }; is = refl; spelled = h }))))))
 spelled_label (label.Last rel attr row) tokens h =
-    inr (inr (inr (inr (inr (inr (inl (record { tree = record { rel = rel; attr = attr; row = row }; is = refl; spelled = h })))))))
+    inr (inr (inr (inr (inr (inr (inl
+    (record { tree = record { rel = rel; attr = attr; row = row }; is = refl; spelled = h })))))))
 spelled_label (label.Value rel attr row) tokens h =
-    inr (inr (inr (inr (inr (inr (inr (inl (record { tree = record { rel = rel; attr = attr; row = row }; is = refl; spelled = h }))))))))
+    inr (inr (inr (inr (inr (inr (inr
+    (inl (record { tree = record { rel = rel; attr = attr; row = row }; is = refl; spelled = h }))))))))
 spelled_label (label.Match disjunct entities values) tokens h =
     inr (inr (inr (inr (inr (inr (inr (inr (record { tree = (disjunct, (entities, values)); is = refl; spelled = h }))))))))
 

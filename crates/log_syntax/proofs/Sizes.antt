@@ -43,13 +43,15 @@ of_log r tokens h = record {
     steps = ap length stepped.steps_are ∙ length-map stepped.trees (λ s. s.step)
 
 pub is_small : (r : ReadLog) (tokens : List Lexeme) → SpellsLogPart r tokens → IsSmall r
-is_small r tokens (inl h) = subst IsSmall (sym h.0) (record { few_statements = omega arith; few_steps = omega arith; statement_lines = refl; step_lines = refl })
+is_small r tokens (inl h) = subst IsSmall (sym h.0)
+    (record { few_statements = omega arith; few_steps = omega arith; statement_lines = refl; step_lines = refl })
 is_small r tokens (inr h) = of_log r tokens h
 
 -- ---- hints
 
 -- what holds of each step with fewer hints than 2^32 holds of a step that is spelled
-of_step : (P : Step → Type 0) → ((l : Label) (lits : List Lit) → P (Axiom l lits)) → ((l : Label) (lits : List Lit) → P (OnDemand l lits))
+of_step : (P : Step → Type 0) → ((l : Label) (lits : List Lit) → P (Axiom l lits)) →
+    ((l : Label) (lits : List Lit) → P (OnDemand l lits))
     → ((lits : List Lit) (hints : List ℕ) (counted : Bool) → length hints < 2 ^ 32 → P (Learn lits hints counted))
     → (line : ℕ) (s : Step) (tokens : List Lexeme) → SpellsStep line s tokens → P s
 of_step P given brought learned line (Axiom l lits) tokens h = given l lits
@@ -66,10 +68,12 @@ of_steps P each (s ∷ trees) tokens h =
     All-cons P s.step (steps_of trees) (each s.line s.step h.first.front h.first.first) (of_steps P each trees h.rest h.second)
 
 -- ... and of all the steps of a log: with `P` by these three cases, as "a step has fewer hints than 2^32" is said elsewhere
-pub few_hints : (P : Step → Type 0) → ((l : Label) (lits : List Lit) → P (Axiom l lits)) → ((l : Label) (lits : List Lit) → P (OnDemand l lits))
+pub few_hints : (P : Step → Type 0) → ((l : Label) (lits : List Lit) → P (Axiom l lits)) →
+    ((l : Label) (lits : List Lit) → P (OnDemand l lits))
     → ((lits : List Lit) (hints : List ℕ) (counted : Bool) → length hints < 2 ^ 32 → P (Learn lits hints counted))
     → (r : ReadLog) (tokens : List Lexeme) → SpellsLogPart r tokens → All P r.log.steps
 few_hints P given brought learned r tokens (inl h) = subst (λ (r : ReadLog). All P r.log.steps) (sym h.0) (All-nil P)
 few_hints P given brought learned r tokens (inr h) =
     let stepped : SpellsSteps r.log.steps r.steps h.second.second.rest = h.second.second.second in
-    subst (All P) (sym stepped.steps_are) (of_steps P (of_step P given brought learned) stepped.trees h.second.second.rest stepped.spelled.spelled)
+    subst (All P) (sym stepped.steps_are) (of_steps P (of_step P given brought learned) stepped.trees
+    h.second.second.rest stepped.spelled.spelled)

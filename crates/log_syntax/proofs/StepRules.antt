@@ -121,7 +121,8 @@ step_spelled s tokens (inr (inl h)) = subst (λ (s : StepOnLine). StepOn s token
 step_spelled s tokens (inr (inr (inl h))) = subst (λ (s : StepOnLine). StepOn s tokens) h.is h.spelled
 step_spelled s tokens (inr (inr (inr h))) = subst (λ (s : StepOnLine). StepOn s tokens) h.is h.spelled
 
-spelled_step : (line : ℕ) (s : Step) (tokens : List Lexeme) → SpellsStep line s tokens → FromAxiom (record { line = line; step = s }) tokens
+spelled_step : (line : ℕ) (s : Step) (tokens : List Lexeme) → SpellsStep line s tokens
+    → FromAxiom (record { line = line; step = s }) tokens
 spelled_step line (Axiom l lits) tokens h = inl (record { tree = (line, (l, lits)); is = refl; spelled = h })
 spelled_step line (OnDemand l lits) tokens h = inr (inl (record { tree = (line, (l, lits)); is = refl; spelled = h }))
 spelled_step line (Learn lits hints true) tokens h =
@@ -153,11 +154,14 @@ step_words : AnswersAt begins_step true (codes "axiom" ∷ words_demand)
 step_words = (
   (λ t e. ap (λ (b : Bool). b || is_word (codes "demand") t || is_word (codes "learn") t || is_word (codes "derive") t) e),
   (
-    (λ t e. second (is_word (codes "axiom") t) (is_word (codes "demand") t) (is_word (codes "learn") t) (is_word (codes "derive") t) (inl e)),
+    (λ t e. second (is_word (codes "axiom") t) (is_word (codes "demand") t) (is_word (codes "learn") t)
+        (is_word (codes "derive") t) (inl e)),
     (
-      (λ t e. second (is_word (codes "axiom") t) (is_word (codes "demand") t) (is_word (codes "learn") t) (is_word (codes "derive") t) (inr (inl e))),
+      (λ t e. second (is_word (codes "axiom") t) (is_word (codes "demand") t) (is_word (codes "learn") t)
+          (is_word (codes "derive") t) (inr (inl e))),
       (
-        (λ t e. second (is_word (codes "axiom") t) (is_word (codes "demand") t) (is_word (codes "learn") t) (is_word (codes "derive") t) (inr (inr e))),
+        (λ t e. second (is_word (codes "axiom") t) (is_word (codes "demand") t) (is_word (codes "learn") t)
+            (is_word (codes "derive") t) (inr (inr e))),
         tt,
       ),
     ),
@@ -174,7 +178,8 @@ step_words = (
 
 pub begins_ended_step : Begins begins_step true SpellsEndedStep
 begins_ended_step s tokens h =
-    first_then begins_step true (λ front k. begins_axiom begins_step true step_words s front (spelled_step s.line s.step front k)) h
+    first_then begins_step true (λ front k. begins_axiom begins_step true step_words s front
+    (spelled_step s.line s.step front k)) h
 
 -- ---- steps
 
@@ -196,10 +201,12 @@ abbrev steps_with : SaidSteps → List StepOnLine → SaidSteps
 steps_with said trees = record { steps = said.steps ++ steps_of trees; lines = said.lines ++ step_lines_of trees }
 
 all_stepped : (said : SaidSteps) (trees : List StepOnLine) → put_all stepped said trees ≡ steps_with said trees
-all_stepped said [] = same_steps said.steps (said.steps ++ []) said.lines (said.lines ++ []) (sym (append-nil said.steps)) (sym (append-nil said.lines))
+all_stepped said [] = same_steps said.steps (said.steps ++ []) said.lines (said.lines ++ [])
+    (sym (append-nil said.steps)) (sym (append-nil said.lines))
 all_stepped said (s ∷ trees) =
     all_stepped (stepped said s) trees
-    ∙ same_steps _ _ _ _ (append_assoc said.steps (s.step ∷ []) (steps_of trees)) (append_assoc said.lines (s.line ∷ []) (step_lines_of trees))
+    ∙ same_steps _ _ _ _ (append_assoc said.steps (s.step ∷ []) (steps_of trees))
+    (append_assoc said.lines (s.line ∷ []) (step_lines_of trees))
 
 -- what ends steps
 abbrev pub ends_steps : List Step → Lexeme → Bool
@@ -233,6 +240,7 @@ reads_steps = reads_made
         → Image (put_all stepped no_step_said) (UpTo 4294967294 SpellsEndedStep) said tokens
     back said tokens h = record {
       tree = h.trees;
-      is = all_stepped no_step_said h.trees ∙ same_steps (steps_of h.trees) said.steps (step_lines_of h.trees) said.lines (sym h.steps_are) (sym h.lines_are);
+      is = all_stepped no_step_said h.trees ∙ same_steps (steps_of h.trees) said.steps (step_lines_of h.trees)
+          said.lines (sym h.steps_are) (sym h.lines_are);
       spelled = h.spelled;
     }

@@ -64,10 +64,13 @@ reads_constant_value = reads_made reads_constant (λ (c : Const). c.value) alway
 
 -- a symbol is no number and no literal
 pub symbol_no_number : (text : List ℕ) (t : Lexeme) → is_symbol text t ≡ true → says_some place_in t ≡ false
-symbol_no_number text t e = ap (λ (k : TokenKind). is_some (place_in (record { kind = k; text = t.text; start = t.start; line = t.line }))) (fixed_is Symbol text t e).kind_is
+symbol_no_number text t e = ap
+    (λ (k : TokenKind). is_some (place_in (record { kind = k; text = t.text; start = t.start; line = t.line })))
+    (fixed_is Symbol text t e).kind_is
 
 pub symbol_no_lit : (text : List ℕ) (t : Lexeme) → is_symbol text t ≡ true → says_some lit_in t ≡ false
-symbol_no_lit text t e = ap (λ (k : TokenKind). is_some (lit_in (record { kind = k; text = t.text; start = t.start; line = t.line }))) (fixed_is Symbol text t e).kind_is
+symbol_no_lit text t e = ap (λ (k : TokenKind). is_some
+    (lit_in (record { kind = k; text = t.text; start = t.start; line = t.line }))) (fixed_is Symbol text t e).kind_is
 
 -- nor is the word `by`
 by_says_nothing : lit_in (a_word (codes "by")) ≡ None

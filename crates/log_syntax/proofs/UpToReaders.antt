@@ -18,7 +18,8 @@ ends_within (suc k) test [] t = not (test t)
 ends_within (suc k) test (x ∷ xs) t = ends_within k test xs t
 
 -- a token that begins no item ends it
-pub ended_at : {A : Type 0} (k : ℕ) (test : Lexeme → Bool) (xs : List A) (t : Lexeme) → test t ≡ false → ends_within k test xs t ≡ true
+pub ended_at : {A : Type 0} (k : ℕ) (test : Lexeme → Bool) (xs : List A) (t : Lexeme) → test t ≡ false
+    → ends_within k test xs t ≡ true
 ended_at zero test xs t e = refl
 ended_at (suc k) test [] t e = ap not e
 ended_at (suc k) test (x ∷ xs) t e = ended_at k test xs t e
@@ -47,7 +48,8 @@ list_of None = []
 list_of (Some x) = x.0 ∷ x.1
 
 same_outcome : {A : Type 0} (o : Outcome A) (q : Parser (List A))
-    → and_then o (λ x rest. prepend (x ∷ []) (q rest)) ≡ changed list_of (changed (λ (x : A × List A). Some x) (and_then o (λ a rest. changed (λ b. (a, b)) (q rest))))
+    → and_then o (λ x rest. prepend (x ∷ []) (q rest)) ≡ changed list_of
+    (changed (λ (x : A × List A). Some x) (and_then o (λ a rest. changed (λ b. (a, b)) (q rest))))
 same_outcome (Ok x) q =
     sym (ap (changed list_of) (Outcomes.changed_twice (λ b. (x.0, b)) (λ (y : _ × List _). Some y) (q x.1))
     ∙ Outcomes.changed_twice (λ b. Some (x.0, b)) list_of (q x.1))
@@ -55,7 +57,8 @@ same_outcome (Err s) q = refl
 
 one_or_none : {A : Type 0} (b : Bool) (t : Lexeme) (ts : List Lexeme) (o : Outcome A) (q : Parser (List A))
     → cond b (and_then o (λ x rest. prepend (x ∷ []) (q rest))) (Ok ([], t ∷ ts))
-    ≡ changed list_of (cond b (changed (λ (x : A × List A). Some x) (and_then o (λ a rest. changed (λ b. (a, b)) (q rest)))) (Ok (None, t ∷ ts)))
+    ≡ changed list_of (cond b (changed (λ (x : A × List A). Some x)
+    (and_then o (λ a rest. changed (λ b. (a, b)) (q rest)))) (Ok (None, t ∷ ts)))
 one_or_none true t ts o q = same_outcome o q
 one_or_none false t ts o q = refl
 
@@ -96,7 +99,8 @@ pub reads_up_to : {A : Type 0} {P : A → List Lexeme → Type 0} {p : Parser A}
 reads_up_to {A} {P} {p} r test begins zero = no_more P test p
 reads_up_to {A} {P} {p} r test begins (suc k) =
     reads_as
-    (reads_made (reads_maybe (reads_two r (reads_up_to r test begins k)) test (λ x tokens h. first_then test true (begins x.0) h)) list_of (ends_within (suc k) test) same into back)
+    (reads_made (reads_maybe (reads_two r (reads_up_to r test begins k)) test
+    (λ x tokens h. first_then test true (begins x.0) h)) list_of (ends_within (suc k) test) same into back)
     (same_reader k test p)
   where
     same : (o : Option (A × List A)) (t : Lexeme)

@@ -41,7 +41,8 @@ pub refusal_is : (tokens : List Lexeme) (end line : ℕ) (r : Refusal) (left : B
     → GivesWhole {A = ReadLog} (Err r) (log_of tokens) → r ≡ refusal.Syntax left
     → line ≡ line_at end (map lexeme_of left.now) → RefusesLog tokens end (Syntax line)
 refusal_is tokens end line r left h e f =
-    is_refused_on tokens end line (refuse (map lexeme_of left.now)) (subst (λ (r : Refusal). GivesWhole {A = ReadLog} (Err r) (log_of tokens)) e h) f
+    is_refused_on tokens end line (refuse (map lexeme_of left.now))
+    (subst (λ (r : Refusal). GivesWhole {A = ReadLog} (Err r) (log_of tokens)) e h) f
 
 -- ---- one log, or one refusal
 
@@ -60,7 +61,8 @@ one_refusal tokens end NoMemory f h k = absurd h
 one_refusal tokens end (Syntax line) (NotUtf8 line') h k = absurd k
 one_refusal tokens end (Syntax line) NoMemory h k = absurd k
 one_refusal tokens end (Syntax line) (Syntax line') h k =
-    ap (λ (n : ℕ). Syntax n) (h.on_line ∙ ap (line_at end) (one_place SpellsLogOrNothing tokens h.left k.left h.place k.place) ∙ sym k.on_line)
+    ap (λ (n : ℕ). Syntax n) (h.on_line ∙ ap (line_at end) (one_place SpellsLogOrNothing tokens h.left k.left h.place
+    k.place) ∙ sym k.on_line)
 
 pub not_both : (tokens : List Lexeme) (end : ℕ) (log : Log) (e : TextFault) → SpellsLogOrNothing log tokens
     → RefusesLog tokens end e → ⊥

@@ -15,7 +15,8 @@ reads_word_on text = reads_one (word_line text) (a_fixed Word text) (a_fixed Wor
     (ap (λ (b : Bool). cond b (Some (a_fixed Word text).line) None) (a_fixed_is Word text))
 
 -- a rule that begins with a word whose line it keeps
-pub begins_word_on : (text : List ℕ) (line : ℕ) (M : Language) (tokens : List Lexeme) → (IsWordOn text line ⋅ M) tokens → FirstIs (is_word text) true tokens
+pub begins_word_on : (text : List ℕ) (line : ℕ) (M : Language) (tokens : List Lexeme) → (IsWordOn text line ⋅ M)
+    tokens → FirstIs (is_word text) true tokens
 begins_word_on text line M tokens h = first_then (is_word text) true first h
   where
     passes : (b : Bool) (n m : ℕ) → ◌≡◌ {A = Option ℕ} (cond b (Some n) None) (Some m) → b ≡ true
@@ -23,7 +24,13 @@ begins_word_on text line M tokens h = first_then (is_word text) true first h
     passes false n m e = absurd (cc)
 
     first : (front : List Lexeme) → IsWordOn text line front → FirstIs (is_word text) true front
-    first front h = record { token = h.token; rest = []; is = h.alone; answers = passes (is_word text h.token) h.token.line line h.said }
+    first front h = record {
+      token = h.token;
+      rest = [];
+      is = h.alone;
+      answers = passes (is_word text h.token)
+          h.token.line line h.said;
+    }
 
 -- the same, seen by the test for this or another word
 pub begins_word_line : (text : List ℕ) (test : Lexeme → Bool) (b : Bool) → ((t : Lexeme) → is_word text t ≡ true → test t ≡ b)

@@ -106,8 +106,10 @@ SpellsLabel (label.Match disjunct entities values) =
 abbrev pub SpellsStep : ℕ → Step → Language
 SpellsStep line (Axiom l lits) = IsWordOn (codes "axiom") line ⋅ SpellsLabel l ⋅ IsSymbol (codes ":") ⋅ SpellsLits lits
 SpellsStep line (OnDemand l lits) = IsWordOn (codes "demand") line ⋅ SpellsLabel l ⋅ IsSymbol (codes ":") ⋅ SpellsLits lits
-SpellsStep line (Learn lits hints true) = IsWordOn (codes "learn") line ⋅ SpellsLits lits ⋅ IsWord (codes "by") ⋅ SpellsHints hints
-SpellsStep line (Learn lits hints false) = IsWordOn (codes "derive") line ⋅ SpellsLits lits ⋅ IsWord (codes "by") ⋅ SpellsHints hints
+SpellsStep line (Learn lits hints true) = IsWordOn (codes "learn") line ⋅ SpellsLits lits ⋅ IsWord (codes "by") ⋅
+    SpellsHints hints
+SpellsStep line (Learn lits hints false) = IsWordOn (codes "derive") line ⋅ SpellsLits lits ⋅ IsWord (codes "by") ⋅
+    SpellsHints hints
 
 -- a step that begins on its line, and its semicolon
 abbrev pub SpellsEndedStep : StepOnLine → Language
@@ -150,7 +152,8 @@ statements_of n (Top rel attr row ∷ trees) = statement.Top rel attr row ∷ st
 statements_of n (Last rel attr row ∷ trees) = statement.Last rel attr row ∷ statements_of n trees
 
 -- these answers and statements, on these lines, are those that are written
-pub record SpellsStatements (answers : List (List Value)) (statements : List Statement) (lines : List ℕ) (tokens : List Lexeme) : Type 0 where
+pub record SpellsStatements (answers : List (List Value)) (statements : List Statement) (lines : List ℕ)
+    (tokens : List Lexeme) : Type 0 where
   pub trees : List StatementOnLine
   pub answers_are : answers ≡ answers_of (map (λ t. t.statement) trees)
   pub statements_are : statements ≡ statements_of 0 (map (λ t. t.statement) trees)

@@ -41,7 +41,8 @@ are_in_place log goals goals_in steps statements few_steps few_statements few_an
           (λ n x e. (steps n x (slice_get_within log.steps n x e) e).hints);
       vars_in = at_each clause_of (λ place lit. var_of lit < length log.statements) log.steps
           (λ n x e. (steps n x (slice_get_within log.steps n x e) e).vars);
-      tuples_in = λ place tuple e. statements place (statement.Answer tuple) (slice_get_within log.statements place (statement.Answer tuple) e) e;
+      tuples_in = λ place tuple e. statements place (statement.Answer tuple)
+          (slice_get_within log.statements place (statement.Answer tuple) e) e;
       few_steps = few_steps;
       few_statements = few_statements;
       few_answers = few_answers;

@@ -130,7 +130,8 @@ var_in log goals trimmed t inside place lit is_in =
           old_in in
           let one = item_at log.statements (var_of old.0) within in
           subst (λ (v : ℕ). v < length trimmed.log.statements) new_var
-          (slice_get_within trimmed.log.statements (rank t.statement_kept (var_of old.0)) (renumbered_statement t.answer_kept one.0)
+          (slice_get_within trimmed.log.statements (rank t.statement_kept (var_of old.0))
+          (renumbered_statement t.answer_kept one.0)
           (statements_keep log goals trimmed t (var_of old.0) one.0 used one.1))
       | inr past ↦ absurd (lits_behind trimmed.log.steps place lit past.0 is_in)
     ]

@@ -134,7 +134,8 @@ used_are log goals reached marks numbers steps count marked same =
     (record { count = count; marked = used_vars log.steps goals reached marks steps.count steps.marked marked })
 
 pub named_are : (log : Log) (goals : List ℕ) (used marks numbers : List Bool) → AreUsed log goals used
-    → length marks ≡ length log.answers → IsMarkedWhere marks (IsOfMarked used (answers_at log.statements) (length log.statements))
+    → length marks ≡ length log.answers → IsMarkedWhere marks (IsOfMarked used (answers_at log.statements)
+    (length log.statements))
     → numbers ≡ marks → AreNamed log goals numbers
 named_are log goals used marks numbers vars count marked same =
     subst (λ (m : List Bool). AreNamed log goals m) (sym same)

@@ -27,4 +27,5 @@ IsStatementInPlace answers (Answer tuple) = tuple < answers
 -- so it is with each of the first statements
 abbrev pub AreStatementsInPlace : ℕ → ℕ → List Statement → Type 0
 AreStatementsInPlace answers count statements =
-    (place : ℕ) (statement : Statement) → place < count → slice_get statements place ≡ Some statement → IsStatementInPlace answers statement
+    (place : ℕ) (statement : Statement) → place < count → slice_get statements place ≡ Some statement
+    → IsStatementInPlace answers statement

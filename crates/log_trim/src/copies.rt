@@ -50,7 +50,8 @@ pub fn kept_statements(
 ) -> Result<StatementList, NoMemory>
     requires count { length kept.now ≡ length statements.now }
     requires tuples { (place : ℕ) → All (λ tuple. tuple < length answers.now) (answers_at statements.now place) }
-    ensures { IfOk result (λ list. list ≡ map (renumbered_statement (is_marked answers.now)) (kept_of (is_marked kept.now) statements.now)) }
+    ensures { IfOk result (λ list. list ≡ map (renumbered_statement (is_marked answers.now))
+        (kept_of (is_marked kept.now) statements.now)) }
 {
     let mut list = StatementList::new(alloc);
     for place in 0..statements.len() {
@@ -103,7 +104,8 @@ pub fn kept_steps(
     requires count { length kept.now ≡ length steps.now }
     requires lits { (place : ℕ) → All (λ lit. var_of lit < length vars.now) (lits_at steps.now place) }
     requires hints { (place : ℕ) → All (λ hint. hint < place) (hints_at steps.now place) }
-    ensures { IfOk result (λ list. list ≡ map (renumbered_step (is_marked kept.now) (is_marked vars.now)) (kept_of (is_marked kept.now) steps.now)) }
+    ensures { IfOk result (λ list. list ≡ map (renumbered_step (is_marked kept.now) (is_marked vars.now))
+        (kept_of (is_marked kept.now) steps.now)) }
 {
     let mut list = Steps::new(alloc);
     for place in 0..steps.len() {
@@ -130,7 +132,8 @@ fn push_step(
 ) -> Result<(), NoMemory>
     requires lits { All (λ lit. var_of lit < length vars.now) (clause_of (step_of step)) }
     requires hints { All (λ hint. hint < length steps.now) (hints_of (step_of step)) }
-    ensures { OnOk result (list.new ≡ list.old ++ one_where told (renumbered_step (is_marked steps.now) (is_marked vars.now) (step_of step.entry))) }
+    ensures { OnOk result (list.new ≡ list.old ++ one_where told
+        (renumbered_step (is_marked steps.now) (is_marked vars.now) (step_of step.entry))) }
 {
     if !told {
         return Ok(());

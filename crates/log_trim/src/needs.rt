@@ -56,7 +56,8 @@ pub fn used_statements(alloc: Global, log: &Log, kept: &Marks) -> Result<Marks, 
     requires count { length kept.now ≡ length log.now.steps }
     requires vars { (place : ℕ) → All (λ lit. var_of lit < length log.now.statements) (lits_at log.now.steps place) }
     ensures count { IfOk result (λ marks. length marks ≡ length log.now.statements) }
-    ensures marked { IfOk result (λ marks. IsMarkedWhere marks (IsOfMarked kept.now (vars_at log.now.steps) (length log.now.steps))) }
+    ensures marked { IfOk result (λ marks. IsMarkedWhere marks (IsOfMarked kept.now (vars_at log.now.steps)
+        (length log.now.steps))) }
 {
     let mut marks = Marks::new(alloc, log.statements.len())?;
     for place in 0..log.steps.len() {
@@ -84,7 +85,8 @@ pub fn named_answers(alloc: Global, log: &Log, kept: &Marks) -> Result<Marks, No
     requires count { length kept.now ≡ length log.now.statements }
     requires tuples { (place : ℕ) → All (λ tuple. tuple < length log.now.answers) (answers_at log.now.statements place) }
     ensures count { IfOk result (λ marks. length marks ≡ length log.now.answers) }
-    ensures marked { IfOk result (λ marks. IsMarkedWhere marks (IsOfMarked kept.now (answers_at log.now.statements) (length log.now.statements))) }
+    ensures marked { IfOk result (λ marks. IsMarkedWhere marks (IsOfMarked kept.now (answers_at log.now.statements)
+        (length log.now.statements))) }
 {
     let mut marks = Marks::new(alloc, log.answers.len())?;
     for place in 0..log.statements.len() {

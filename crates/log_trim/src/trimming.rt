@@ -108,8 +108,10 @@ fn put(
     requires statements { AreUsed log.now goals.now statements.now }
     requires answers { AreNamed log.now goals.now answers.now }
     ensures answers { OnOk result (into.new.log.answers ≡ kept_of (is_marked answers.now) log.now.answers) }
-    ensures statements { OnOk result (into.new.log.statements ≡ map (renumbered_statement (is_marked answers.now)) (kept_of (is_marked statements.now) log.now.statements)) }
-    ensures steps { OnOk result (into.new.log.steps ≡ map (renumbered_step (is_marked steps.now) (is_marked statements.now)) (kept_of (is_marked steps.now) log.now.steps)) }
+    ensures statements { OnOk result (into.new.log.statements ≡ map (renumbered_statement (is_marked answers.now))
+        (kept_of (is_marked statements.now) log.now.statements)) }
+    ensures steps { OnOk result (into.new.log.steps ≡ map
+        (renumbered_step (is_marked steps.now) (is_marked statements.now)) (kept_of (is_marked steps.now) log.now.steps)) }
     ensures goals { OnOk result (into.new.goals ≡ map (rank (is_marked steps.now)) goals.now) }
 {
     into.log.answers = kept_answers(alloc, &log.answers, answers)?;

@@ -25,7 +25,8 @@ adds_nothing has = record { kept = λ k h. h; there = λ k e. absurd (none-some 
 -- ---- sets
 
 -- a set that an order looks through, which is equal for equal items alone
-module _ {K : Type 0} (cmp : K → K → Ordering) (is_same : (x y : K) → is_eq (cmp x y) ≡ true → x ≡ y) (itself : (x : K) → is_eq (cmp x x) ≡ true) where
+module _ {K : Type 0} (cmp : K → K → Ordering) (is_same : (x y : K) → is_eq (cmp x y) ≡ true → x ≡ y)
+    (itself : (x : K) → is_eq (cmp x x) ≡ true) where
   -- the item is found
   abbrev finds : List K → K → Bool
   finds items k = list_any (λ q. is_eq (cmp k q)) items
@@ -69,7 +70,8 @@ pub pair_found : (pairs : List SaidPair) (p : SaidPair) → Contains pairs p →
 pair_found = item_found pair_cmp pair_is pair_itself
 
 pub adds_pair : (old new : List SaidPair) (p : SaidPair)
-    → ((q : SaidPair) → finds pair_cmp pair_is pair_itself new q ≡ cond (is_eq (pair_cmp p q)) true (finds pair_cmp pair_is pair_itself old q))
+    → ((q : SaidPair) → finds pair_cmp pair_is pair_itself new q ≡ cond (is_eq (pair_cmp p q)) true
+    (finds pair_cmp pair_is pair_itself old q))
     → Adds (Contains old) (Contains new) (Some p)
 adds_pair = adds_item pair_cmp pair_is pair_itself
 
@@ -89,7 +91,8 @@ pub none_found : (entries : List (Place × List RowId)) (place : Place) (o : Opt
 none_found entries place o rows is here same = same ∙ ap (λ (p : Option (List RowId)). unwrap_or p []) (sym here ∙ is)
 
 -- what is put where it was taken out
-pub put_back : (b : Bool) (now was out : Option (List RowId)) (rows : List RowId) → now ≡ cond b (Some rows) out → out ≡ cond b None was
+pub put_back : (b : Bool) (now was out : Option (List RowId)) (rows : List RowId) → now ≡ cond b (Some rows) out
+    → out ≡ cond b None was
     → now ≡ cond b (Some rows) was
 put_back true now was out rows e f = e
 put_back false now was out rows e f = e ∙ f
@@ -116,7 +119,8 @@ module _ (old new : List (Place × List RowId)) (place : Place) (row : RowId) (r
   pub adds_row : Adds (has_row old) (has_row new) (Some record { place = place; row = row })
   adds_row = record {
     kept = λ said is. ⊎_elim
-        (λ e. subst (λ rs. Contains rs said.row) (sym (here said.place e)) (Contains-append_left (rows_at old said.place) (row ∷ []) said.row is))
+        (λ e. subst (λ rs. Contains rs said.row) (sym (here said.place e))
+        (Contains-append_left (rows_at old said.place) (row ∷ []) said.row is))
         (λ e. subst (λ rs. Contains rs said.row) (sym (elsewhere said.place e)) is)
         (cases_Bool (is_eq (place_cmp place said.place)));
     there = λ said e. subst (has_row new) (same_Some added said e)

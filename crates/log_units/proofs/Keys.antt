@@ -48,7 +48,13 @@ pair_cmp =
 
 abbrev pair : ℕ → ℕ → ℕ → ℕ → SaidPair
 pair rel attr earlier later =
-    record { rel = record { 0 = rel }; attr = record { 0 = attr }; earlier = record { 0 = earlier }; later = record { 0 = later } }
+    record {
+      rel = record { 0 = rel };
+      attr = record { 0 = attr };
+      earlier = record { 0 = earlier };
+      later =
+          record { 0 = later };
+    }
 
 pub pair_is : (x y : SaidPair) → is_eq (pair_cmp x y) ≡ true → x ≡ y
 pair_is x y e =

@@ -39,7 +39,8 @@ module _ {K : Type 0} (said_by : Signed → Option K) (log : Log) where
   }
 
   -- nothing is said by the clauses of no step
-  pub notes_nothing : (below : ℕ) (noted : K → Type 0) → clauses_of log.steps ≡ [] → ((k : K) → noted k → ⊥) → Notes said_by log below noted
+  pub notes_nothing : (below : ℕ) (noted : K → Type 0) → clauses_of log.steps ≡ [] → ((k : K) → noted k → ⊥)
+      → Notes said_by log below noted
   notes_nothing below noted empty none = record {
     all = λ k is. absurd (false≢true (sym (ap (list_any (is_unit is.lit)) empty) ∙ is.there));
     only = λ k h. absurd (none k h);
@@ -107,13 +108,15 @@ module _ (relations : List Relation) (log : Log) where
   noted_none index pairs rows answers = record {
     pairs = notes_none pair_of log (Contains index.pairs) (λ k h. not_in k (subst (λ ps. Contains ps k) pairs h));
     rows = notes_none (row_of relations) log (has_row index.rows) (λ k h. not_in k.row (subst (λ es. has_row es k) rows h));
-    answers = notes_none (tuple_of log.answers) log (Contains index.answers) (λ k h. not_in k (subst (λ ps. Contains ps k) answers h));
+    answers = notes_none (tuple_of log.answers) log (Contains index.answers)
+        (λ k h. not_in k (subst (λ ps. Contains ps k) answers h));
   }
 
   pub noted_nothing : (below : ℕ) (index : Index) → log.steps ≡ [] → index.pairs ≡ [] → index.rows ≡ [] → index.answers ≡ []
       → AreNoted relations log below index
   noted_nothing below index empty pairs rows answers = record {
-    pairs = notes_nothing pair_of log below (Contains index.pairs) (ap clauses_of empty) (λ k h. not_in k (subst (λ ps. Contains ps k) pairs h));
+    pairs = notes_nothing pair_of log below (Contains index.pairs) (ap clauses_of empty)
+        (λ k h. not_in k (subst (λ ps. Contains ps k) pairs h));
     rows = notes_nothing (row_of relations) log below (has_row index.rows) (ap clauses_of empty)
         (λ k h. not_in k.row (subst (λ es. has_row es k) rows h));
     answers = notes_nothing (tuple_of log.answers) log below (Contains index.answers) (ap clauses_of empty)
@@ -132,7 +135,8 @@ module _ (relations : List Relation) (log : Log) where
       → slice_get log.statements (var_of lit) ≡ Some statement
       → Adds (Contains old.pairs) (Contains new.pairs) (pair_of record { statement = statement; negative = is_negative lit })
       → Adds (has_row old.rows) (has_row new.rows) (row_of relations record { statement = statement; negative = is_negative lit })
-      → Adds (Contains old.answers) (Contains new.answers) (tuple_of log.answers record { statement = statement; negative = is_negative lit })
+      → Adds (Contains old.answers) (Contains new.answers)
+      (tuple_of log.answers record { statement = statement; negative = is_negative lit })
       → AreNoted relations log lit.0 old → AreNoted relations log (lit.0 + 1) new
   noted_more lit old new statement there at pairs rows answers noted =
       let signed : Signed = record { statement = statement; negative = is_negative lit } in
@@ -141,7 +145,8 @@ module _ (relations : List Relation) (log : Log) where
       record {
         pairs = notes_more pair_of log lit (Contains old.pairs) (Contains new.pairs) signed there means pairs noted.pairs;
         rows = notes_more (row_of relations) log lit (has_row old.rows) (has_row new.rows) signed there means rows noted.rows;
-        answers = notes_more (tuple_of log.answers) log lit (Contains old.answers) (Contains new.answers) signed there means answers noted.answers;
+        answers = notes_more (tuple_of log.answers) log lit (Contains old.answers) (Contains new.answers) signed
+            there means answers noted.answers;
       }
 
 -- what follows from three facts of a success

@@ -59,7 +59,8 @@ place_itself rel attr = and_both (rel.0 == rel.0) (attr.0 == attr.0) (eq-eqb rel
 -- ---- pairs
 
 -- two rows are the same two
-rows_match : (a b a' b' : RowId) (sign : Bool) → ((a'.0 == a.0) && (b'.0 == b.0) && sign) ≡ true → (a' ≡ a) × (b' ≡ b) × (sign ≡ true)
+rows_match : (a b a' b' : RowId) (sign : Bool) → ((a'.0 == a.0) && (b'.0 == b.0) && sign) ≡ true →
+    (a' ≡ a) × (b' ≡ b) × (sign ≡ true)
 rows_match a b a' b' sign e =
     let outer = and_parts ((a'.0 == a.0) && (b'.0 == b.0)) sign e in
     let both = and_parts (a'.0 == a.0) (b'.0 == b.0) outer.0 in
@@ -95,7 +96,8 @@ pair_of_same relations m rel attr a b e = by m.statement m.negative e
         let rows = rows_match a b x y (same_sign n false) e in along n r t x y rows.2 place.0 place.1 rows.0 rows.1)
         (λ (e : ((x.0 == b.0) && (y.0 == a.0) && not (same_sign n false)) ≡ true).
         let rows = rows_match b a x y (not (same_sign n false)) e in back n r t x y rows.2 place.0 place.1 rows.0 rows.1)
-        (or_cases ((x.0 == a.0) && (y.0 == b.0) && same_sign n false) ((x.0 == b.0) && (y.0 == a.0) && not (same_sign n false)) split.1)
+        (or_cases ((x.0 == a.0) && (y.0 == b.0) && same_sign n false) ((x.0 == b.0) && (y.0 == a.0)
+        && not (same_sign n false)) split.1)
     by (says.Top r t x) n e = absurd (false≢true e)
     by (says.Last r t x) n e = absurd (false≢true e)
     by (says.Answer tuple) n e = absurd (false≢true e)
@@ -106,22 +108,27 @@ pub same_of_pair : (relations : List Relation) (m : Signed) (rel : RelId) (attr 
 same_of_pair relations m rel attr a b e = by m.statement m.negative e
   where
     rows_same : (x y : RowId) → ((x.0 == x.0) && (y.0 == y.0) && true) ≡ true
-    rows_same x y = and_both ((x.0 == x.0) && (y.0 == y.0)) true (and_both (x.0 == x.0) (y.0 == y.0) (eq-eqb x.0 x.0 refl) (eq-eqb y.0 y.0 refl)) refl
+    rows_same x y = and_both ((x.0 == x.0) && (y.0 == y.0)) true
+        (and_both (x.0 == x.0) (y.0 == y.0) (eq-eqb x.0 x.0 refl) (eq-eqb y.0 y.0 refl)) refl
 
     by : (s : Statement) (n : Bool) → pair_of (signed s n) ≡ Some (said_pair rel attr a b)
         → says_same relations (signed s n) (before rel attr a b) ≡ true
     by (says.Before r t x y) false e =
         let is : said_pair r t x y ≡ said_pair rel attr a b = same_Some (said_pair r t x y) (said_pair rel attr a b) e in
-        subst (λ (p : SaidPair). says_same relations (signed (says.Before r t x y) false) (before p.rel p.attr p.earlier p.later) ≡ true) is
+        subst (λ (p : SaidPair). says_same relations (signed (says.Before r t x y) false)
+        (before p.rel p.attr p.earlier p.later) ≡ true) is
         (and_both (same_place r t r t)
         (((x.0 == x.0) && (y.0 == y.0) && true) || ((x.0 == y.0) && (y.0 == x.0) && false))
-        (place_itself r t) (or_first ((x.0 == x.0) && (y.0 == y.0) && true) ((x.0 == y.0) && (y.0 == x.0) && false) (rows_same x y)))
+        (place_itself r t) (or_first ((x.0 == x.0) && (y.0 == y.0) && true) ((x.0 == y.0) && (y.0 == x.0) && false)
+        (rows_same x y)))
     by (says.Before r t x y) true e =
         let is : said_pair r t y x ≡ said_pair rel attr a b = same_Some (said_pair r t y x) (said_pair rel attr a b) e in
-        subst (λ (p : SaidPair). says_same relations (signed (says.Before r t x y) true) (before p.rel p.attr p.earlier p.later) ≡ true) is
+        subst (λ (p : SaidPair). says_same relations (signed (says.Before r t x y) true)
+        (before p.rel p.attr p.earlier p.later) ≡ true) is
         (and_both (same_place r t r t)
         (((x.0 == y.0) && (y.0 == x.0) && false) || ((x.0 == x.0) && (y.0 == y.0) && true))
-        (place_itself r t) (or_second ((x.0 == y.0) && (y.0 == x.0) && false) ((x.0 == x.0) && (y.0 == y.0) && true) (rows_same x y)))
+        (place_itself r t) (or_second ((x.0 == y.0) && (y.0 == x.0) && false) ((x.0 == x.0) && (y.0 == y.0) && true)
+        (rows_same x y)))
     by (says.Top r t x) n e = absurd (none-some (said_pair rel attr a b) e)
     by (says.Last r t x) n e = absurd (none-some (said_pair rel attr a b) e)
     by (says.Answer tuple) n e = absurd (none-some (said_pair rel attr a b) e)
@@ -129,7 +136,8 @@ same_of_pair relations m rel attr a b e = by m.statement m.negative e
 -- ---- rows
 
 -- a row that is said to have the current value of its entity: the statement says it, and the row is there
-pub record IsLastOf (relations : List Relation) (m : Signed) (rel : RelId) (attr : AttrId) (ent : EntId) (row : RowId) : Type 0 where
+pub record IsLastOf (relations : List Relation) (m : Signed) (rel : RelId) (attr : AttrId) (ent : EntId)
+    (row : RowId) : Type 0 where
   pub is : m ≡ last rel attr row
   pub of_entity : entity_of (rows_in (slice_get relations rel.0)) row.0 ≡ Some ent.0
 
@@ -156,7 +164,8 @@ last_of_row relations m rel attr ent row e = by m.statement m.negative e
     by (says.Answer tuple) n e = absurd (none-some (said_row rel attr ent row) e)
 
 -- what says the same as that a row's value is the current one: a row of its entity with this value
-pub record IsLastAlike (relations : List Relation) (m : Signed) (rel : RelId) (attr : AttrId) (ent : EntId) (v : Value) : Type 0 where
+pub record IsLastAlike (relations : List Relation) (m : Signed) (rel : RelId) (attr : AttrId) (ent : EntId)
+    (v : Value) : Type 0 where
   pub row : RowId
   pub is_row : row_of relations m ≡ Some (said_row rel attr ent row)
   pub of_value : field_value (rows_in (slice_get relations rel.0)) (Some row) attr.0 ≡ Some v
@@ -170,7 +179,8 @@ last_alike relations m rel attr ent v row of_ent of_value e = by m.statement m.n
     rows : List Row
     rows = rows_in (slice_get relations rel.0)
 
-    at_place : (other : RowId) (n : Bool) → same_sign n false ≡ true → same_entity rows other row ≡ true → same_value rows attr.0 other row ≡ true
+    at_place : (other : RowId) (n : Bool) → same_sign n false ≡ true → same_entity rows other row ≡ true
+        → same_value rows attr.0 other row ≡ true
         → IsLastAlike relations (signed (says.Last rel attr other) n) rel attr ent v
     at_place other true sign entity value = absurd (false≢true sign)
     at_place other false sign entity value =
@@ -187,7 +197,8 @@ last_alike relations m rel attr ent v row of_ent of_value e = by m.statement m.n
         → IsLastAlike relations (signed s n) rel attr ent v
     by (says.Last r t other) n e =
         let own = rows_in (slice_get relations r.0) in
-        let ends = and_parts (same_place r t rel attr && same_sign n false && same_entity own other row) (same_value own t.0 other row) e in
+        let ends = and_parts (same_place r t rel attr && same_sign n false && same_entity own other row)
+        (same_value own t.0 other row) e in
         let middle = and_parts (same_place r t rel attr && same_sign n false) (same_entity own other row) ends.0 in
         let parts = and_parts (same_place r t rel attr) (same_sign n false) middle.0 in
         let place = place_is r rel t attr parts.0 in
@@ -221,15 +232,19 @@ pub is_meant : (relations : List Relation) (log : Log) (lit : Lit) (s : Signed) 
     → IsMeant relations log lit s
 is_meant relations log lit s e = by (slice_get log.statements (var_of lit)) refl e
   where
-    by : (o : Option Statement) → slice_get log.statements (var_of lit) ≡ o → is_said relations s (option_map (λ (t : Statement). signed t (is_negative lit)) (slice_get log.statements (var_of lit))) ≡ true
+    by : (o : Option Statement) → slice_get log.statements (var_of lit) ≡ o → is_said relations s
+        (option_map (λ (t : Statement). signed t (is_negative lit)) (slice_get log.statements (var_of lit))) ≡ true
         → IsMeant relations log lit s
-    by None at e = absurd (false≢true (ap (λ (o : Option Statement). is_said relations s (option_map (λ (t : Statement). signed t (is_negative lit)) o)) (sym at) ∙ e))
+    by None at e = absurd (false≢true
+        (ap (λ (o : Option Statement). is_said relations s
+        (option_map (λ (t : Statement). signed t (is_negative lit)) o)) (sym at) ∙ e))
     by (Some t) at e =
         let within = slice_get_within log.statements (var_of lit) t at in
         record {
           meant = signed t (is_negative lit);
           means = ap (option_map (λ (t : Statement). signed t (is_negative lit))) at;
-          same = ap (λ (o : Option Statement). is_said relations s (option_map (λ (t : Statement). signed t (is_negative lit)) o)) (sym at) ∙ e;
+          same = ap (λ (o : Option Statement). is_said relations s
+              (option_map (λ (t : Statement). signed t (is_negative lit)) o)) (sym at) ∙ e;
           early = early lit.0 (length log.statements) within;
         }
       where
@@ -244,14 +259,16 @@ rows_named index rel attr ent = rows_at index.rows record { rel = rel; attr = at
 abbrev pub has_value : Relation → AttrId → Value → RowId → Bool
 has_value relation attr v row = is_compared (field_value relation.rows (Some row) attr.0) Eq (Some v)
 
-module _ (relations : List Relation) (log : Log) (index : Index) (noted : AreNoted relations log (2 * length log.statements) index) where
+module _ (relations : List Relation) (log : Log) (index : Index)
+    (noted : AreNoted relations log (2 * length log.statements) index) where
   pub unit_of_pair : (rel : RelId) (attr : AttrId) (a b : RowId) → Contains index.pairs (said_pair rel attr a b)
       → HasUnit relations log (before rel attr a b)
   unit_of_pair rel attr a b is =
       let said = noted.pairs.only (said_pair rel attr a b) is in
       record {
         lit = said.lit;
-        says = ap (is_said relations (before rel attr a b)) said.means ∙ same_of_pair relations said.signed rel attr a b said.says;
+        says = ap (is_said relations (before rel attr a b)) said.means ∙ same_of_pair relations said.signed rel attr
+            a b said.says;
         there = said.there;
       }
 
@@ -268,11 +285,13 @@ module _ (relations : List Relation) (log : Log) (index : Index) (noted : AreNot
         there = unit.there;
       }
 
-  module _ (rel : RelId) (attr : AttrId) (ent : EntId) (v : Value) (relation : Relation) (at : slice_get relations rel.0 ≡ Some relation) where
+  module _ (rel : RelId) (attr : AttrId) (ent : EntId) (v : Value) (relation : Relation)
+      (at : slice_get relations rel.0 ≡ Some relation) where
     abbrev rows_are : rows_in (slice_get relations rel.0) ≡ relation.rows
     rows_are = ap rows_in at
 
-    pub unit_of_value : list_any (has_value relation attr v) (rows_named index rel attr ent) ≡ true → HasLastUnit relations log rel attr ent v
+    pub unit_of_value : list_any (has_value relation attr v) (rows_named index rel attr ent) ≡ true
+        → HasLastUnit relations log rel attr ent v
     unit_of_value e =
         let one = found (has_value relation attr v) (rows_named index rel attr ent) e in
         let row = one.0 in
@@ -280,7 +299,8 @@ module _ (relations : List Relation) (log : Log) (index : Index) (noted : AreNot
         let is = last_of_row relations said.signed rel attr ent row said.says in
         let value = equal_is (field_value relation.rows (Some row) attr.0) (Some v) one.2 in
         let of_value : field_value relation.rows (Some row) attr.0 ≡ Some v = value.1 ∙ sym value.2 in
-        let of_entity : entity_of relation.rows row.0 ≡ Some ent.0 = subst (λ rows. entity_of rows row.0 ≡ Some ent.0) rows_are is.of_entity in
+        let of_entity : entity_of relation.rows row.0 ≡ Some ent.0 =
+        subst (λ rows. entity_of rows row.0 ≡ Some ent.0) rows_are is.of_entity in
         record {
           relation = relation;
           row = row;
@@ -306,7 +326,8 @@ module _ (relations : List Relation) (log : Log) (index : Index) (noted : AreNot
             (and_both (same_place rel attr rel attr && true) (same_entity (rows_in (slice_get relations rel.0)) row row)
             (and_both (same_place rel attr rel attr) true (place_itself rel attr) refl) entity) value
 
-    pub value_of_unit : HasLastUnit relations log rel attr ent v → list_any (has_value relation attr v) (rows_named index rel attr ent) ≡ true
+    pub value_of_unit : HasLastUnit relations log rel attr ent v → list_any (has_value relation attr v)
+        (rows_named index rel attr ent) ≡ true
     value_of_unit unit =
         let same : unit.relation ≡ relation = same_Some unit.relation relation (sym unit.is_relation ∙ at) in
         let own : unit.relation.rows ≡ rows_in (slice_get relations rel.0) = ap (λ (r : Relation). r.rows) same ∙ sym rows_are in

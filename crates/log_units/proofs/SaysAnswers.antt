@@ -34,7 +34,8 @@ record IsNamed (answers : List (List Value)) (m : Signed) (tuple : List Value) :
   is : m ≡ answer place
   is_tuple : slice_get answers place ≡ Some tuple
 
-named : (answers : List (List Value)) (m : Signed) (tuple : List Value) → tuple_of answers m ≡ Some tuple → IsNamed answers m tuple
+named : (answers : List (List Value)) (m : Signed) (tuple : List Value) → tuple_of answers m ≡ Some tuple
+    → IsNamed answers m tuple
 named answers m tuple e = by m.statement m.negative e
   where
     by : (s : Statement) (n : Bool) → tuple_of answers (signed s n) ≡ Some tuple → IsNamed answers (signed s n) tuple
@@ -44,7 +45,8 @@ named answers m tuple e = by m.statement m.negative e
     by (says.Top r t x) n e = absurd (none-some tuple e)
     by (says.Last r t x) n e = absurd (none-some tuple e)
 
-module _ (relations : List Relation) (log : Log) (index : Index) (noted : AreNoted relations log (2 * length log.statements) index) where
+module _ (relations : List Relation) (log : Log) (index : Index)
+    (noted : AreNoted relations log (2 * length log.statements) index) where
   pub unit_of_answer : (tuple : List Value) → Contains index.answers tuple → HasAnswerUnit relations log tuple
   unit_of_answer tuple is =
       let said = noted.answers.only tuple is in

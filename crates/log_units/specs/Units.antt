@@ -23,7 +23,8 @@ pub record HasUnit (relations : List Relation) (log : Log) (s : Signed) : Type 0
   pub there : list_any (is_unit lit) (clauses_of log.steps) ≡ true
 
 -- the log has the unit that a value is the current one of an entity, which is named by a row of it with the value
-pub record HasLastUnit (relations : List Relation) (log : Log) (rel : RelId) (attr : AttrId) (ent : EntId) (v : Value) : Type 0 where
+pub record HasLastUnit (relations : List Relation) (log : Log) (rel : RelId) (attr : AttrId) (ent : EntId)
+    (v : Value) : Type 0 where
   pub relation : Relation
   pub row : RowId
   pub is_relation : slice_get relations rel.0 ≡ Some relation

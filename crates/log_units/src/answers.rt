@@ -57,7 +57,8 @@ impl<'a> PartialOrd for SaidTuple<'a> {
 
     ghost partial_cmp = { as_partial_cmp (slice_cmp value_cmp) };
 
-    ghost laws = { partial_order_from_own_ties (Prim.search (comparing, rules, tuple_total)) (Prim.search (comparing, rules, tuple_total)) };
+    ghost laws = { partial_order_from_own_ties (Prim.search (comparing, rules, tuple_total))
+        (Prim.search (comparing, rules, tuple_total)) };
 
     fn partial_cmp(&self, other: &SaidTuple<'a>) -> Option<Ordering> {
         Some(self.cmp(other))

@@ -40,19 +40,33 @@ named : (all : List (List Value)) (n : ℕ) (statements : List Statement) (front
 named all n [] front rest e f h = record { answers_are = h; statements_are = refl }
 named all n (statement.Before rel attr earlier later ∷ statements) front rest e f h =
     let more = named all n statements front rest e f h in
-    record { answers_are = more.answers_are; statements_are = ap (λ (l : List Statement). statement.Before rel attr earlier later ∷ l) more.statements_are }
+    record {
+      answers_are = more.answers_are;
+      statements_are =
+          ap (λ (l : List Statement). statement.Before rel attr earlier later ∷ l) more.statements_are;
+    }
 named all n (statement.Top rel attr row ∷ statements) front rest e f h =
     let more = named all n statements front rest e f h in
-    record { answers_are = more.answers_are; statements_are = ap (λ (l : List Statement). statement.Top rel attr row ∷ l) more.statements_are }
+    record {
+      answers_are = more.answers_are;
+      statements_are = ap (λ (l : List Statement). statement.Top rel attr row
+          ∷ l) more.statements_are;
+    }
 named all n (statement.Last rel attr row ∷ statements) front rest e f h =
     let more = named all n statements front rest e f h in
-    record { answers_are = more.answers_are; statements_are = ap (λ (l : List Statement). statement.Last rel attr row ∷ l) more.statements_are }
+    record {
+      answers_are = more.answers_are;
+      statements_are = ap (λ (l : List Statement). statement.Last rel attr row
+          ∷ l) more.statements_are;
+    }
 named all n (statement.Answer tuple ∷ statements) front [] e f h = absurd h
 named all n (statement.Answer tuple ∷ statements) front (values ∷ rest) e f h =
     let count : length (front ++ values ∷ []) ≡ length front + 1 = length-append front (values ∷ []) in
-    let more = named all (n + 1) statements (front ++ values ∷ []) rest (e ∙ sym (append_assoc front (values ∷ []) rest)) (omega arith) h.1 in
+    let more = named all (n + 1) statements (front ++ values ∷ []) rest
+    (e ∙ sym (append_assoc front (values ∷ []) rest)) (omega arith) h.1 in
     let found : slice_index_or all tuple [] ≡ values =
-    ap (λ (l : List (List Value)). slice_index_or l tuple []) e ∙ ap (λ (i : ℕ). slice_index_or (front ++ values ∷ rest) i []) (h.0 ∙ f) ∙ at_length front values rest in
+    ap (λ (l : List (List Value)). slice_index_or l tuple []) e
+    ∙ ap (λ (i : ℕ). slice_index_or (front ++ values ∷ rest) i []) (h.0 ∙ f) ∙ at_length front values rest in
     record {
       answers_are = ap₂ (λ (v : List Value) (l : List (List Value)). v ∷ l) (sym found) more.answers_are;
       statements_are = ap₂ (λ (i : ℕ) (l : List Statement). statement.Answer i ∷ l) h.0 more.statements_are;
@@ -78,14 +92,16 @@ text_said log h = text_wider (text_statements log.answers h.answers log.statemen
     said : AreNamed 0 log.answers log.statements trees
     said = named log.answers 0 log.statements [] log.answers refl refl h.answered
 
-    read : (tokens : List Lexeme) → UpTo 4294967294 (λ s. EndedStatement (tree_of log.answers s)) log.statements tokens → Somewhere log tokens
+    read : (tokens : List Lexeme) → UpTo 4294967294 (λ s. EndedStatement (tree_of log.answers s)) log.statements
+        tokens → Somewhere log tokens
     read tokens up =
         let on_lines : AreSpelled (λ t. t.statement) SpellsEndedStatement trees tokens =
         many_on_lines (λ t. t.statement) statement_on SpellsEndedStatement (λ line t. refl) trees tokens
         (many_map (tree_of log.answers) EndedStatement log.statements tokens up.spelled) in
         let few : length log.statements ≤ 4294967294 = up.few in
         let count : length log.statements ≡ length on_lines.trees =
-        sym (length-map log.statements (tree_of log.answers)) ∙ ap length on_lines.are ∙ length-map on_lines.trees (λ t. t.statement) in (
+        sym (length-map log.statements (tree_of log.answers)) ∙ ap length on_lines.are ∙ length-map on_lines.trees
+        (λ t. t.statement) in (
           map (λ t. t.line) on_lines.trees,
           record {
             trees = on_lines.trees;
@@ -104,9 +120,11 @@ LogSomewhere log tokens = (r : ReadLog) × (r.log ≡ log) × SpellsLog r tokens
 
 text_full : Parts → (log : Log) → IsWritable log → IsText (LogSomewhere log) (clause_pieces log)
 text_full parts log h =
-    text_wider (text_then (text_word (codes "log") (omega arith) refl) (text_then semicolon (text_then (text_said log h) (text_steps parts log.steps h.steps)))) read
+    text_wider (text_then (text_word (codes "log") (omega arith) refl)
+    (text_then semicolon (text_then (text_said log h) (text_steps parts log.steps h.steps)))) read
   where
-    read : (tokens : List Lexeme) → (IsWord (codes "log") ⋅ IsSymbol (codes ";") ⋅ Somewhere log ⋅ StepsSomewhere log.steps) tokens → LogSomewhere log tokens
+    read : (tokens : List Lexeme) → (IsWord (codes "log") ⋅ IsSymbol (codes ";") ⋅ Somewhere log ⋅ StepsSomewhere
+        log.steps) tokens → LogSomewhere log tokens
     read tokens k =
         let both = k.second.second in (
           record { log = log; statements = both.first.0; steps = both.second.0 },
@@ -121,7 +139,14 @@ text_full parts log h =
               rest = k.second.rest;
               split = k.second.split;
               first = k.second.first;
-              second = record { front = both.front; rest = both.rest; split = both.split; first = both.first.1; second = both.second.1 };
+              second = record {
+                front = both.front;
+                rest = both.rest;
+                split = both.split;
+                first =
+                    both.first.1;
+                second = both.second.1;
+              };
             };
           },
         )

@@ -57,7 +57,8 @@ number_said n h t e =
     ∙ place_is n h
 
 pub text_number : (n : ℕ) → IsPlace n → IsText (SpellsNumber n) (number_pieces n)
-text_number n h = text_says place_in n (value_piece (value.Int (pos (n + 1)))) (value_is_whole (value.Int (pos (n + 1))) (small_value (n + 1) (omega arith))) (number_said n h)
+text_number n h = text_says place_in n (value_piece (value.Int (pos (n + 1))))
+    (value_is_whole (value.Int (pos (n + 1))) (small_value (n + 1) (omega arith))) (number_said n h)
 
 -- ---- literals
 
@@ -90,9 +91,11 @@ negative_said n h t e =
 text_signed : (l : Lit) (n : ℕ) → n < 2 ^ 31 → (negative : Bool) → literal n negative ≡ l
     → IsText (SpellsLit l) (value_piece (value.Int (cond negative (negsuc n) (pos (n + 1)))) ∷ [])
 text_signed l n h true e =
-    text_says lit_in l (value_piece (value.Int (negsuc n))) (value_is_whole (value.Int (negsuc n)) (small_negative n (omega arith)))
+    text_says lit_in l (value_piece (value.Int (negsuc n)))
+    (value_is_whole (value.Int (negsuc n)) (small_negative n (omega arith)))
     (λ t f. negative_said n h t f ∙ ap Some e)
-text_signed l n h false e = text_says lit_in l (value_piece (value.Int (pos (n + 1)))) (value_is_whole (value.Int (pos (n + 1))) (small_value (n + 1) (omega arith)))
+text_signed l n h false e = text_says lit_in l (value_piece (value.Int (pos (n + 1))))
+    (value_is_whole (value.Int (pos (n + 1))) (small_value (n + 1) (omega arith)))
     (λ t f. positive_said n h t f ∙ ap Some e)
 
 pub text_lit : ((l : Lit) → literal (var_of l) (is_negative l) ≡ l) → (l : Lit) → IsLit l → IsText (SpellsLit l) (lit_pieces l)

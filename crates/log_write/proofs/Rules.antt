@@ -89,7 +89,8 @@ text_cell rel attr row a b c = text_then (text_number rel.0 a) (text_then (text_
 
 text_label : (l : Label) → IsWritableLabel l → IsText (SpellsLabel l) (label_pieces l)
 text_label (label.Given rel attr earlier later) (a, b, c, d) =
-    text_then (text_word (codes "given") (omega arith) refl) (text_then (text_cell rel attr earlier a b c) (text_number later.0 d))
+    text_then (text_word (codes "given") (omega arith) refl) (text_then (text_cell rel attr earlier a b c)
+    (text_number later.0 d))
 text_label (label.Transitive rel attr first second third) (a, b, c, d, e) =
     text_then (text_word (codes "transitive") (omega arith) refl)
     (text_then (text_cell rel attr first a b c) (text_then (text_number second.0 d) (text_number third.0 e)))
@@ -97,7 +98,8 @@ text_label (label.Rule rule rows) (a, b) =
     text_then (text_word (codes "rule") (omega arith) refl) (text_then (text_number rule.0 a) (text_rows rows b))
 text_label (label.Copy copy place first second) (a, b, c, d) =
     text_then (text_word (codes "copy") (omega arith) refl)
-    (text_then (text_number copy.0 a) (text_then (text_number place b) (text_then (text_number first.0 c) (text_number second.0 d))))
+    (text_then (text_number copy.0 a)
+    (text_then (text_number place b) (text_then (text_number first.0 c) (text_number second.0 d))))
 text_label (label.Above rel attr row other) (a, b, c, d) =
     text_then (text_word (codes "above") (omega arith) refl) (text_then (text_cell rel attr row a b c) (text_number other.0 d))
 text_label (label.Top rel attr row) (a, b, c) =
@@ -107,10 +109,12 @@ text_label (label.Last rel attr row) (a, b, c) =
 text_label (label.Value rel attr row) (a, b, c) =
     text_then (text_word (codes "value") (omega arith) refl) (text_cell rel attr row a b c)
 text_label (label.Match disjunct entities values) (a, b, c) =
-    text_then (text_word (codes "match") (omega arith) refl) (text_then (text_number disjunct a) (text_then (text_entities entities b) (text_values values c)))
+    text_then (text_word (codes "match") (omega arith) refl)
+    (text_then (text_number disjunct a) (text_then (text_entities entities b) (text_values values c)))
 
 text_labelled : Parts → (l : Label) (lits : List Lit) → IsWritableLabel l → AreFew IsLit lits
-    → IsText (SpellsLabel l ⋅ IsSymbol (codes ":") ⋅ SpellsLits lits) (label_pieces l ++ (symbol (codes ":") ++ many_pieces lit_pieces lits))
+    → IsText (SpellsLabel l ⋅ IsSymbol (codes ":") ⋅ SpellsLits lits)
+    (label_pieces l ++ (symbol (codes ":") ++ many_pieces lit_pieces lits))
 text_labelled parts l lits a b =
     text_then (text_label l a) (text_then colon (text_lits parts lits b))
 
@@ -141,9 +145,11 @@ EndedStep s = OnSomeLine (λ line. SpellsEndedStep (step_on line s))
 abbrev pub StepsSomewhere : List Step → List Lexeme → Type 0
 StepsSomewhere steps tokens = (lines : List ℕ) × SpellsSteps steps lines tokens
 
-pub text_steps : Parts → (steps : List Step) → AreFew IsWritableStep steps → IsText (StepsSomewhere steps) (many_pieces ended_step_pieces steps)
+pub text_steps : Parts → (steps : List Step) → AreFew IsWritableStep steps → IsText (StepsSomewhere steps)
+    (many_pieces ended_step_pieces steps)
 text_steps parts steps few =
-    text_wider (text_few EndedStep ended_step_pieces IsWritableStep (λ s h. text_on_line (text_step parts s h) semicolon) steps few) read
+    text_wider (text_few EndedStep ended_step_pieces IsWritableStep
+    (λ s h. text_on_line (text_step parts s h) semicolon) steps few) read
   where
     read : (tokens : List Lexeme) → UpTo 4294967294 EndedStep steps tokens → StepsSomewhere steps tokens
     read tokens h =
@@ -152,7 +158,13 @@ text_steps parts steps few =
         let few : length steps ≤ 4294967294 = h.few in
         let count : length steps ≡ length said.trees = ap length said.are ∙ length-map said.trees (λ s. s.step) in (
           map (λ s. s.line) said.trees,
-          record { trees = said.trees; steps_are = said.are; lines_are = refl; spelled = record { few = omega arith; spelled = said.spelled } },
+          record {
+            trees = said.trees;
+            steps_are = said.are;
+            lines_are = refl;
+            spelled =
+                record { few = omega arith; spelled = said.spelled };
+          },
         )
 
 -- ---- statements
@@ -173,13 +185,15 @@ few_values (values ∷ answers) (suc i) h = few_values answers i (All-tail (AreF
 text_statement : (answers : List (List Value)) → All (AreFew IsValue) answers → (s : Statement) → IsWritableStatement s
     → IsText (SpellsStatement (tree_of answers s)) (statement_pieces answers s)
 text_statement answers all (statement.Before rel attr earlier later) (a, b, c, d) =
-    text_then (text_word (codes "before") (omega arith) refl) (text_then (text_cell rel attr earlier a b c) (text_number later.0 d))
+    text_then (text_word (codes "before") (omega arith) refl) (text_then (text_cell rel attr earlier a b c)
+    (text_number later.0 d))
 text_statement answers all (statement.Top rel attr row) (a, b, c) =
     text_then (text_word (codes "top") (omega arith) refl) (text_cell rel attr row a b c)
 text_statement answers all (statement.Last rel attr row) (a, b, c) =
     text_then (text_word (codes "last") (omega arith) refl) (text_cell rel attr row a b c)
 text_statement answers all (statement.Answer tuple) h =
-    text_then (text_word (codes "answer") (omega arith) refl) (text_values (slice_index_or answers tuple []) (few_values answers tuple all))
+    text_then (text_word (codes "answer") (omega arith) refl) (text_values (slice_index_or answers tuple [])
+    (few_values answers tuple all))
 
 abbrev pub statement_on : ℕ → StatementTree → StatementOnLine
 statement_on line t = record { line = line; statement = t }
@@ -190,7 +204,9 @@ EndedStatement t = OnSomeLine (λ line. SpellsEndedStatement (statement_on line 
 
 pub text_statements : (answers : List (List Value)) → All (AreFew IsValue) answers → (statements : List Statement)
     → AreFew IsWritableStatement statements
-    → IsText (UpTo 4294967294 (λ s. EndedStatement (tree_of answers s)) statements) (many_pieces (ended_statement_pieces answers) statements)
+    → IsText (UpTo 4294967294 (λ s. EndedStatement (tree_of answers s)) statements)
+    (many_pieces (ended_statement_pieces answers) statements)
 text_statements answers all =
     text_few (λ s. EndedStatement (tree_of answers s)) (ended_statement_pieces answers) IsWritableStatement
-    (λ s h. text_on_line (text_word_on (codes "statement") (omega arith) refl) (text_then (text_statement answers all s h) semicolon))
+    (λ s h. text_on_line (text_word_on (codes "statement") (omega arith) refl)
+    (text_then (text_statement answers all s h) semicolon))

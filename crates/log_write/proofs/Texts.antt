@@ -45,7 +45,14 @@ text_then {L} {M} {ps} {qs} l m = record {
   whole = All-append IsPiece ps qs l.whole m.whole;
   read = λ tokens e. (
       let c : Cut piece_of tokens ps qs = cut piece_of tokens ps qs e in
-      record { front = c.front; rest = c.rest; split = c.split; first = l.read c.front c.first; second = m.read c.rest c.second });
+      record {
+        front = c.front;
+        rest = c.rest;
+        split = c.split;
+        first = l.read c.front c.first;
+        second =
+            m.read c.rest c.second;
+      });
 }
 
 -- ---- no token, and one
@@ -93,7 +100,8 @@ text_symbol text h = text_one (symbol_piece text) (IsSymbol text) (record { whol
     (λ t e. record { token = t; alone = refl; passes = same_fixed Symbol text t e })
 
 -- a larger language
-pub text_wider : {L M : List Lexeme → Type 0} {ps : List Piece} → IsText L ps → ((tokens : List Lexeme) → L tokens → M tokens) → IsText M ps
+pub text_wider : {L M : List Lexeme → Type 0} {ps : List Piece} → IsText L ps →
+    ((tokens : List Lexeme) → L tokens → M tokens) → IsText M ps
 text_wider l goes = record { whole = l.whole; read = λ tokens e. goes tokens (l.read tokens e) }
 
 -- ---- on some line
@@ -102,11 +110,22 @@ text_wider l goes = record { whole = l.whole; read = λ tokens e. goes tokens (l
 abbrev pub OnSomeLine : (ℕ → List Lexeme → Type 0) → List Lexeme → Type 0
 OnSomeLine P tokens = (line : ℕ) × P line tokens
 
-pub text_word_on : (text : List ℕ) → 0 < length text → list_all is_word_byte text ≡ true → IsText (OnSomeLine (IsWordOn text)) (word text)
-text_word_on text some each = text_one (word_piece text) (OnSomeLine (IsWordOn text)) (record { whole = record { some = some; each = each } })
-    (λ t e. (t.line, record { token = t; alone = refl; said = ap (λ (b : Bool). cond b (Some t.line) None) (same_fixed Word text t e) }))
+pub text_word_on : (text : List ℕ) → 0 < length text → list_all is_word_byte text ≡ true
+    → IsText (OnSomeLine (IsWordOn text)) (word text)
+text_word_on text some each = text_one (word_piece text) (OnSomeLine (IsWordOn text))
+    (record { whole = record { some = some; each = each } })
+    (λ t e. (
+      t.line,
+      record {
+        token = t;
+        alone = refl;
+        said = ap (λ (b : Bool). cond b (Some t.line) None)
+            (same_fixed Word text t e);
+      },
+    ))
 
-pub text_on_line : {P : ℕ → List Lexeme → Type 0} {M : List Lexeme → Type 0} {ps qs : List Piece} → IsText (OnSomeLine P) ps → IsText M qs
+pub text_on_line : {P : ℕ → List Lexeme → Type 0} {M : List Lexeme → Type 0} {ps qs : List Piece}
+    → IsText (OnSomeLine P) ps → IsText M qs
     → IsText (OnSomeLine (λ line. P line ⋅ M)) (ps ++ qs)
 text_on_line l m = text_wider (text_then l m)
     (λ tokens h. (h.first.0, record { front = h.front; rest = h.rest; split = h.split; first = h.first.1; second = h.second }))
@@ -127,13 +146,15 @@ text_few P pieces Q each xs h =
     record { whole = many.whole; read = λ tokens e. record { few = h.few; spelled = many.read tokens e } }
 
 -- trees that are spelled, of which these are the parts
-pub record AreSpelled {A B : Type 0} (f : B → A) (P : B → List Lexeme → Type 0) (xs : List A) (tokens : List Lexeme) : Type 0 where
+pub record AreSpelled {A B : Type 0} (f : B → A) (P : B → List Lexeme → Type 0) (xs : List A)
+    (tokens : List Lexeme) : Type 0 where
   pub trees : List B
   pub are : xs ≡ map f trees
   pub spelled : Many P trees tokens
 
 -- items on some lines are parts of trees that have their lines
-pub many_on_lines : {A B : Type 0} (f : B → A) (make : ℕ → A → B) (P : B → List Lexeme → Type 0) → ((line : ℕ) (x : A) → x ≡ f (make line x))
+pub many_on_lines : {A B : Type 0} (f : B → A) (make : ℕ → A → B) (P : B → List Lexeme → Type 0) →
+    ((line : ℕ) (x : A) → x ≡ f (make line x))
     → (xs : List A) (tokens : List Lexeme) → Many (λ x. OnSomeLine (λ line. P (make line x))) xs tokens → AreSpelled f P xs tokens
 many_on_lines f make P same [] tokens h = record { trees = []; are = refl; spelled = h }
 many_on_lines {A} {B} f make P same (x ∷ xs) tokens h =

@@ -11,7 +11,8 @@ use Rattle.search_state.specs.States.{IsFit}
 -- the variables before a place ascend, and are among so many
 pub record Ascend (lits : List Lit) (place vars : ℕ) : Type 0 where
   pub within : (i : ℕ) (a : Lit) → i < place → slice_get lits i ≡ Some a → var_of a < vars
-  pub rise : (i j : ℕ) (a b : Lit) → i < j → j < place → slice_get lits i ≡ Some a → slice_get lits j ≡ Some b → var_of a < var_of b
+  pub rise : (i j : ℕ) (a b : Lit) → i < j → j < place → slice_get lits i ≡ Some a → slice_get lits j ≡ Some b
+      → var_of a < var_of b
 
 pub ascend_none : (lits : List Lit) (vars : ℕ) → Ascend lits 0 vars
 ascend_none lits vars = record {
@@ -20,7 +21,8 @@ ascend_none lits vars = record {
 }
 
 -- one literal more: the first, or of a greater variable than the one before
-pub ascend_more : (lits : List Lit) (place vars : ℕ) (x : Lit) → Ascend lits place vars → slice_get lits place ≡ Some x → var_of x < vars
+pub ascend_more : (lits : List Lit) (place vars : ℕ) (x : Lit) → Ascend lits place vars → slice_get lits place ≡ Some
+    x → var_of x < vars
     → ((y : Lit) → 0 < place → slice_get lits (place - 1) ≡ Some y → var_of y < var_of x) → Ascend lits (place + 1) vars
 ascend_more lits place vars x so is low above = record { within = within; rise = rise }
   where
@@ -34,7 +36,8 @@ ascend_more lits place vars x so is low above = record { within = within; rise =
         by (inl e) = subst (λ l. var_of l < vars) (same a (subst (λ k. slice_get lits k ≡ Some a) e at)) low
         by (inr less) = so.within i a less at
 
-    rise : (i j : ℕ) (a b : Lit) → i < j → j < place + 1 → slice_get lits i ≡ Some a → slice_get lits j ≡ Some b → var_of a < var_of b
+    rise : (i j : ℕ) (a b : Lit) → i < j → j < place + 1 → slice_get lits i ≡ Some a → slice_get lits j ≡ Some b
+        → var_of a < var_of b
     rise i j a b h k at there = by (eq-or-lt_of_le {n = j} {m = place} (omega (arith, k)))
       where
         last : (i < place) → (i ≡ place - 1) ⊎ (i < place - 1) → var_of a < var_of x
@@ -57,7 +60,8 @@ ascend_more lits place vars x so is low above = record { within = within; rise =
 -- the same, by what is read at both places
 pub ascend_on : (lits : List Lit) (place vars : ℕ) → Ascend lits place vars → place < length lits
     → IfSome (slice_get lits place) (λ lit. var_of lit < vars)
-    → (0 < place → IfSome (slice_get lits place) (λ lit. IfSome (slice_get lits (place - 1)) (λ before. var_of before < var_of lit)))
+    → (0 < place → IfSome (slice_get lits place) (λ lit. IfSome (slice_get lits (place - 1))
+    (λ before. var_of before < var_of lit)))
     → Ascend lits (place + 1) vars
 ascend_on lits place vars so inside low high = by (slice_get lits place) refl
   where
@@ -66,7 +70,8 @@ ascend_on lits place vars so inside low high = by (slice_get lits place) refl
     by (Some x) is =
         ascend_more lits place vars x so is (subst (λ o. IfSome o (λ lit. var_of lit < vars)) is low)
         (λ y some at. subst (λ o. IfSome o (λ before. var_of before < var_of x)) at
-        (subst (λ o. IfSome o (λ lit. IfSome (slice_get lits (place - 1)) (λ before. var_of before < var_of lit))) is (high some)))
+        (subst (λ o. IfSome o (λ lit. IfSome (slice_get lits (place - 1)) (λ before. var_of before < var_of lit))) is
+        (high some)))
 
 -- literals that ascend are fit for a clause
 pub ascending_fit : (lits : List Lit) (vars : ℕ) → Ascend lits (length lits) vars → IsFit vars lits

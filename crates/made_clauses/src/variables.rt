@@ -51,7 +51,8 @@ fn is_fit(lits: &[Lit], vars: usize) -> bool
 fn goes_on(lits: &[Lit], place: usize, vars: usize) -> bool
     requires { place < length lits.now }
     ensures within { result ≡ true → IfSome (slice_get lits.now place) (λ lit. var_of lit < vars) }
-    ensures rises { result ≡ true → 0 < place → IfSome (slice_get lits.now place) (λ lit. IfSome (slice_get lits.now (place - 1)) (λ before. var_of before < var_of lit)) }
+    ensures rises { result ≡ true → 0 < place → IfSome (slice_get lits.now place)
+        (λ lit. IfSome (slice_get lits.now (place - 1)) (λ before. var_of before < var_of lit)) }
 {
     if lits[place].var() as usize >= vars {
         return false;

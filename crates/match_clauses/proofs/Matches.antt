@@ -1,5 +1,5 @@
--- A match over the current instance of a completion: its atoms are of entities that are there, and the literals of what it says are the
--- clause of its label.
+-- A match over the current instance of a completion: its atoms are of entities that are there, and the literals of what
+-- it says are the clause of its label.
 use Rattle.std.proofs.Common.{◌≡◌, ◌∙◌, ◌==◌, ◌&&◌, ◌⊎◌, ◌<◌, ◌≤◌, ℕ, true, if◌then◌else◌, List, [], ◌∷◌, Contains, Option, Some, None, length, option_and_then, slice_get, slice_index_or, inl, inr, refl, sym, ap, subst, arith, ⊎_elim}
 use Rattle.std.specs.Cmp.{IsTotalOrder}
 use Rattle.std.specs.Cmp.Lexicographic.{slice_cmp}
@@ -65,10 +65,13 @@ relation_there relations instance rel ent tuple many at = elim ((slice_get_cases
       absurd (none-some tuple no)
 ]
 
-module _ (relations : List Relation) (c : Rankings) (query : Query) (tuple : List Value) (m : Match) (is : IsMatchIn relations c query tuple m) where
-  atom_of_current : (atom : Atom) (ent : EntId) → AtomMatches is.instance m.values atom ent.0 → IsOfCurrent relations c m.values atom ent
+module _ (relations : List Relation) (c : Rankings) (query : Query) (tuple : List Value) (m : Match)
+    (is : IsMatchIn relations c query tuple m) where
+  atom_of_current : (atom : Atom) (ent : EntId) → AtomMatches is.instance m.values atom ent.0 → IsOfCurrent relations
+      c m.values atom ent
   atom_of_current atom ent matches =
-      let there = relation_there relations is.instance atom.relation.0 ent.0 matches.tuple is.is_current.per_relation matches.is_tuple in
+      let there = relation_there relations is.instance atom.relation.0 ent.0 matches.tuple is.is_current.per_relation
+      matches.is_tuple in
       record {
         relation = there.0;
         is_relation = there.1;
@@ -77,7 +80,8 @@ module _ (relations : List Relation) (c : Rankings) (query : Query) (tuple : Lis
         fits = matches.fits;
       }
 
-  of_current : (k : ℕ) (atom : Atom) (ent : EntId) → slice_get is.is_match.disjunct.atoms k ≡ Some atom → slice_get m.entities k ≡ Some ent
+  of_current : (k : ℕ) (atom : Atom) (ent : EntId) → slice_get is.is_match.disjunct.atoms k ≡ Some atom
+      → slice_get m.entities k ≡ Some ent
       → IsOfCurrent relations c m.values atom ent
   of_current k atom ent at_atom at_ent = atom_of_current atom ent (is.is_match.atoms k atom ent at_atom at_ent)
 
@@ -88,15 +92,18 @@ module _ (relations : List Relation) (c : Rankings) (query : Query) (tuple : Lis
   disjunct_is d at = same_Some is.is_match.disjunct d (sym is.is_match.is_disjunct ∙ at)
 
 -- what the maker needs of the atoms
-pub atoms_there : (s : Spec) (wanted : Wanted) (c : Rankings) (query : Query) (m : Match) → AreRelations s.relations → IsOfWanted wanted.currents query m
-    → (tuple : List Value) → IsMatchIn s.relations c query tuple m → (d : Disjunct) → slice_get query.disjuncts m.disjunct ≡ Some d
+pub atoms_there : (s : Spec) (wanted : Wanted) (c : Rankings) (query : Query) (m : Match) → AreRelations s.relations
+    → IsOfWanted wanted.currents query m
+    → (tuple : List Value) → IsMatchIn s.relations c query tuple m → (d : Disjunct) → slice_get query.disjuncts
+    m.disjunct ≡ Some d
     → AreAtomsOf s wanted d.atoms m.entities
 atoms_there s wanted c query m are wants tuple is d at =
     subst (λ (x : Disjunct). AreAtomsOf s wanted x.atoms m.entities) (disjunct_is s.relations c query tuple m is d at) (record {
       per_atom = is.is_match.per_atom;
       each = λ k atom ent at_atom at_ent.
           let of = of_current s.relations c query tuple m is k atom ent at_atom at_ent in
-          let facts : IsRelation of.relation = all_at IsRelation s.relations atom.relation.0 of.relation are.each of.is_relation in
+          let facts : IsRelation of.relation = all_at IsRelation s.relations atom.relation.0 of.relation are.each
+          of.is_relation in
           record {
             terms = length of.relation.attrs;
             one_more =
@@ -126,8 +133,10 @@ none_lits statements = record {
   once = λ i j x at_i at_j. absurd (none-some x at_i);
 }
 
-pub match_made : (statements : List Statement) (relations : List Relation) (c : Rankings) (answer : ℕ) (atoms : List Atom) (entities : List EntId) (lit : Lit)
-    (mid new : List Lit) → SaysAnswer statements answer lit → IsAddedTo [] lit mid → Puts statements (atoms_said relations c atoms entities) mid new
+pub match_made : (statements : List Statement) (relations : List Relation) (c : Rankings) (answer : ℕ)
+    (atoms : List Atom) (entities : List EntId) (lit : Lit)
+    (mid new : List Lit) → SaysAnswer statements answer lit → IsAddedTo [] lit mid → Puts statements
+    (atoms_said relations c atoms entities) mid new
     → AreLits statements (match_said relations c answer atoms entities) new
 match_made statements relations c answer atoms entities lit mid new told added puts =
     puts_both statements (positive (says.Answer answer) ∷ []) (atoms_said relations c atoms entities) [] mid new
@@ -140,30 +149,37 @@ answer_agrees relations answer =
     let same = and_from (answer == answer) true (itself answer) refl in
     agrees_if relations (positive (says.Answer answer)) (judged.answer answer) same same
 
-module _ (total : IsTotalOrder (slice_cmp value_cmp)) (equal : (a b : List Value) → slice_cmp value_cmp a b ≡ Equal → a ≡ b) (s : Spec)
+module _ (total : IsTotalOrder (slice_cmp value_cmp)) (equal : (a b : List Value) → slice_cmp value_cmp a b ≡ Equal
+    → a ≡ b) (s : Spec)
     (c : Rankings) (are : AreRelations s.relations) (completion : IsCompletion s.relations c) (query : Query) (m : Match) where
   claims : (tuple : List Value) (is : IsMatchIn s.relations c query tuple m)
-      → AreClaimed s.relations c (atoms_said s.relations c is.is_match.disjunct.atoms m.entities) (match_claims s.relations m.values is.is_match.disjunct.atoms m.entities) []
+      → AreClaimed s.relations c (atoms_said s.relations c is.is_match.disjunct.atoms m.entities)
+      (match_claims s.relations m.values is.is_match.disjunct.atoms m.entities) []
   claims tuple is =
       atoms_claimed s.relations c are completion m.values is.is_match.disjunct.atoms m.entities is.is_match.per_atom
       (of_current s.relations c query tuple m is)
 
-  label_clause : (posed : Posed) (tuple : List Value) (answer : ℕ) (is : IsMatchIn s.relations c query tuple m) → IsPosedAt posed query tuple answer
-      → axiom_of s posed (label.Match m.disjunct m.entities m.values) ≡ Some (judged.answer answer ∷ denials (claims tuple is).premises)
+  label_clause : (posed : Posed) (tuple : List Value) (answer : ℕ) (is : IsMatchIn s.relations c query tuple m)
+      → IsPosedAt posed query tuple answer
+      → axiom_of s posed (label.Match m.disjunct m.entities m.values) ≡ Some
+      (judged.answer answer ∷ denials (claims tuple is).premises)
   label_clause posed tuple answer is at =
       let d = is.is_match.disjunct in
       let place : answer_place posed.answers m.values d.head ≡ Some answer =
       ap (option_and_then (first_place posed.answers)) (head_read m.values [] d.head tuple is.is_match.is_head)
       ∙ first_at total equal posed.answers tuple answer at.is_tuple at.first in
       let claim : match_claims s.relations m.values d.atoms m.entities ≡ Some (claims tuple is).premises = (claims tuple is).is in
-      let passes : ((length m.values == d.vars) && (length m.entities == length d.atoms) && comparisons_are m.values d.tests) ≡ true =
+      let passes : ((length m.values == d.vars) && (length m.entities == length d.atoms) && comparisons_are m.values
+      d.tests) ≡ true =
       and_from ((length m.values == d.vars) && (length m.entities == length d.atoms)) (comparisons_are m.values d.tests)
-      (and_from (length m.values == d.vars) (length m.entities == length d.atoms) (eq-eqb (length m.values) d.vars is.is_match.meets.per_var)
+      (and_from (length m.values == d.vars) (length m.entities == length d.atoms)
+      (eq-eqb (length m.values) d.vars is.is_match.meets.per_var)
       (eq-eqb (length m.entities) (length d.atoms) is.is_match.per_atom))
       (tests_pass m.values d.tests is.is_match.meets.tests) in
       ap (of_query s.relations posed.answers m.disjunct m.entities m.values) at.is_query
       ∙ ap (of_disjunct s.relations posed.answers m.entities m.values) is.is_match.is_disjunct
-      ∙ ap (λ b. if b then claimed_clause (answer_place posed.answers m.values d.head) (match_claims s.relations m.values d.atoms m.entities) else None) passes
+      ∙ ap (λ b. if b then claimed_clause (answer_place posed.answers m.values d.head)
+      (match_claims s.relations m.values d.atoms m.entities) else None) passes
       ∙ ap (λ (o : Option ℕ). claimed_clause o (match_claims s.relations m.values d.atoms m.entities)) place
       ∙ ap (claimed_clause (Some answer)) claim
 
@@ -175,19 +191,25 @@ module _ (total : IsTotalOrder (slice_cmp value_cmp)) (equal : (a b : List Value
       let clause = label_clause posed tuple answer is at in
       rw clause
       (lits_are_clause s.relations statements lits (match_said s.relations c answer is.is_match.disjunct.atoms m.entities)
-      (judged.answer answer ∷ denials (claims tuple is).premises) (answer_agrees s.relations answer, (claims tuple is).agree) made)
+      (judged.answer answer ∷ denials (claims tuple is).premises) (
+        answer_agrees s.relations answer,
+        (claims tuple is).agree,
+      ) made)
 
   -- ---- what is made
 
   module _ (wanted : Wanted) (answer : ℕ) (lits : List Lit) (d : Disjunct) (at_d : slice_get query.disjuncts m.disjunct ≡ Some d)
-      (made : AreLits (statements_of (numbers_of s.relations wanted)) (match_said s.relations c answer d.atoms m.entities) lits) where
+      (made : AreLits (statements_of (numbers_of s.relations wanted))
+      (match_said s.relations c answer d.atoms m.entities) lits) where
     statements : List Statement
     statements = statements_of (numbers_of s.relations wanted)
 
     made_of : (tuple : List Value) (is : IsMatchIn s.relations c query tuple m)
-        → AreLits (statements_of (numbers_of s.relations wanted)) (match_said s.relations c answer is.is_match.disjunct.atoms m.entities) lits
+        → AreLits (statements_of (numbers_of s.relations wanted))
+        (match_said s.relations c answer is.is_match.disjunct.atoms m.entities) lits
     made_of tuple is =
-        subst (λ (x : Disjunct). AreLits (statements_of (numbers_of s.relations wanted)) (match_said s.relations c answer x.atoms m.entities) lits)
+        subst (λ (x : Disjunct). AreLits (statements_of (numbers_of s.relations wanted))
+        (match_said s.relations c answer x.atoms m.entities) lits)
         (sym (disjunct_is s.relations c query tuple m is d at_d)) made
 
     says_one : (tuple : List Value) → IsMatchIn s.relations c query tuple m → (lit : Lit) → Contains lits lit
@@ -210,7 +232,8 @@ module _ (total : IsTotalOrder (slice_cmp value_cmp)) (equal : (a b : List Value
         } in inr r)
         (in_contained clause one.said one.is_in)
 
-    pub are_match_lits : (tuple : List Value) → IsMatchIn s.relations c query tuple m → AreMatchLits s wanted query c m answer lits
+    pub are_match_lits : (tuple : List Value) → IsMatchIn s.relations c query tuple m → AreMatchLits s wanted query c
+        m answer lits
     are_match_lits tuple is =
         let all = statements_of (numbers_of s.relations wanted) in
         let clause = match_said s.relations c answer d.atoms m.entities in

@@ -1,5 +1,5 @@
--- One place of an atom: where its term asks for a value, the judge has the claim of a row with the entity's current value, and the
--- maker says the same of it.
+-- One place of an atom: where its term asks for a value, the judge has the claim of a row with the entity's current
+-- value, and the maker says the same of it.
 use Rattle.std.proofs.Common.{◌≡◌, ◌∙◌, ◌<◌, true, List, Option, Some, None, option_map, length, slice_get, refl, sym, ap, subst}
 use Rattle.std.proofs.lemmas.Option.{same_Some, none-some}
 use Rattle.currency_base.specs.declared.ids.AttrId.{AttrId}
@@ -50,26 +50,33 @@ last_has : (c : Rankings) (rel : RelId) (r : Relation) (attr : AttrId) (ent : En
     → current_value c rel.0 r.rows attr.0 ent.0 ≡ Some x → IsLastRow c rel r attr ent x
 last_has c rel r attr ent x now = go (last_row (ranking_of c rel.0 attr.0 ent.0)) refl now
   where
-    go : (o : Option RowId) → last_row (ranking_of c rel.0 attr.0 ent.0) ≡ o → field_value r.rows o attr.0 ≡ Some x → IsLastRow c rel r attr ent x
+    go : (o : Option RowId) → last_row (ranking_of c rel.0 attr.0 ent.0) ≡ o → field_value r.rows o attr.0 ≡ Some x
+        → IsLastRow c rel r attr ent x
     go None is e = absurd (none-some x e)
     go (Some row) is e = record { row = row; is_last = is; has = e }
 
 -- ---- a place
 
 -- the judge's claim of a value, and the maker's
-pub record IsClaimed (relations : List Relation) (c : Rankings) (rel : RelId) (r : Relation) (attr : AttrId) (ent : EntId) (x : Value) : Type 0 where
+pub record IsClaimed (relations : List Relation) (c : Rankings) (rel : RelId) (r : Relation) (attr : AttrId)
+    (ent : EntId) (x : Value) : Type 0 where
   pub row : RowId
-  pub is_claim : claim_of rel r.rows (members r.rows ent.0) attr (Some x) ≡ Some (Some record { rel = rel; attr = attr; row = row })
+  pub is_claim : claim_of rel r.rows (members r.rows ent.0) attr (Some x) ≡ Some
+      (Some record { rel = rel; attr = attr; row = row })
   pub agrees : Agrees relations (not_current relations c rel attr ent) (judged.not_last rel attr row)
   pub denied : IsDenied relations c (not_current relations c rel attr ent)
 
-pub claimed : (relations : List Relation) (c : Rankings) → AreRelations relations → IsCompletion relations c → (rel : RelId) (r : Relation)
-    → slice_get relations rel.0 ≡ Some r → (attr : AttrId) (ent : EntId) → attr.0 < length r.attrs → ent.0 < length r.entities → (x : Value)
+pub claimed : (relations : List Relation) (c : Rankings) → AreRelations relations → IsCompletion relations c →
+    (rel : RelId) (r : Relation)
+    → slice_get relations rel.0 ≡ Some r → (attr : AttrId) (ent : EntId) → attr.0 < length r.attrs
+    → ent.0 < length r.entities → (x : Value)
     → current_value c rel.0 r.rows attr.0 ent.0 ≡ Some x → IsClaimed relations c rel r attr ent x
 claimed relations c are completion rel r at attr ent attr_in ent_in x now = record {
   row = other;
-  is_claim = ap (option_map (λ (row : RowId). let p : Premise = record { rel = rel; attr = attr; row = row } in Some p)) found.is_found;
-  agrees = subst (λ (said : Said). Agrees relations said (judged.not_last rel attr other)) (ap (not_last rel attr) one_name ∙ is_said)
+  is_claim = ap (option_map (λ (row : RowId). let p : Premise = record { rel = rel; attr = attr; row = row } in Some
+      p)) found.is_found;
+  agrees = subst (λ (said : Said). Agrees relations said (judged.not_last rel attr other))
+      (ap (not_last rel attr) one_name ∙ is_said)
       (last_agrees relations rel attr other true r
       (record { is_relation = at; facts = facts; attr_in = attr_in; row_in = row_within r.rows other.0 ent.0 other_of }));
   denied = record { rel = rel; attr = attr; row = name_of r.rows attr.0 row; is = sym is_said; is_current = current };
@@ -134,6 +141,7 @@ claimed relations c are completion rel r at attr ent attr_in ent_in x now = reco
         }
 
 -- the claim of a term that asks for a value
-pub place_is : (rel : RelId) (r : Relation) (ent : EntId) (values : List Value) (attr : AttrId) (o : Option Value) (x : Value) → o ≡ Some x
+pub place_is : (rel : RelId) (r : Relation) (ent : EntId) (values : List Value) (attr : AttrId) (o : Option Value)
+    (x : Value) → o ≡ Some x
     → claim_of rel r.rows (members r.rows ent.0) attr o ≡ claim_of rel r.rows (members r.rows ent.0) attr (Some x)
 place_is rel r ent values attr o x e = ap (claim_of rel r.rows (members r.rows ent.0) attr) e

@@ -22,7 +22,8 @@ use Rattle.match_clauses.specs.Clauses.{Puts}
 pub puts_none : (statements : List Statement) (lits : List Lit) → Puts statements [] lits lits
 puts_none statements lits clause are = subst (λ (x : List Said). AreLits statements x lits) (sym (append-nil clause)) are
 
-pub puts_one : (statements : List Statement) (said : Said) (lit : Lit) (old new : List Lit) → Says statements lit said → IsAddedTo old lit new
+pub puts_one : (statements : List Statement) (said : Said) (lit : Lit) (old new : List Lit) → Says statements lit
+    said → IsAddedTo old lit new
     → Puts statements (said ∷ []) old new
 puts_one statements said lit old new says is clause are =
     let d = distinct_push old old new lit (distinct_of_once old are.once) is in
@@ -60,7 +61,8 @@ puts_one statements said lit old new says is clause are =
       once = d.once;
     }
 
-pub puts_both : (statements : List Statement) (p q : List Said) (old mid new : List Lit) → Puts statements p old mid → Puts statements q mid new
+pub puts_both : (statements : List Statement) (p q : List Said) (old mid new : List Lit) → Puts statements p old mid
+    → Puts statements q mid new
     → Puts statements (p ++ q) old new
 puts_both statements p q old mid new f g clause are =
     subst (λ (x : List Said). AreLits statements x new) (append_assoc clause p q) (g (clause ++ p) (f clause are))
@@ -84,10 +86,12 @@ so_far_more statements whole left part rest old mid new e so puts = record {
   puts = puts_both statements so.done part old mid new so.puts puts;
 }
 
-pub so_far_end : (statements : List Statement) (whole left : List Said) (old new : List Lit) → left ≡ [] → IsSoFar statements whole left old new
+pub so_far_end : (statements : List Statement) (whole left : List Said) (old new : List Lit) → left ≡ []
+    → IsSoFar statements whole left old new
     → Puts statements whole old new
 so_far_end statements whole left old new e so =
-    subst (λ (x : List Said). Puts statements x old new) (sym (so.is_done ∙ ap (λ (x : List Said). so.done ++ x) e ∙ append-nil so.done)) so.puts
+    subst (λ (x : List Said). Puts statements x old new)
+    (sym (so.is_done ∙ ap (λ (x : List Said). so.done ++ x) e ∙ append-nil so.done)) so.puts
 
 -- ---- terms and atoms
 
@@ -108,7 +112,8 @@ module _ (relations : List Relation) (c : Rankings) where
       ≡ term_said relations c rel ent (record { 0 = i }) t ++ terms_said relations c rel ent (i + 1) (drop (i + 1) terms)
   terms_left rel ent terms i t at = ap (terms_said relations c rel ent i) (left_more terms i t at)
 
-  pub terms_end : (rel : RelId) (ent : EntId) (terms : List Term) (i : ℕ) → length terms ≤ i → terms_said relations c rel ent i (drop i terms) ≡ []
+  pub terms_end : (rel : RelId) (ent : EntId) (terms : List Term) (i : ℕ) → length terms ≤ i → terms_said relations c
+      rel ent i (drop i terms) ≡ []
   terms_end rel ent terms i past = ap (terms_said relations c rel ent i) (drop_all i terms past)
 
   pub atoms_left : (atoms : List Atom) (entities : List EntId) (i : ℕ) (atom : Atom) (ent : EntId) → slice_get atoms i ≡ Some atom

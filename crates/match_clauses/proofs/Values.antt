@@ -79,10 +79,22 @@ found_one p [] x at passes = absurd at
 found_one {A} p (y ∷ ys) x at passes = go (p y) refl at (λ there. found_one p ys x there passes)
   where
     later : p y ≡ false → IsFound p ys → IsFound p (y ∷ ys)
-    later fails f = record { found = f.found; is_found = ap (λ (b : Bool). cond b (Some y) (find p ys)) fails ∙ f.is_found; is_in = inr f.is_in; passes = f.passes }
+    later fails f = record {
+      found = f.found;
+      is_found = ap (λ (b : Bool). cond b (Some y) (find p ys)) fails
+          ∙ f.is_found;
+      is_in = inr f.is_in;
+      passes = f.passes;
+    }
 
     go : (b : Bool) → p y ≡ b → IsIn (y ∷ ys) x → (IsIn ys x → IsFound p ys) → IsFound p (y ∷ ys)
-    go true is at on = record { found = y; is_found = ap (λ (b : Bool). cond b (Some y) (find p ys)) is; is_in = inl refl; passes = is }
+    go true is at on = record {
+      found = y;
+      is_found = ap (λ (b : Bool). cond b (Some y) (find p ys)) is;
+      is_in =
+          inl refl;
+      passes = is;
+    }
     go false is (inl same) on = absurd (false≢true (sym is ∙ (ap p same ∙ passes)))
     go false is (inr there) on = later is (on there)
 
@@ -113,12 +125,15 @@ module _ (total : IsTotalOrder (slice_cmp value_cmp)) (equal : (a b : List Value
       → ((earlier : ℕ) → earlier < place → slice_get answers earlier ≡ Some tuple → ⊥) → first_place answers tuple ≡ Some place
   first_at [] tuple place at none = absurd (none-some tuple at)
   first_at (first ∷ more) tuple zero at none =
-      let here : is_tuple first tuple ≡ true = ap (λ (t : List Value). is_tuple t tuple) (same_Some first tuple at) ∙ tuple_itself tuple in
+      let here : is_tuple first tuple ≡ true = ap (λ (t : List Value). is_tuple t tuple) (same_Some first tuple at)
+      ∙ tuple_itself tuple in
       ap (λ (b : Bool). if b then Some 0 else option_map suc (first_place more tuple)) here
   first_at (first ∷ more) tuple (suc place) at none =
-      go (is_tuple first tuple) refl (first_at more tuple place at (λ earlier below there. none (suc earlier) (omega (arith, below)) there))
+      go (is_tuple first tuple) refl
+      (first_at more tuple place at (λ earlier below there. none (suc earlier) (omega (arith, below)) there))
     where
       go : (b : Bool) → is_tuple first tuple ≡ b → first_place more tuple ≡ Some place
           → (if b then Some 0 else option_map suc (first_place more tuple)) ≡ Some (suc place)
-      go true is later = absurd (none 0 (omega arith) (ap Some (equal first tuple (equal_tuples (slice_cmp value_cmp first tuple) is))))
+      go true is later = absurd (none 0 (omega arith)
+          (ap Some (equal first tuple (equal_tuples (slice_cmp value_cmp first tuple) is))))
       go false is later = ap (option_map suc) later

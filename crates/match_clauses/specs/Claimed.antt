@@ -24,7 +24,8 @@ row_or_any (Some row) = row
 -- that the value of the row which stands last is not current
 abbrev pub not_current : List Relation → Rankings → RelId → AttrId → EntId → Said
 not_current relations c rel attr ent =
-    not_last rel attr (name_of (rows_in (slice_get relations rel.0)) attr.0 (row_or_any (last_row (ranking_of c rel.0 attr.0 ent.0))))
+    not_last rel attr (name_of (rows_in (slice_get relations rel.0)) attr.0
+    (row_or_any (last_row (ranking_of c rel.0 attr.0 ent.0))))
 
 -- a value is asked for
 abbrev pub is_asked : Term → Bool

@@ -41,7 +41,8 @@ SaysAnswer statements answer lit = Says statements lit (positive (says.Answer an
 
 -- the literals of the axiom of a match over the current instance of a completion, whose tuple stands first at a place: they are
 -- the clause of its label, each once; one says that the tuple is an answer, and each other one denies a value that is current
-pub record AreMatchLits (s : Spec) (wanted : Wanted) (query : Query) (c : Rankings) (m : Match) (answer : ℕ) (lits : List Lit) : Type 0 where
+pub record AreMatchLits (s : Spec) (wanted : Wanted) (query : Query) (c : Rankings) (m : Match) (answer : ℕ)
+    (lits : List Lit) : Type 0 where
   pub judged : (posed : Posed) (tuple : List Value) → IsMatchIn s.relations c query tuple m → IsPosedAt posed query tuple answer
       → is_axiom s posed (statements_of (numbers_of s.relations wanted)) (label.Match m.disjunct m.entities m.values) lits ≡ true
   pub within : All (λ lit. var_of lit < length (statements_of (numbers_of s.relations wanted))) lits
@@ -75,7 +76,8 @@ pub record IsAtomOf (s : Spec) (wanted : Wanted) (atom : Atom) (ent : EntId) : T
 -- atoms of such entities, one by one
 pub record AreAtomsOf (s : Spec) (wanted : Wanted) (atoms : List Atom) (entities : List EntId) : Type 0 where
   pub per_atom : length entities ≡ length atoms
-  pub each : (k : ℕ) (atom : Atom) (ent : EntId) → slice_get atoms k ≡ Some atom → slice_get entities k ≡ Some ent → IsAtomOf s wanted atom ent
+  pub each : (k : ℕ) (atom : Atom) (ent : EntId) → slice_get atoms k ≡ Some atom → slice_get entities k ≡ Some ent
+      → IsAtomOf s wanted atom ent
 
 -- literals that say this part of a clause join those of the clause so far, each once
 abbrev pub Puts : List Statement → List Said → List Lit → List Lit → Type 0

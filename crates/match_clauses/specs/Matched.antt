@@ -21,7 +21,8 @@ pub record IsMatchIn (relations : List Relation) (c : Rankings) (query : Query) 
 -- the current values of the relations of a match's atoms are wanted
 abbrev pub IsOfWanted : List RelId → Query → Match → Type 0
 IsOfWanted currents query m =
-    (d : Disjunct) → slice_get query.disjuncts m.disjunct ≡ Some d → All (λ atom. is_wanted currents atom.relation.0 ≡ true) d.atoms
+    (d : Disjunct) → slice_get query.disjuncts m.disjunct ≡ Some d
+    → All (λ atom. is_wanted currents atom.relation.0 ≡ true) d.atoms
 
 -- the query is posed, and the first of the posed places at which the tuple stands is this
 pub record IsPosedAt (posed : Posed) (query : Query) (tuple : List Value) (answer : ℕ) : Type 0 where

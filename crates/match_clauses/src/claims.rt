@@ -22,7 +22,8 @@ pub(crate) fn put_atoms(
 ) -> Result<(), NoMemory>
     requires source { IsSource source.spec.now source.numbering.now source.wanted.now source.completion.now }
     requires atoms { AreAtomsOf source.spec.now source.wanted.now atoms.now entities.now }
-    ensures { OnOk result (Puts (statements_of source.entry.numbering.now) (atoms_said source.entry.spec.now.relations source.entry.completion.now atoms.now entities.now)
+    ensures { OnOk result (Puts (statements_of source.entry.numbering.now)
+        (atoms_said source.entry.spec.now.relations source.entry.completion.now atoms.now entities.now)
         lits.old lits.new) }
 {
     for place in 0..atoms.len() {
@@ -38,7 +39,8 @@ pub(crate) fn put_atoms(
 fn put_atom(source: Source<'_>, lits: &mut LitList, atom: &Atom, ent: EntId) -> Result<(), NoMemory>
     requires source { IsSource source.spec.now source.numbering.now source.wanted.now source.completion.now }
     requires atom { IsAtomOf source.spec.now source.wanted.now atom.now ent }
-    ensures { OnOk result (Puts (statements_of source.entry.numbering.now) (atom_said source.entry.spec.now.relations source.entry.completion.now atom.now ent)
+    ensures { OnOk result (Puts (statements_of source.entry.numbering.now)
+        (atom_said source.entry.spec.now.relations source.entry.completion.now atom.now ent)
         lits.old lits.new) }
 {
     match atom.terms.as_slice() {
@@ -57,7 +59,8 @@ fn put_terms(
 ) -> Result<(), NoMemory>
     requires source { IsSource source.spec.now source.numbering.now source.wanted.now source.completion.now }
     requires terms { AreTermsOf source.spec.now source.wanted.now rel ent (length terms.now) }
-    ensures { OnOk result (Puts (statements_of source.entry.numbering.now) (terms_said source.entry.spec.now.relations source.entry.completion.now rel ent 0 terms.now)
+    ensures { OnOk result (Puts (statements_of source.entry.numbering.now)
+        (terms_said source.entry.spec.now.relations source.entry.completion.now rel ent 0 terms.now)
         lits.old lits.new) }
 {
     for place in 0..terms.len() {
@@ -81,7 +84,8 @@ fn put_term(
     requires source { IsSource source.spec.now source.numbering.now source.wanted.now source.completion.now }
     requires place { IsPlaceOf source.spec.now.relations rel.0 attr.0 ent.0 }
     requires wanted { is_wanted source.wanted.now.currents rel.0 ≡ true }
-    ensures { OnOk result (Puts (statements_of source.entry.numbering.now) (term_said source.entry.spec.now.relations source.entry.completion.now rel ent attr term.now)
+    ensures { OnOk result (Puts (statements_of source.entry.numbering.now)
+        (term_said source.entry.spec.now.relations source.entry.completion.now rel ent attr term.now)
         lits.old lits.new) }
 {
     if !is_asked(term) {

@@ -25,7 +25,8 @@ pub(crate) fn not_current(source: Source<'_>, rel: RelId, attr: AttrId, ent: Ent
     requires source { IsSource source.spec.now source.numbering.now source.wanted.now source.completion.now }
     requires place { IsPlaceOf source.spec.now.relations rel.0 attr.0 ent.0 }
     requires wanted { is_wanted source.wanted.now.currents rel.0 ≡ true }
-    ensures { Says (statements_of source.entry.numbering.now) result (not_current source.entry.spec.now.relations source.entry.completion.now rel attr ent) }
+    ensures { Says (statements_of source.entry.numbering.now) result
+        (not_current source.entry.spec.now.relations source.entry.completion.now rel attr ent) }
 {
     one_literal();
     let _relations = source.spec.relations();

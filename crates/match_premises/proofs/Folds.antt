@@ -39,28 +39,36 @@ no_values values (v ∷ vars) = no_values values vars
 pub missing_value : (values so_far : List Value) (vars : List ℕ) (k v : ℕ) (whole : Option (List Value))
     → tuple_from values (Some so_far) (drop k vars) ≡ whole → slice_get vars k ≡ Some v → slice_get values v ≡ None → None ≡ whole
 missing_value values so_far vars k v whole e at none =
-    let rest = drop-cons vars k v (slice_get_within vars k v at) ∙ ap (λ (w : ℕ). w ∷ drop (suc k) vars) (get_or_from_slice_get vars k v v at) in
-    sym (no_values values (drop (suc k) vars)) ∙ ap (λ (o : Option Value). tuple_from values (with_value (Some so_far) o) (drop (suc k) vars)) (sym none)
+    let rest = drop-cons vars k v (slice_get_within vars k v at) ∙ ap (λ (w : ℕ). w ∷ drop (suc k) vars)
+    (get_or_from_slice_get vars k v v at) in
+    sym (no_values values (drop (suc k) vars))
+    ∙ ap (λ (o : Option Value). tuple_from values (with_value (Some so_far) o) (drop (suc k) vars)) (sym none)
     ∙ ap (tuple_from values (Some so_far)) (sym rest) ∙ e
 
 pub one_value_more : (values so_far pushed : List Value) (vars : List ℕ) (k v : ℕ) (x : Value) (whole : Option (List Value))
-    → tuple_from values (Some so_far) (drop k vars) ≡ whole → slice_get vars k ≡ Some v → slice_get values v ≡ Some x → pushed ≡ so_far ++ x ∷ []
+    → tuple_from values (Some so_far) (drop k vars) ≡ whole → slice_get vars k ≡ Some v → slice_get values v ≡ Some x
+    → pushed ≡ so_far ++ x ∷ []
     → tuple_from values (Some pushed) (drop (k + 1) vars) ≡ whole
 one_value_more values so_far pushed vars k v x whole e at some push =
-    let rest = drop-cons vars k v (slice_get_within vars k v at) ∙ ap (λ (w : ℕ). w ∷ drop (suc k) vars) (get_or_from_slice_get vars k v v at) in
+    let rest = drop-cons vars k v (slice_get_within vars k v at) ∙ ap (λ (w : ℕ). w ∷ drop (suc k) vars)
+    (get_or_from_slice_get vars k v v at) in
     let one_more : suc k ≡ k + 1 = omega arith in
     subst (λ (n : ℕ). tuple_from values (Some pushed) (drop n vars) ≡ whole) one_more
     (ap (λ (xs : List Value). tuple_from values (Some xs) (drop (suc k) vars)) push
     ∙ ap (λ (o : Option Value). tuple_from values (with_value (Some so_far) o) (drop (suc k) vars)) (sym some)
     ∙ ap (tuple_from values (Some so_far)) (sym rest) ∙ e)
 
-pub missing_claim : (rel : RelId) (rows : List Row) (list : List RowId) (values : List Value) (so_far : List Premise) (terms : List Term) (k : ℕ) (t : Term)
-    (whole : Option (List Premise)) → claims_from rel rows list values (Some so_far) k (drop k terms) ≡ whole → slice_get terms k ≡ Some t
+pub missing_claim : (rel : RelId) (rows : List Row) (list : List RowId) (values : List Value) (so_far : List Premise)
+    (terms : List Term) (k : ℕ) (t : Term)
+    (whole : Option (List Premise)) → claims_from rel rows list values (Some so_far) k (drop k terms) ≡ whole
+    → slice_get terms k ≡ Some t
     → place_claim rel rows list values (record { 0 = k }) t ≡ None → None ≡ whole
 missing_claim rel rows list values so_far terms k t whole e at none =
-    let rest = drop-cons terms k t (slice_get_within terms k t at) ∙ ap (λ (u : Term). u ∷ drop (suc k) terms) (get_or_from_slice_get terms k t t at) in
+    let rest = drop-cons terms k t (slice_get_within terms k t at) ∙ ap (λ (u : Term). u ∷ drop (suc k) terms)
+    (get_or_from_slice_get terms k t t at) in
     sym (no_claims rel rows list values (k + 1) (drop (suc k) terms))
-    ∙ ap (λ (o : Option (Option Premise)). claims_from rel rows list values (with_claim (Some so_far) o) (k + 1) (drop (suc k) terms)) (sym none)
+    ∙ ap (λ (o : Option (Option Premise)). claims_from rel rows list values (with_claim (Some so_far) o) (k + 1)
+    (drop (suc k) terms)) (sym none)
     ∙ ap (claims_from rel rows list values (Some so_far) k) (sym rest) ∙ e
 
 -- ---- heads
@@ -70,12 +78,19 @@ record IsGathered (values so_far tuple : List Value) (vars : List ℕ) : Type 0 
   tuple_is : tuple ≡ so_far ++ rest
   head : IsHead values vars rest
 
-gathered : (values so_far tuple : List Value) (vars : List ℕ) → tuple_from values (Some so_far) vars ≡ Some tuple → IsGathered values so_far tuple vars
-gathered values so_far tuple [] e = record { rest = []; tuple_is = sym (same_Some so_far tuple e) ∙ sym (append-nil so_far); head = refl }
+gathered : (values so_far tuple : List Value) (vars : List ℕ) → tuple_from values (Some so_far) vars ≡ Some tuple
+    → IsGathered values so_far tuple vars
+gathered values so_far tuple [] e = record {
+  rest = [];
+  tuple_is = sym (same_Some so_far tuple e)
+      ∙ sym (append-nil so_far);
+  head = refl;
+}
 gathered values so_far tuple (v ∷ vars) e = go (slice_get values v) refl e (λ x. gathered values (so_far ++ x ∷ []) tuple vars)
   where
     go : (o : Option Value) → slice_get values v ≡ o → tuple_from values (with_value (Some so_far) o) vars ≡ Some tuple
-        → ((x : Value) → tuple_from values (Some (so_far ++ x ∷ [])) vars ≡ Some tuple → IsGathered values (so_far ++ x ∷ []) tuple vars)
+        → ((x : Value) → tuple_from values (Some (so_far ++ x ∷ [])) vars ≡ Some tuple → IsGathered values
+        (so_far ++ x ∷ []) tuple vars)
         → IsGathered values so_far tuple (v ∷ vars)
     go None at e on = absurd (none-some tuple (sym (no_values values vars) ∙ e))
     go (Some x) at e on =
@@ -83,10 +98,12 @@ gathered values so_far tuple (v ∷ vars) e = go (slice_get values v) refl e (λ
         record {
           rest = x ∷ more.rest;
           tuple_is = more.tuple_is ∙ append_assoc so_far (x ∷ []) more.rest;
-          head = ap (λ (o : Option Value). o ∷ map (λ w. slice_get values w) vars) at ∙ ap (λ (os : List (Option Value)). Some x ∷ os) more.head;
+          head = ap (λ (o : Option Value). o ∷ map (λ w. slice_get values w) vars) at
+              ∙ ap (λ (os : List (Option Value)). Some x ∷ os) more.head;
         }
 
-pub heads_are : (values tuple : List Value) (head : List ℕ) → tuple_from values (Some []) head ≡ Some tuple → IsHead values head tuple
+pub heads_are : (values tuple : List Value) (head : List ℕ) → tuple_from values (Some []) head ≡ Some tuple
+    → IsHead values head tuple
 heads_are values tuple head e =
     let all = gathered values [] tuple head e in subst (IsHead values head) (sym all.tuple_is) all.head
 
@@ -98,7 +115,8 @@ IsClaimed P None = ⊥
 IsClaimed P (Some None) = Unit {0}
 IsClaimed P (Some (Some p)) = P p
 
-module _ (rel : RelId) (rows : List Row) (list : List RowId) (values : List Value) (P : Premise → Type 0) (ps : List Premise) (all : All P ps) where
+module _ (rel : RelId) (rows : List Row) (list : List RowId) (values : List Value) (P : Premise → Type 0)
+    (ps : List Premise) (all : All P ps) where
   abbrev claim_at : ℕ → Term → Option (Option Premise)
   claim_at attr t = place_claim rel rows list values (record { 0 = attr }) t
 
@@ -106,7 +124,8 @@ module _ (rel : RelId) (rows : List Row) (list : List RowId) (values : List Valu
     before : All P so_far
     each : (k : ℕ) (t : Term) → slice_get terms k ≡ Some t → IsClaimed P (claim_at (attr + k) t)
 
-  claimed : (so_far : List Premise) (attr : ℕ) (terms : List Term) → claims_from rel rows list values (Some so_far) attr terms ≡ Some ps
+  claimed : (so_far : List Premise) (attr : ℕ) (terms : List Term) → claims_from rel rows list values (Some so_far)
+      attr terms ≡ Some ps
       → AreClaimed so_far attr terms
   claimed so_far attr [] e = record {
     before = subst (All P) (sym (same_Some so_far ps e)) all;
@@ -125,8 +144,10 @@ module _ (rel : RelId) (rows : List Row) (list : List RowId) (values : List Valu
           (subst (λ (x : Term). IsClaimed P (claim_at attr x)) (same_Some t u at) (subst (IsClaimed P) (sym is) first))
       each_of c is first rest (suc k) u at = later k u (rest k u at)
 
-      go : (c : Option (Option Premise)) → claim_at attr t ≡ c → claims_from rel rows list values (with_claim (Some so_far) c) (attr + 1) more ≡ Some ps
-          → ((so_far : List Premise) → claims_from rel rows list values (Some so_far) (attr + 1) more ≡ Some ps → AreClaimed so_far (attr + 1) more)
+      go : (c : Option (Option Premise)) → claim_at attr t ≡ c → claims_from rel rows list values
+          (with_claim (Some so_far) c) (attr + 1) more ≡ Some ps
+          → ((so_far : List Premise) → claims_from rel rows list values (Some so_far) (attr + 1) more ≡ Some ps
+          → AreClaimed so_far (attr + 1) more)
           → AreClaimed so_far attr (t ∷ more)
       go None is e on = absurd (none-some ps (sym (no_claims rel rows list values (attr + 1) more) ∙ e))
       go (Some None) is e on =
@@ -138,7 +159,9 @@ module _ (rel : RelId) (rows : List Row) (list : List RowId) (values : List Valu
             each = each_of (Some (Some p)) is (last_one P so_far p rest.before) rest.each;
           }
 
-  pub all_claimed : (terms : List Term) → claims_from rel rows list values (Some []) 0 terms ≡ Some ps → (k : ℕ) (t : Term) → slice_get terms k ≡ Some t
+  pub all_claimed : (terms : List Term) → claims_from rel rows list values (Some []) 0 terms ≡ Some ps →
+      (k : ℕ) (t : Term) → slice_get terms k ≡ Some t
       → IsClaimed P (claim_at k t)
   all_claimed terms e k t at =
-      let same : 0 + k ≡ k = omega arith in subst (λ (n : ℕ). IsClaimed P (claim_at n t)) same ((claimed [] 0 terms e).each k t at)
+      let same : 0 + k ≡ k = omega arith in subst (λ (n : ℕ). IsClaimed P (claim_at n t)) same
+      ((claimed [] 0 terms e).each k t at)

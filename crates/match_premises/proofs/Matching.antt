@@ -84,25 +84,29 @@ module _ (c : Rankings) (rel : RelId) (r : Relation) (ent : EntId) (values : Lis
   claimed_is v claimed = go (find (has_value r.rows attr v) (members r.rows ent.0)) refl claimed
     where
       go : (o : Option RowId) → find (has_value r.rows attr v) (members r.rows ent.0) ≡ o
-          → IsClaimed (HoldsOf c r ent) (option_map (λ (row : RowId). let p : Premise = record { rel = rel; attr = attr; row = row } in Some p) o) → v ≡ x
+          → IsClaimed (HoldsOf c r ent) (option_map (λ (row : RowId). let p : Premise =
+          record { rel = rel; attr = attr; row = row } in Some p) o) → v ≡ x
       go None is claimed = absurd claimed
       go (Some row) is claimed =
           let there : field_value r.rows (Some row) attr.0 ≡ Some v =
-          compared (field_value r.rows (Some row) attr.0) v (found_passes (has_value r.rows attr v) (members r.rows ent.0) row is) in
+          compared (field_value r.rows (Some row) attr.0) v
+          (found_passes (has_value r.rows attr v) (members r.rows ent.0) row is) in
           same_Some v x (sym there ∙ sym claimed ∙ now)
 
   of_variable : (o : Option Value) → IsClaimed (HoldsOf c r ent) (claim_of rel r.rows (members r.rows ent.0) attr o) → o ≡ Some x
   of_variable None claimed = absurd claimed
   of_variable (Some v) claimed = ap Some (claimed_is v claimed)
 
-  place_fits : (t : Term) → IsClaimed (HoldsOf c r ent) (place_claim rel r.rows (members r.rows ent.0) values attr t) → Fits values t x
+  place_fits : (t : Term) → IsClaimed (HoldsOf c r ent) (place_claim rel r.rows (members r.rows ent.0) values attr t)
+      → Fits values t x
   place_fits (term.Var v) claimed = of_variable (slice_get values v) claimed
   place_fits term.Any claimed = tt
   place_fits (term.Constant k) claimed = claimed_is k claimed
 
 -- ---- an atom
 
-record IsOfEntity (atom_rel : RelId) (values : List Value) (first : Term) (more : List Term) (r : Relation) (ent : EntId) (ps : List Premise) : Type 0 where
+record IsOfEntity (atom_rel : RelId) (values : List Value) (first : Term) (more : List Term) (r : Relation)
+    (ent : EntId) (ps : List Premise) : Type 0 where
   as_many : length more ≡ length r.attrs
   name : List ℕ
   is_name : slice_get r.entities ent.0 ≡ Some name
@@ -115,19 +119,30 @@ of_entity rel values first more r ent ps e = go (length more == length r.attrs) 
   where
     with_name : (length more == length r.attrs) ≡ true → (name : List ℕ) → slice_get r.entities ent.0 ≡ Some name → (b : Bool)
         → fits values first (Text name) ≡ b
-        → (if b then claims_from rel r.rows (members r.rows ent.0) values (Some []) 0 more else None) ≡ Some ps → IsOfEntity rel values first more r ent ps
-    with_name many name at true fit e = record { as_many = one_number (length more) (length r.attrs) many; name = name; is_name = at; fits_it = fit; claims = e }
+        → (if b then claims_from rel r.rows (members r.rows ent.0) values (Some []) 0 more else None) ≡ Some ps
+        → IsOfEntity rel values first more r ent ps
+    with_name many name at true fit e = record {
+      as_many = one_number (length more) (length r.attrs) many;
+      name =
+          name;
+      is_name = at;
+      fits_it = fit;
+      claims = e;
+    }
     with_name many name at false fit e = absurd (none-some ps e)
 
     go : (b : Bool) → (length more == length r.attrs) ≡ b → (o : Option (List ℕ)) → slice_get r.entities ent.0 ≡ o
-        → (if b && fits_name values first o then claims_from rel r.rows (members r.rows ent.0) values (Some []) 0 more else None) ≡ Some ps
+        → (if b && fits_name values first o then claims_from rel r.rows (members r.rows ent.0) values (Some []) 0
+        more else None) ≡ Some ps
         → IsOfEntity rel values first more r ent ps
     go false many o at e = absurd (none-some ps e)
     go true many None at e = absurd (none-some ps e)
     go true many (Some name) at e = with_name many name at (fits values first (Text name)) refl e
 
-tuple_fits : (c : Rankings) (rel : RelId) (r : Relation) (ent : EntId) (values : List Value) (first : Term) (more : List Term) (ps : List Premise) (tuple : List Value)
-    → IsOfEntity rel values first more r ent ps → All (HoldsOf c r ent) ps → IsCurrentTuple c rel.0 r ent.0 tuple → FitsTuple values (first ∷ more) tuple
+tuple_fits : (c : Rankings) (rel : RelId) (r : Relation) (ent : EntId) (values : List Value) (first : Term)
+    (more : List Term) (ps : List Premise) (tuple : List Value)
+    → IsOfEntity rel values first more r ent ps → All (HoldsOf c r ent) ps → IsCurrentTuple c rel.0 r ent.0 tuple
+    → FitsTuple values (first ∷ more) tuple
 tuple_fits c rel r ent values first more ps tuple of all is =
     subst (FitsTuple values (first ∷ more)) (sym is.tuple_is) (record {
       as_many = let a = of.as_many in let b = is.per_attr in omega (arith, a, b);
@@ -137,10 +152,12 @@ tuple_fits c rel r ent values first more ps tuple of all is =
     same_name : is.name ≡ of.name
     same_name = same_Some is.name of.name (sym is.is_name ∙ of.is_name)
 
-    each : (k : ℕ) (t : Term) (x : Value) → slice_get (first ∷ more) k ≡ Some t → slice_get (Text is.name ∷ is.values) k ≡ Some x → Fits values t x
+    each : (k : ℕ) (t : Term) (x : Value) → slice_get (first ∷ more) k ≡ Some t
+        → slice_get (Text is.name ∷ is.values) k ≡ Some x → Fits values t x
     each zero t x at at_x =
         let value : Text of.name ≡ x = ap Text (sym same_name) ∙ same_Some (Text is.name) x at_x in
-        subst (λ (u : Term). Fits values u x) (same_Some first t at) (subst (Fits values first) value (fits_is values first (Text of.name) of.fits_it))
+        subst (λ (u : Term). Fits values u x) (same_Some first t at)
+        (subst (Fits values first) value (fits_is values first (Text of.name) of.fits_it))
     each (suc k) t x at at_x =
         let below = slice_get_within is.values k x at_x in
         let within : k < length r.attrs = let b = is.per_attr in omega (arith, below, b) in
@@ -150,11 +167,13 @@ tuple_fits c rel r ent values first more ps tuple of all is =
 pub premises_make_matches : PremisesMakeMatches
 premises_make_matches relations c instance inst atom r ent values ps at e all = go atom.terms refl e
   where
-    go : (terms : List Term) → atom.terms ≡ terms → entity_premises atom.relation values terms r ent ≡ Some ps → AtomMatches instance values atom ent.0
+    go : (terms : List Term) → atom.terms ≡ terms → entity_premises atom.relation values terms r ent ≡ Some ps
+        → AtomMatches instance values atom ent.0
     go [] is e = absurd (none-some ps e)
     go (first ∷ more) is e =
         let of = of_entity atom.relation values first more r ent ps e in
-        let tuples : AreCurrentTuples c atom.relation.0 r (slice_index_or instance atom.relation.0 []) = inst.each atom.relation.0 r at in
+        let tuples : AreCurrentTuples c atom.relation.0 r (slice_index_or instance atom.relation.0 []) =
+        inst.each atom.relation.0 r at in
         let below : ent.0 < length (slice_index_or instance atom.relation.0 []) =
         let a = slice_get_within r.entities ent.0 of.name of.is_name in let b = tuples.per_entity in omega (arith, a, b) in
         let tuple = item_at (slice_index_or instance atom.relation.0 []) ent.0 below in

@@ -25,4 +25,5 @@ PremisesMakeMatches =
 
 -- the tuple of a head is the values of its variables
 abbrev pub HeadsAreOfValues : Type 0
-HeadsAreOfValues = (values tuple : List Value) (head : List ℕ) → tuple_from values (Some []) head ≡ Some tuple → IsHead values head tuple
+HeadsAreOfValues = (values tuple : List Value) (head : List ℕ) → tuple_from values (Some []) head ≡ Some tuple
+    → IsHead values head tuple

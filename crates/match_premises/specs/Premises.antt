@@ -28,7 +28,8 @@ has_value rows attr v row = is_compared (field_value rows (Some row) attr.0) Eq 
 -- the claim that a value is the current one of an attribute, if there is a value and one of these rows has it
 abbrev pub claim_of : RelId → List Row → List RowId → AttrId → Option Value → Option (Option Premise)
 claim_of rel rows list attr None = None
-claim_of rel rows list attr (Some v) = option_map (λ row. Some record { rel = rel; attr = attr; row = row }) (find (has_value rows attr v) list)
+claim_of rel rows list attr (Some v) = option_map (λ row. Some record { rel = rel; attr = attr; row = row })
+    (find (has_value rows attr v) list)
 
 -- what a term claims of an attribute: nothing, if any value fits; and there may be no row that has its value
 abbrev pub place_claim : RelId → List Row → List RowId → List Value → AttrId → Term → Option (Option Premise)
@@ -43,10 +44,12 @@ with_claim (Some so_far) (Some None) = Some so_far
 with_claim so_far claim = None
 
 -- the claims so far and those of terms of the attributes from one on
-abbrev pub claims_from : RelId → List Row → List RowId → List Value → Option (List Premise) → ℕ → List Term → Option (List Premise)
+abbrev pub claims_from : RelId → List Row → List RowId → List Value → Option (List Premise) → ℕ → List Term
+    → Option (List Premise)
 claims_from rel rows list values so_far attr [] = so_far
 claims_from rel rows list values so_far attr (t ∷ more) =
-    claims_from rel rows list values (with_claim so_far (place_claim rel rows list values (record { 0 = attr }) t)) (attr + 1) more
+    claims_from rel rows list values (with_claim so_far (place_claim rel rows list values (record { 0 = attr }) t))
+    (attr + 1) more
 
 -- ---- atoms
 

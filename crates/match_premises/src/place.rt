@@ -17,8 +17,8 @@ pub(crate) struct EntityTable<'a> {
     pub members: &'a [RowId],
 }
 
-/// What terms claim of the attributes of an entity, the first term of the first attribute; nothing is answered where one asks for a value that no
-/// row of the entity has.
+/// What terms claim of the attributes of an entity, the first term of the first attribute; nothing is answered where
+/// one asks for a value that no row of the entity has.
 pub(crate) fn claims(
     alloc: Global,
     table: EntityTable<'_>,
@@ -26,7 +26,8 @@ pub(crate) fn claims(
     terms: &[Term],
 ) -> Result<Option<PremiseList>, NoMemory>
     requires { length terms.now + 1 < 2 ^ 32 }
-    ensures { IfOk result (λ found. found ≡ claims_from table.entry.rel table.entry.rows.now table.entry.members.now values.now (Some []) 0 terms.now) }
+    ensures { IfOk result (λ found. found ≡ claims_from table.entry.rel table.entry.rows.now table.entry.members.now
+        values.now (Some []) 0 terms.now) }
 {
     let mut premises = PremiseList::new(alloc);
     for place in 0..terms.len() {
@@ -60,7 +61,8 @@ fn place_claim(
 
 // The claim that a value is the current one of an attribute.
 fn claim_of(table: EntityTable<'_>, attr: AttrId, value: Option<&Value>) -> Option<Option<Premise>>
-    ensures { result ≡ claim_of table.entry.rel table.entry.rows.now table.entry.members.now attr (option_map (λ v. v.now) value.entry) }
+    ensures { result ≡ claim_of table.entry.rel table.entry.rows.now table.entry.members.now attr
+        (option_map (λ v. v.now) value.entry) }
 {
     match first_with(table, attr, value?) {
         Some(row) => Some(Some(Premise {

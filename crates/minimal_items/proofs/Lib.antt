@@ -1,4 +1,4 @@
-mod Same
+pub mod Same
 mod Marks
 mod Once
 mod Tables

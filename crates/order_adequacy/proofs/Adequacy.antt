@@ -31,7 +31,8 @@ pub rankings_are_one : RankingsAreOne
 rankings_are_one = truths.rankings_are_one
 
 -- what the statements say in rankings is an assignment, for whatever are answers, if it is decided of each tuple
-pub truth_there : (answers : ℕ → Type 0) → ((tuple : ℕ) → answers tuple ⊎ (answers tuple → ⊥)) → (relations : List Relation) (c : Rankings)
+pub truth_there : (answers : ℕ → Type 0) → ((tuple : ℕ) → answers tuple ⊎ (answers tuple → ⊥)) →
+    (relations : List Relation) (c : Rankings)
     (statements : List Statement) → (truths : List Bool) × IsTruth relations c answers statements truths
 truth_there answers each relations c statements = truths.truth_there answers each relations c statements
 
@@ -40,4 +41,5 @@ passes_or true = inl refl
 passes_or false = inr false≢true
 
 pub truths_are_there : TruthsAreThere
-truths_are_there answers relations c statements = truth_there (passing answers) (λ tuple. passes_or (answers tuple)) relations c statements
+truths_are_there answers relations c statements = truth_there (passing answers) (λ tuple. passes_or (answers tuple))
+    relations c statements

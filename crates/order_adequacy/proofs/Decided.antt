@@ -45,7 +45,8 @@ below_or P (suc bound) each = by (each bound) (below_or P bound each)
 -- ---- rows
 
 pub same_or : (a b : RowId) → Decided (a ≡ b)
-same_or a b = ⊎_elim (λ (e : a.0 ≡ b.0). inl (row_is a b e)) (λ (n : a.0 ≡ b.0 → ⊥). inr (λ e. n (one_number a b e))) (cases_eq a.0 b.0)
+same_or a b = ⊎_elim (λ (e : a.0 ≡ b.0). inl (row_is a b e)) (λ (n : a.0 ≡ b.0 → ⊥). inr (λ e. n (one_number a b e)))
+    (cases_eq a.0 b.0)
 
 pub some_row_or : (o : Option RowId) (row : RowId) → Decided (o ≡ Some row)
 some_row_or None row = inr (λ e. none-some row e)
@@ -56,7 +57,8 @@ some_row_or (Some a) row = ⊎_elim (λ e. inl (ap Some e)) (λ n. inr (λ e. n 
 -- the rows stand at these places of the list of an entity, the first at the smaller
 abbrev AtPlaces : List (List RowId) → RowId → RowId → ℕ → ℕ → ℕ → Type 0
 AtPlaces lists a b ent low high =
-    (low < high) × ((slice_get (slice_index_or lists ent []) low ≡ Some a) × (slice_get (slice_index_or lists ent []) high ≡ Some b))
+    (low < high) × ((slice_get (slice_index_or lists ent []) low ≡ Some a) ×
+    (slice_get (slice_index_or lists ent []) high ≡ Some b))
 
 abbrev InList : List (List RowId) → RowId → RowId → ℕ → ℕ → Type 0
 InList lists a b ent low = (high : ℕ) × (high < length (slice_index_or lists ent [])) × AtPlaces lists a b ent low high
@@ -65,21 +67,25 @@ abbrev InEntity : List (List RowId) → RowId → RowId → ℕ → Type 0
 InEntity lists a b ent = (low : ℕ) × (low < length (slice_index_or lists ent [])) × InList lists a b ent low
 
 below_or_above : (low high : ℕ) → Decided (low < high)
-below_or_above low high = ⊎_elim (λ (h : low < high). inl h) (λ (n : high ≤ low). inr (λ h. absurd (omega (arith, n, h)))) (cases_lt low high)
+below_or_above low high = ⊎_elim (λ (h : low < high). inl h)
+    (λ (n : high ≤ low). inr (λ h. absurd (omega (arith, n, h)))) (cases_lt low high)
 
 places_or : (lists : List (List RowId)) (a b : RowId) (ent low high : ℕ) → Decided (AtPlaces lists a b ent low high)
 places_or lists a b ent low high =
     both_or (below_or_above low high)
-    (both_or (some_row_or (slice_get (slice_index_or lists ent []) low) a) (some_row_or (slice_get (slice_index_or lists ent []) high) b))
+    (both_or (some_row_or (slice_get (slice_index_or lists ent []) low) a)
+    (some_row_or (slice_get (slice_index_or lists ent []) high) b))
 
 list_or : (lists : List (List RowId)) (a b : RowId) (ent low : ℕ) → Decided (InList lists a b ent low)
-list_or lists a b ent low = below_or (AtPlaces lists a b ent low) (length (slice_index_or lists ent [])) (places_or lists a b ent low)
+list_or lists a b ent low = below_or (AtPlaces lists a b ent low) (length (slice_index_or lists ent []))
+    (places_or lists a b ent low)
 
 entity_or : (lists : List (List RowId)) (a b : RowId) (ent : ℕ) → Decided (InEntity lists a b ent)
 entity_or lists a b ent = below_or (InList lists a b ent) (length (slice_index_or lists ent [])) (list_or lists a b ent)
 
 -- a list with a row is one of the lists
-pub list_there : {A : Type 0} (lists : List (List A)) (ent place : ℕ) (x : A) → slice_get (slice_index_or lists ent []) place ≡ Some x
+pub list_there : {A : Type 0} (lists : List (List A)) (ent place : ℕ) (x : A)
+    → slice_get (slice_index_or lists ent []) place ≡ Some x
     → ent < length lists
 list_there {A} lists ent place x at =
     ⊎_elim

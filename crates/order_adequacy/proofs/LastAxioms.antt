@@ -27,12 +27,14 @@ pub record IsAt (relations : List Relation) (rel attr ent : ℕ) (r : Relation) 
 
 -- ---- above
 
-pub above_true : (relations : List Relation) (c : Rankings) (answers : ℕ → Type 0) (rel : RelId) (attr : AttrId) (row other : RowId) (r : Relation)
+pub above_true : (relations : List Relation) (c : Rankings) (answers : ℕ → Type 0) (rel : RelId) (attr : AttrId)
+    (row other : RowId) (r : Relation)
     → IsCase relations c → slice_get relations rel.0 ≡ Some r → attr.0 < length r.attrs → AreTwo r.rows row other
     → OneHolds relations c answers (not_top rel attr row ∷ before rel attr other row ∷ [])
 above_true relations c answers rel attr row other r is at inside two = by (stands_or relations c rel.0 attr.0 row)
   where
-    by : Decided (StandsLast relations c rel.0 attr.0 row) → OneHolds relations c answers (not_top rel attr row ∷ before rel attr other row ∷ [])
+    by : Decided (StandsLast relations c rel.0 attr.0 row) → OneHolds relations c answers
+        (not_top rel attr row ∷ before rel attr other row ∷ [])
     by (inr n) = first_holds n
     by (inl t) =
         let last = stands_in relations c rel.0 attr.0 two.ent r row at two.a_of t in
@@ -41,7 +43,8 @@ above_true relations c answers rel attr row other r is at inside two = by (stand
 
 -- ---- top
 
-pub top_true : (relations : List Relation) (c : Rankings) (answers : ℕ → Type 0) (rel : RelId) (attr : AttrId) (row : RowId) (r : Relation) (ent : ℕ)
+pub top_true : (relations : List Relation) (c : Rankings) (answers : ℕ → Type 0) (rel : RelId) (attr : AttrId)
+    (row : RowId) (r : Relation) (ent : ℕ)
     → IsCase relations c → IsAt relations rel.0 attr.0 ent r row
     → OneHolds relations c answers (top rel attr row ∷ map (λ other. not_before rel attr other row) (others r.rows ent row))
 top_true relations c answers rel attr row r ent is at =
@@ -50,7 +53,8 @@ top_true relations c answers rel attr row r ent is at =
   where
     by : (z : RowId) → IsLastOf r c rel.0 attr.0 ent z → Decided (z ≡ row)
         → OneHolds relations c answers (top rel attr row ∷ map (λ other. not_before rel attr other row) (others r.rows ent row))
-    by z l (inl same) = first_holds (stands_if relations c rel.0 attr.0 ent r row at.is_relation (subst (IsLastOf r c rel.0 attr.0 ent) same l))
+    by z l (inl same) = first_holds (stands_if relations c rel.0 attr.0 ent r row at.is_relation
+        (subst (IsLastOf r c rel.0 attr.0 ent) same l))
     by z l (inr differ) =
         later_holds (mapped_holds relations c answers (λ other. not_before rel attr other row) (others r.rows ent row) z
         (other_in r.rows ent row z l.of_entity differ) (last_of_all relations c rel.0 attr.0 ent r z row is.completion l))
@@ -59,7 +63,8 @@ top_true relations c answers rel attr row r ent is at =
 
 -- the value of a row that stands last is current
 pub last_current : (relations : List Relation) (c : Rankings) (rel attr ent : ℕ) (r : Relation) (z row : RowId)
-    → slice_get relations rel ≡ Some r → IsLastOf r c rel attr ent z → HaveOne r.rows attr z row → IsCurrent relations c rel attr row
+    → slice_get relations rel ≡ Some r → IsLastOf r c rel attr ent z → HaveOne r.rows attr z row
+    → IsCurrent relations c rel attr row
 last_current relations c rel attr ent r z row at l alike =
     let same = one_entity r.rows z.0 alike.ent ent alike.entity l.of_entity in
     current_if relations c rel attr ent r row at
@@ -70,7 +75,8 @@ last_current relations c rel attr ent r z row at l alike =
       current = ap (λ o. field_value r.rows o attr) l.is_last ∙ alike.here;
     }
 
-pub last_true : (relations : List Relation) (c : Rankings) (answers : ℕ → Type 0) (rel : RelId) (attr : AttrId) (row : RowId) (r : Relation)
+pub last_true : (relations : List Relation) (c : Rankings) (answers : ℕ → Type 0) (rel : RelId) (attr : AttrId)
+    (row : RowId) (r : Relation)
     → IsCase relations c → slice_get relations rel.0 ≡ Some r → attr.0 < length r.attrs
     → OneHolds relations c answers (not_top rel attr row ∷ last rel attr (name_of r.rows attr.0 row) ∷ [])
 last_true relations c answers rel attr row r is at inside = by (stands_or relations c rel.0 attr.0 row)
@@ -80,13 +86,16 @@ last_true relations c answers rel attr row r is at inside = by (stands_or relati
     by (inr n) = first_holds n
     by (inl t) =
         let l = stands_of relations c rel.0 attr.0 r row at t in
-        let name = named r attr.0 (relation_facts relations rel.0 r is.facts at) inside row (row_there r.rows row.0 l.0 l.1.of_entity) in
-        later_holds (first_holds (last_current relations c rel.0 attr.0 l.0 r row (name_of r.rows attr.0 row) at l.1 name.have_one))
+        let name = named r attr.0 (relation_facts relations rel.0 r is.facts at) inside row
+        (row_there r.rows row.0 l.0 l.1.of_entity) in
+        later_holds (first_holds (last_current relations c rel.0 attr.0 l.0 r row (name_of r.rows attr.0 row) at l.1
+        name.have_one))
 
 -- ---- value
 
 -- the last row has the current value, which rows that have it too are alike to
-pub alike_last : (c : Rankings) (rel attr ent : ℕ) (r : Relation) (row z : RowId) → IsLastOf r c rel attr ent z → HasCurrent r c rel attr ent row
+pub alike_last : (c : Rankings) (rel attr ent : ℕ) (r : Relation) (row z : RowId) → IsLastOf r c rel attr ent z
+    → HasCurrent r c rel attr ent row
     → HaveOne r.rows attr row z
 alike_last c rel attr ent r row z l has = record {
   ent = ent;
@@ -99,7 +108,8 @@ alike_last c rel attr ent r row z l has = record {
 
 -- and so are the rows that have its name
 through_name : (c : Rankings) (rel attr ent : ℕ) (r : Relation) (row name z : RowId) → IsLastOf r c rel attr ent z
-    → entity_of r.rows row.0 ≡ Some ent → HaveOne r.rows attr row name → (k : ℕ) → HasCurrent r c rel attr k name → HaveOne r.rows attr row z
+    → entity_of r.rows row.0 ≡ Some ent → HaveOne r.rows attr row name → (k : ℕ) → HasCurrent r c rel attr k name
+    → HaveOne r.rows attr row z
 through_name c rel attr ent r row name z l of alike k has =
     let own = one_entity r.rows row.0 alike.ent ent alike.entity of in
     let its : alike.ent ≡ k = one_entity r.rows name.0 alike.ent k alike.other_entity has.of_entity in
@@ -114,13 +124,16 @@ through_name c rel attr ent r row name z l of alike k has =
       there = with_last.there;
     }
 
-pub value_true : (relations : List Relation) (c : Rankings) (answers : ℕ → Type 0) (rel : RelId) (attr : AttrId) (row : RowId) (r : Relation) (ent : ℕ)
+pub value_true : (relations : List Relation) (c : Rankings) (answers : ℕ → Type 0) (rel : RelId) (attr : AttrId)
+    (row : RowId) (r : Relation) (ent : ℕ)
     → IsCase relations c → IsAt relations rel.0 attr.0 ent r row
-    → OneHolds relations c answers (not_last rel attr (name_of r.rows attr.0 row) ∷ map (top rel attr) (alike r.rows attr.0 ent row))
+    → OneHolds relations c answers (not_last rel attr (name_of r.rows attr.0 row) ∷ map (top rel attr)
+    (alike r.rows attr.0 ent row))
 value_true relations c answers rel attr row r ent is at = by (current_or relations c rel.0 attr.0 (name_of r.rows attr.0 row))
   where
     by : Decided (IsCurrent relations c rel.0 attr.0 (name_of r.rows attr.0 row))
-        → OneHolds relations c answers (not_last rel attr (name_of r.rows attr.0 row) ∷ map (top rel attr) (alike r.rows attr.0 ent row))
+        → OneHolds relations c answers (not_last rel attr (name_of r.rows attr.0 row) ∷ map (top rel attr)
+        (alike r.rows attr.0 ent row))
     by (inr n) = first_holds n
     by (inl t) =
         let name = name_of r.rows attr.0 row in
@@ -129,7 +142,8 @@ value_true relations c answers rel attr row r ent is at = by (current_or relatio
         let its = named r attr.0 facts at.attr_in row (row_there r.rows row.0 ent at.of_entity) in
         let has = current_of relations c rel.0 attr.0 r name at.is_relation t in
         let with_last = through_name c rel.0 attr.0 ent r row name z.0 z.1 at.of_entity its.have_one has.0 has.1 in
-        let among = passed_in (are_alike r.rows attr.0 row) (rows_of (entities_of r.rows) ent) z.0 (of_entity_in r.rows ent z.0 z.1.of_entity)
+        let among = passed_in (are_alike r.rows attr.0 row) (rows_of (entities_of r.rows) ent) z.0
+        (of_entity_in r.rows ent z.0 z.1.of_entity)
         (have_one_alike r.rows attr.0 row z.0 with_last) in
         later_holds (mapped_holds relations c answers (top rel attr) (alike r.rows attr.0 ent row) z.0 among
         (stands_if relations c rel.0 attr.0 ent r z.0 at.is_relation z.1))

@@ -41,7 +41,8 @@ passes {A} test (y ∷ xs) x at = by (in_kept (test y) y (filter test xs) x at) 
     by (inl here) more = (inl here.1, sym (ap test here.1) ∙ here.0)
     by (inr later) more = let rest = more later in (inr rest.0, rest.1)
 
-pub in_passed : {A : Type 0} (test : A → Bool) (xs : List A) (x : A) → Contains (filter test xs) x → Contains xs x × (test x ≡ true)
+pub in_passed : {A : Type 0} (test : A → Bool) (xs : List A) (x : A) → Contains (filter test xs) x → Contains xs x ×
+    (test x ≡ true)
 in_passed test xs x at = let both = passes test xs x (in_contained (filter test xs) x at) in (contained xs x both.0, both.1)
 
 -- ---- members of a mapped list

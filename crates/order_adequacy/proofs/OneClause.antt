@@ -29,7 +29,8 @@ use Rattle.order_adequacy.proofs.Orders.{one_relation}
 -- ---- one clause
 
 -- the entity of a row of a relation that stands at a number
-one_entity_at : (relations : List Relation) (rel row : ℕ) (r r' : Relation) (ent ent' : ℕ) → slice_get relations rel ≡ Some r → slice_get relations rel ≡ Some r'
+one_entity_at : (relations : List Relation) (rel row : ℕ) (r r' : Relation) (ent ent' : ℕ) → slice_get relations
+    rel ≡ Some r → slice_get relations rel ≡ Some r'
     → entity_of r.rows row ≡ Some ent → entity_of r'.rows row ≡ Some ent' → ent ≡ ent'
 one_entity_at relations rel row r r' ent ent' at at' of of' =
     let same = one_relation relations rel r r' at at' in
@@ -39,13 +40,15 @@ copy_clause : CopyFunction → Place → RowId → RowId → RowId → RowId →
 copy_clause copy at first_source second_source first second =
     not_before copy.source at.source first_source second_source ∷ before copy.target at.target first second ∷ []
 
-one_copy_clause : (s : Spec) (copy : CopyFunction) (place : ℕ) (first second : RowId) (a b : List Said) → IsCopyAxiom s copy place first second a
+one_copy_clause : (s : Spec) (copy : CopyFunction) (place : ℕ) (first second : RowId) (a b : List Said)
+    → IsCopyAxiom s copy place first second a
     → IsCopyAxiom s copy place first second b → a ≡ b
 unfolding copy_clause
 one_copy_clause s copy place first second a b x y =
     let places : x.at ≡ y.at = same_Some x.at y.at (sym x.is_place ∙ y.is_place) in
     let firsts : x.first_source ≡ y.first_source = same_Some x.first_source y.first_source (sym x.first_from ∙ y.first_from) in
-    let seconds : x.second_source ≡ y.second_source = same_Some x.second_source y.second_source (sym x.second_from ∙ y.second_from) in
+    let seconds : x.second_source ≡ y.second_source = same_Some x.second_source y.second_source
+    (sym x.second_from ∙ y.second_from) in
     x.clause_is
     ∙ (ap (λ (at : Place). copy_clause copy at x.first_source x.second_source first second) places
     ∙ (ap₂ (λ (f g : RowId). copy_clause copy y.at f g first second) firsts seconds ∙ sym y.clause_is))
@@ -63,13 +66,15 @@ one_clause s (label.Rule k rows) a b x y =
     x.2.2.3 ∙ (ap₂ (λ (q : Rule) (i : RuleInstance). instance_clause q.relation i) rules instances ∙ sym y.2.2.3)
 one_clause s (label.Copy k place first second) a b x y =
     let copies : x.0 ≡ y.0 = same_Some x.0 y.0 (sym x.1 ∙ y.1) in
-    one_copy_clause s y.0 place first second a b (subst (λ (copy : CopyFunction). IsCopyAxiom s copy place first second a) copies x.2) y.2
+    one_copy_clause s y.0 place first second a b
+    (subst (λ (copy : CopyFunction). IsCopyAxiom s copy place first second a) copies x.2) y.2
 one_clause s (label.Above rel attr row other) a b x y = x.2.2 ∙ sym y.2.2
 one_clause s (label.Top rel attr row) a b x y =
     let same = one_relation s.relations rel.0 x.0 y.0 x.1 y.1 in
     let ents = one_entity_at s.relations rel.0 row.0 x.0 y.0 x.2.1 y.2.1 x.1 y.1 x.2.2 y.2.2 in
     x.2.3
-    ∙ (ap₂ (λ (r : Relation) ent. top rel attr row ∷ map (λ other. not_before rel attr other row) (others r.rows ent row)) same ents ∙ sym y.2.3)
+    ∙ (ap₂ (λ (r : Relation) ent. top rel attr row ∷ map (λ other. not_before rel attr other row)
+    (others r.rows ent row)) same ents ∙ sym y.2.3)
 one_clause s (label.Last rel attr row) a b x y =
     let same = one_relation s.relations rel.0 x.0 y.0 x.1 y.1 in
     x.2.2 ∙ (ap (λ (r : Relation). not_top rel attr row ∷ last rel attr (name_of r.rows attr.0 row) ∷ []) same ∙ sym y.2.2)
@@ -77,7 +82,8 @@ one_clause s (label.Value rel attr row) a b x y =
     let same = one_relation s.relations rel.0 x.0 y.0 x.1 y.1 in
     let ents = one_entity_at s.relations rel.0 row.0 x.0 y.0 x.2.1 y.2.1 x.1 y.1 x.2.2 y.2.2 in
     x.2.3
-    ∙ (ap₂ (λ (r : Relation) ent. not_last rel attr (name_of r.rows attr.0 row) ∷ map (top rel attr) (alike r.rows attr.0 ent row)) same ents ∙ sym y.2.3)
+    ∙ (ap₂ (λ (r : Relation) ent. not_last rel attr (name_of r.rows attr.0 row) ∷ map (top rel attr)
+    (alike r.rows attr.0 ent row)) same ents ∙ sym y.2.3)
 one_clause s (label.Match disjunct entities values) a b x y = absurd x
 
 -- ---- one of it is true
@@ -96,14 +102,16 @@ same_label l l' lits lits' e =
     (labels, literals)
 
 pub asked_true : (s : Spec) (currents : List RelId) (statements : List Statement) (steps : List Step) (truths : List Bool)
-    → AreAxioms s currents statements steps → All (IsClauseTrue truths) (clauses_of steps) → (l : Label) (clause : List Said) → IsAxiom s l clause
+    → AreAxioms s currents statements steps → All (IsClauseTrue truths) (clauses_of steps) →
+    (l : Label) (clause : List Said) → IsAxiom s l clause
     → IsAsked s currents l → OneIsTrue statements truths clause
 asked_true s currents statements steps truths are true_clauses l clause is asked =
     let stands = are.all l clause is asked in
     let here = All-contains (IsAskedStep s currents statements) steps (step.Axiom l stands.lits) are.each stands.is_in in
     let same = same_label l here.label stands.lits here.lits here.step.is_step in
     let clauses : here.step.clause ≡ clause =
-    one_clause s l here.step.clause clause (subst (λ (m : Label). IsAxiom s m here.step.clause) (sym same.0) here.step.is_axiom) is in
+    one_clause s l here.step.clause clause (subst (λ (m : Label). IsAxiom s m here.step.clause) (sym same.0)
+    here.step.is_axiom) is in
     let listed : Contains (clauses_of steps) stands.lits = mapped_in clause_of steps (step.Axiom l stands.lits) stands.is_in in
     let chosen = All-contains (IsClauseTrue truths) (clauses_of steps) stands.lits true_clauses listed in
     let among = subst (λ (lits : List Lit). Contains lits chosen.lit) same.1 chosen.is_in in

@@ -26,22 +26,28 @@ use Rattle.order_adequacy.proofs.Orders.{before_next}
 abbrev pub RulesByInstances : Type 0
 RulesByInstances = (s : Spec) (c : Rankings) → AreRules s.relations s.rules → IsCompletion s.relations c → (k : ℕ) (rule : Rule)
     → slice_get s.rules k ≡ Some rule → (r : Relation) → slice_get s.relations rule.relation.0 ≡ Some r
-    → (SatisfiesRule r.rows (slice_index_or c rule.relation.0 []) rule → InstancesHold r.rows (slice_index_or c rule.relation.0 []) rule)
-    × (InstancesHold r.rows (slice_index_or c rule.relation.0 []) rule → SatisfiesRule r.rows (slice_index_or c rule.relation.0 []) rule)
+    → (SatisfiesRule r.rows (slice_index_or c rule.relation.0 []) rule → InstancesHold r.rows
+    (slice_index_or c rule.relation.0 []) rule)
+    × (InstancesHold r.rows (slice_index_or c rule.relation.0 []) rule → SatisfiesRule r.rows
+    (slice_index_or c rule.relation.0 []) rule)
 
 -- ---- three rows
 
-pub transitive_true : (relations : List Relation) (c : Rankings) (answers : ℕ → Type 0) (rel : RelId) (attr : AttrId) (first second third : RowId)
+pub transitive_true : (relations : List Relation) (c : Rankings) (answers : ℕ → Type 0) (rel : RelId) (attr : AttrId)
+    (first second third : RowId)
     → IsCompletion relations c
-    → OneHolds relations c answers (not_before rel attr first second ∷ not_before rel attr second third ∷ before rel attr first third ∷ [])
+    → OneHolds relations c answers (not_before rel attr first second ∷ not_before rel attr second third
+    ∷ before rel attr first third ∷ [])
 transitive_true relations c answers rel attr first second third completion =
     by (before_or (lists_of c rel.0 attr.0) first second) (before_or (lists_of c rel.0 attr.0) second third)
   where
     by : Decided (Before (lists_of c rel.0 attr.0) first second) → Decided (Before (lists_of c rel.0 attr.0) second third)
-        → OneHolds relations c answers (not_before rel attr first second ∷ not_before rel attr second third ∷ before rel attr first third ∷ [])
+        → OneHolds relations c answers (not_before rel attr first second ∷ not_before rel attr second third
+        ∷ before rel attr first third ∷ [])
     by (inr n) later = first_holds n
     by (inl s) (inr n) = later_holds (first_holds n)
-    by (inl s) (inl t) = later_holds (later_holds (first_holds (before_next relations c rel.0 attr.0 first second third completion s t)))
+    by (inl s) (inl t) = later_holds
+        (later_holds (first_holds (before_next relations c rel.0 attr.0 first second third completion s t)))
 
 -- ---- rules
 
@@ -54,7 +60,8 @@ instance_true relations c answers rel i holds =
     lists : Lists
     lists = slice_index_or c rel.0 []
 
-    concluding : (o : Option Pair) → ConcludedHolds (slice_index_or c rel.0 []) o → OneHolds relations c answers (conclusion_clause rel o)
+    concluding : (o : Option Pair) → ConcludedHolds (slice_index_or c rel.0 []) o → OneHolds relations c answers
+        (conclusion_clause rel o)
     concluding None h = absurd h
     concluding (Some p) h = first_holds h
 
@@ -62,15 +69,18 @@ instance_true relations c answers rel i holds =
         ⊎ ((p : Pair) × Contains i.premises p × (PairHolds (slice_index_or c rel.0 []) p → ⊥))
         → OneHolds relations c answers (instance_clause rel i)
     by (inl all) =
-        back_holds relations c answers (map (λ p. not_before rel p.attr p.earlier p.later) i.premises) (conclusion_clause rel i.conclusion)
+        back_holds relations c answers (map (λ p. not_before rel p.attr p.earlier p.later) i.premises)
+        (conclusion_clause rel i.conclusion)
         (concluding i.conclusion (holds all))
     by (inr (p, at, never)) =
-        front_holds relations c answers (map (λ p. not_before rel p.attr p.earlier p.later) i.premises) (conclusion_clause rel i.conclusion)
+        front_holds relations c answers (map (λ p. not_before rel p.attr p.earlier p.later) i.premises)
+        (conclusion_clause rel i.conclusion)
         (mapped_holds relations c answers (λ p. not_before rel p.attr p.earlier p.later) i.premises p at never)
 
 -- ---- copied rows
 
-pub copy_true : (s : Spec) (c : Rankings) (answers : ℕ → Type 0) (k : ℕ) (copy : CopyFunction) (place : ℕ) (first second : RowId) (clause : List Said)
+pub copy_true : (s : Spec) (c : Rankings) (answers : ℕ → Type 0) (k : ℕ) (copy : CopyFunction) (place : ℕ)
+    (first second : RowId) (clause : List Said)
     → IsCompatibleWith s.relations s.copies c → slice_get s.copies k ≡ Some copy → IsCopyAxiom s copy place first second clause
     → OneHolds s.relations c answers clause
 copy_true s c answers k copy place first second clause compatible at is =
@@ -95,4 +105,5 @@ copy_true s c answers k copy place first second clause compatible at is =
         → OneHolds s.relations c answers
         (not_before copy.source is.at.source is.first_source is.second_source ∷ before copy.target is.at.target first second ∷ [])
     by (inr n) = first_holds n
-    by (inl h) = later_holds (first_holds (compatible k copy at is.target is.source is.is_target is.is_source place is.at is.is_place first second together h))
+    by (inl h) = later_holds (first_holds (compatible k copy at is.target is.source is.is_target is.is_source place
+        is.at is.is_place first second together h))

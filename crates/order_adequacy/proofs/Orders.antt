@@ -20,14 +20,17 @@ pub record IsCase (relations : List Relation) (c : Rankings) : Type 0 where
   pub facts : AreRelations relations
   pub completion : IsCompletion relations c
 
-pub relation_facts : (relations : List Relation) (rel : ℕ) (r : Relation) → AreRelations relations → slice_get relations rel ≡ Some r → IsRelation r
+pub relation_facts : (relations : List Relation) (rel : ℕ) (r : Relation) → AreRelations relations
+    → slice_get relations rel ≡ Some r → IsRelation r
 relation_facts relations rel r facts at = All-contains IsRelation relations r facts.each (at_place relations rel r at)
 
 -- a relation stands once at its number
-pub one_relation : (relations : List Relation) (rel : ℕ) (a b : Relation) → slice_get relations rel ≡ Some a → slice_get relations rel ≡ Some b → a ≡ b
+pub one_relation : (relations : List Relation) (rel : ℕ) (a b : Relation) → slice_get relations rel ≡ Some a
+    → slice_get relations rel ≡ Some b → a ≡ b
 one_relation relations rel a b at at' = same_Some a b (sym at ∙ at')
 
-pub one_entity : (rows : List Row) (row ent ent' : ℕ) → entity_of rows row ≡ Some ent → entity_of rows row ≡ Some ent' → ent ≡ ent'
+pub one_entity : (rows : List Row) (row ent ent' : ℕ) → entity_of rows row ≡ Some ent → entity_of rows row ≡ Some
+    ent' → ent ≡ ent'
 one_entity rows row ent ent' of of' = same_Some ent ent' (sym of ∙ of')
 
 -- ---- the list of an entity
@@ -51,7 +54,8 @@ list_of relations c rel attr ent place row completion at =
     let within : rel < length relations = omega (arith, completion.shape.per_relation, rel_there) in
     ⊎_elim (λ p. by p.0 p.2 attr_there ent_there) (λ p. absurd (omega (arith, p.0, within))) (slice_get_cases relations rel).1
   where
-    by : (r : Relation) → slice_get relations rel ≡ Some r → attr < length (slice_index_or c rel []) → ent < length (lists_of c rel attr)
+    by : (r : Relation) → slice_get relations rel ≡ Some r → attr < length (slice_index_or c rel []) → ent < length
+        (lists_of c rel attr)
         → IsList relations c rel attr ent
     by r is attr_there ent_there =
         let attr_in : attr < length r.attrs = omega (arith, completion.shape.per_attr rel r is, attr_there) in
@@ -60,13 +64,15 @@ list_of relations c rel attr ent place row completion at =
 
 -- a row stands in one list of an attribute, at one place
 one_place : (relations : List Relation) (c : Rankings) (rel attr ent ent' i j : ℕ) (row : RowId) → IsCompletion relations c
-    → slice_get (ranking_of c rel attr ent) i ≡ Some row → slice_get (ranking_of c rel attr ent') j ≡ Some row → (ent ≡ ent') × (i ≡ j)
+    → slice_get (ranking_of c rel attr ent) i ≡ Some row → slice_get (ranking_of c rel attr ent') j ≡ Some row →
+    (ent ≡ ent') × (i ≡ j)
 one_place relations c rel attr ent ent' i j row completion at at' =
     let l = list_of relations c rel attr ent i row completion at in
     let l' = list_of relations c rel attr ent' j row completion at' in
     let of : entity_of l.relation.rows row.0 ≡ Some ent = l.ranking.only row (at_place (ranking_of c rel attr ent) i row at) in
     let of' : entity_of l.relation.rows row.0 ≡ Some ent' =
-    subst (λ (r : Relation). entity_of r.rows row.0 ≡ Some ent') (one_relation relations rel l'.relation l.relation l'.is_relation l.is_relation)
+    subst (λ (r : Relation). entity_of r.rows row.0 ≡ Some ent') (one_relation relations rel l'.relation l.relation
+    l'.is_relation l.is_relation)
     (l'.ranking.only row (at_place (ranking_of c rel attr ent') j row at')) in
     let same : ent ≡ ent' = one_entity l.relation.rows row.0 ent ent' of of' in
     (same, l.ranking.once i j row at (ap (λ k. slice_get (ranking_of c rel attr k) j) same ∙ at'))
@@ -113,7 +119,8 @@ pair_before relations c rel attr a b completion s =
     }
 
 -- a row that stands before another does so in the list of its entity
-pub before_in : (relations : List Relation) (c : Rankings) (rel attr ent : ℕ) (r : Relation) (a b : RowId) → IsCompletion relations c
+pub before_in : (relations : List Relation) (c : Rankings) (rel attr ent : ℕ) (r : Relation) (a b : RowId)
+    → IsCompletion relations c
     → slice_get relations rel ≡ Some r → entity_of r.rows a.0 ≡ Some ent → (s : Before (lists_of c rel attr) a b) → s.ent ≡ ent
 before_in relations c rel attr ent r a b completion at of s =
     let l = list_of relations c rel attr s.ent s.low a completion s.first in
@@ -137,13 +144,15 @@ before_next relations c rel attr a b d completion s t =
 
 -- the list of the entity of a row, in an attribute
 pub ranking_at : (relations : List Relation) (c : Rankings) (rel attr ent : ℕ) (r : Relation) (row : RowId) → IsCase relations c
-    → slice_get relations rel ≡ Some r → attr < length r.attrs → entity_of r.rows row.0 ≡ Some ent → IsRanking r.rows ent (ranking_of c rel attr ent)
+    → slice_get relations rel ≡ Some r → attr < length r.attrs → entity_of r.rows row.0 ≡ Some ent
+    → IsRanking r.rows ent (ranking_of c rel attr ent)
 ranking_at relations c rel attr ent r row is at inside of =
     let ent_in = entity_below r.rows (length r.entities) row.0 ent (relation_facts relations rel r is.facts at).entities of in
     is.completion.ranked rel r at attr ent inside ent_in
 
 -- of two different rows of one entity one stands before the other
-pub either_before : (relations : List Relation) (c : Rankings) (rel attr : ℕ) (a b : RowId) → IsCase relations c → ArePair relations rel attr a b
+pub either_before : (relations : List Relation) (c : Rankings) (rel attr : ℕ) (a b : RowId) → IsCase relations c
+    → ArePair relations rel attr a b
     → Before (lists_of c rel attr) a b ⊎ Before (lists_of c rel attr) b a
 either_before relations c rel attr a b is pair =
     let ent = pair.two.ent in
@@ -159,7 +168,8 @@ either_before relations c rel attr a b is pair =
         (λ (below : i < j). inl record { ent = pair.two.ent; low = i; high = j; below = below; first = at; second = at' })
         (λ (above : j ≤ i).
         ⊎_elim
-        (λ (same : i ≡ j). absurd (pair.two.differ (same_Some a b (sym at ∙ (ap (slice_get (ranking_of c rel attr pair.two.ent)) same ∙ at')))))
+        (λ (same : i ≡ j). absurd (pair.two.differ
+        (same_Some a b (sym at ∙ (ap (slice_get (ranking_of c rel attr pair.two.ent)) same ∙ at')))))
         (λ (apart : i ≡ j → ⊥).
         inr record { ent = pair.two.ent; low = j; high = i; below = omega (arith, above, apart); first = at'; second = at })
         (cases_eq i j))
@@ -174,7 +184,8 @@ pub record IsLastOf (r : Relation) (c : Rankings) (rel attr ent : ℕ) (z : RowI
 
 -- an entity with a row has a last row
 pub last_there : (relations : List Relation) (c : Rankings) (rel attr ent : ℕ) (r : Relation) (row : RowId) → IsCase relations c
-    → slice_get relations rel ≡ Some r → attr < length r.attrs → entity_of r.rows row.0 ≡ Some ent → (z : RowId) × IsLastOf r c rel attr ent z
+    → slice_get relations rel ≡ Some r → attr < length r.attrs → entity_of r.rows row.0 ≡ Some ent →
+    (z : RowId) × IsLastOf r c rel attr ent z
 last_there relations c rel attr ent r row is at inside of =
     let list = ranking_of c rel attr ent in
     let ranking = ranking_at relations c rel attr ent r row is at inside of in
@@ -185,17 +196,20 @@ last_there relations c rel attr ent r row is at inside of =
     (z, record { of_entity = ranking.only z (at_place list (length list - 1) z is_last); is_last = is_last })
 
 -- the last row stands before none
-pub last_of_all : (relations : List Relation) (c : Rankings) (rel attr ent : ℕ) (r : Relation) (z later : RowId) → IsCompletion relations c
+pub last_of_all : (relations : List Relation) (c : Rankings) (rel attr ent : ℕ) (r : Relation) (z later : RowId)
+    → IsCompletion relations c
     → IsLastOf r c rel attr ent z → Before (lists_of c rel attr) z later → ⊥
 last_of_all relations c rel attr ent r z later completion last s =
     let place = length (ranking_of c rel attr ent) - 1 in
     let at = one_place relations c rel attr s.ent ent s.low place z completion s.first last.is_last in
-    let long : length (ranking_of c rel attr s.ent) ≡ length (ranking_of c rel attr ent) = ap (λ k. length (ranking_of c rel attr k)) at.0 in
+    let long : length (ranking_of c rel attr s.ent) ≡ length (ranking_of c rel attr ent) =
+    ap (λ k. length (ranking_of c rel attr k)) at.0 in
     let inside = slice_get_within (ranking_of c rel attr s.ent) s.high later s.second in
     absurd (omega (arith, at.1, long, inside, s.below))
 
 -- a pair of the last row and another of its entity
-pub pair_with : (relations : List Relation) (rel attr ent : ℕ) (r : Relation) (a b : RowId) → slice_get relations rel ≡ Some r → attr < length r.attrs
+pub pair_with : (relations : List Relation) (rel attr ent : ℕ) (r : Relation) (a b : RowId) → slice_get relations
+    rel ≡ Some r → attr < length r.attrs
     → entity_of r.rows a.0 ≡ Some ent → entity_of r.rows b.0 ≡ Some ent → a ≢ b → ArePair relations rel attr a b
 pair_with relations rel attr ent r a b at inside a_of b_of differ = record {
   relation = r;
@@ -205,19 +219,23 @@ pair_with relations rel attr ent r a b at inside a_of b_of differ = record {
 }
 
 -- each other row of its entity stands before the last
-pub before_last : (relations : List Relation) (c : Rankings) (rel attr ent : ℕ) (r : Relation) (z other : RowId) → IsCase relations c
-    → slice_get relations rel ≡ Some r → attr < length r.attrs → IsLastOf r c rel attr ent z → entity_of r.rows other.0 ≡ Some ent → other ≢ z
+pub before_last : (relations : List Relation) (c : Rankings) (rel attr ent : ℕ) (r : Relation) (z other : RowId)
+    → IsCase relations c
+    → slice_get relations rel ≡ Some r → attr < length r.attrs → IsLastOf r c rel attr ent z
+    → entity_of r.rows other.0 ≡ Some ent → other ≢ z
     → Before (lists_of c rel attr) other z
 before_last relations c rel attr ent r z other is at inside last of differ =
     ⊎_elim
     (λ (s : Before (lists_of c rel attr) other z). s)
     (λ (s : Before (lists_of c rel attr) z other). absurd (last_of_all relations c rel attr ent r z other is.completion last s))
-    (either_before relations c rel attr other z is (pair_with relations rel attr ent r other z at inside of last.of_entity differ))
+    (either_before relations c rel attr other z is (pair_with relations rel attr ent r other z at inside of
+    last.of_entity differ))
 
 -- a row before which all others of its entity stand is the last
 pub last_if : (relations : List Relation) (c : Rankings) (rel attr ent : ℕ) (r : Relation) (row : RowId) → IsCase relations c
     → slice_get relations rel ≡ Some r → attr < length r.attrs → entity_of r.rows row.0 ≡ Some ent
-    → ((other : RowId) → entity_of r.rows other.0 ≡ Some ent → other ≢ row → Before (lists_of c rel attr) other row) → IsLastOf r c rel attr ent row
+    → ((other : RowId) → entity_of r.rows other.0 ≡ Some ent → other ≢ row → Before (lists_of c rel attr) other row)
+    → IsLastOf r c rel attr ent row
 last_if relations c rel attr ent r row is at inside of all = by (last_there relations c rel attr ent r row is at inside of)
   where
     by : (z : RowId) × IsLastOf r c rel attr ent z → IsLastOf r c rel attr ent row

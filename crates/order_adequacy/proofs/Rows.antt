@@ -36,20 +36,24 @@ entity_there rows n below =
     (get_or (entities_of rows) n 0, entity_is rows n ∙ slice_get-get_or (entities_of rows) n 0 within)
 
 -- which is one of the entities
-pub entity_below : (rows : List Row) (count n ent : ℕ) → All (λ row. row.entity.0 < count) rows → entity_of rows n ≡ Some ent → ent < count
+pub entity_below : (rows : List Row) (count n ent : ℕ) → All (λ row. row.entity.0 < count) rows → entity_of rows n ≡
+    Some ent → ent < count
 entity_below [] count n ent all of = absurd (none-some ent of)
 entity_below (r ∷ rows) count zero ent all of =
     subst (λ k. k < count) (same_Some r.entity.0 ent of) (All-head (λ row. row.entity.0 < count) r rows all)
-entity_below (r ∷ rows) count (suc n) ent all of = entity_below rows count n ent (All-tail (λ row. row.entity.0 < count) r rows all) of
+entity_below (r ∷ rows) count (suc n) ent all of = entity_below rows count n ent
+    (All-tail (λ row. row.entity.0 < count) r rows all) of
 
 -- ---- the rows of an entity
 
-pub of_entity_in : (rows : List Row) (ent : ℕ) (row : RowId) → entity_of rows row.0 ≡ Some ent → Contains (rows_of (entities_of rows) ent) row
+pub of_entity_in : (rows : List Row) (ent : ℕ) (row : RowId) → entity_of rows row.0 ≡ Some ent
+    → Contains (rows_of (entities_of rows) ent) row
 of_entity_in rows ent row of =
     let found = found_in (entities_of rows) ent row (sym (entity_is rows row.0) ∙ of) in
     at_place (rows_of (entities_of rows) ent) found.0 row found.1
 
-pub in_of_entity : (rows : List Row) (ent : ℕ) (row : RowId) → Contains (rows_of (entities_of rows) ent) row → entity_of rows row.0 ≡ Some ent
+pub in_of_entity : (rows : List Row) (ent : ℕ) (row : RowId) → Contains (rows_of (entities_of rows) ent) row
+    → entity_of rows row.0 ≡ Some ent
 in_of_entity rows ent row at =
     let place = place_of (rows_of (entities_of rows) ent) row at in
     entity_is rows row.0 ∙ member_of (entities_of rows) ent place.0 row place.1

@@ -45,7 +45,8 @@ behind y ys row differ (zero, at) = absurd (differ (same_Some y row at))
 behind y ys row differ (suc i, at) = (i, at)
 
 -- the first rows are one
-same_first : (x : RowId) (xs : List RowId) (y : RowId) (ys : List RowId) → OnlyOnce (x ∷ xs) → OnlyOnce (y ∷ ys) → IsWithin (x ∷ xs) (y ∷ ys) → x ≡ y
+same_first : (x : RowId) (xs : List RowId) (y : RowId) (ys : List RowId) → OnlyOnce (x ∷ xs) → OnlyOnce (y ∷ ys)
+    → IsWithin (x ∷ xs) (y ∷ ys) → x ≡ y
 same_first x xs y ys once once' is = by (same_or x y)
   where
     by : Decided (x ≡ y) → x ≡ y
@@ -63,10 +64,18 @@ same_behind x xs y ys once once' same is = record {
   rows = λ row at. behind y ys row (λ e. not_first x xs at.0 row once at.1 (same ∙ e)) (is.rows row (suc at.0, at.1));
   back = λ row at. behind x xs row (λ e. not_first y ys at.0 row once' at.1 (sym same ∙ e)) (is.back row (suc at.0, at.1));
   order = λ a b s. in_order a b s
-      (is.order a b record { low = suc s.low; high = suc s.high; below = omega (arith, s.below); first = s.first; second = s.second });
+      (is.order a b record {
+        low = suc s.low;
+        high = suc s.high;
+        below = omega (arith, s.below);
+        first =
+            s.first;
+        second = s.second;
+      });
 }
   where
-    at_places : (a b : RowId) → StandIn xs a b → (low high : ℕ) → low < high → slice_get (y ∷ ys) low ≡ Some a → slice_get (y ∷ ys) high ≡ Some b
+    at_places : (a b : RowId) → StandIn xs a b → (low high : ℕ) → low < high → slice_get (y ∷ ys) low ≡ Some a
+        → slice_get (y ∷ ys) high ≡ Some b
         → StandIn ys a b
     at_places a b s zero high below first second = absurd (not_first x xs s.low a once s.first (same ∙ same_Some y a first))
     at_places a b s (suc low) zero below first second = absurd (omega (arith, below))
@@ -91,7 +100,8 @@ same_orders (x ∷ xs) (y ∷ ys) once once' is =
 abbrev pub KeepsOrder : List Relation → Rankings → Rankings → Type 0
 KeepsOrder relations c d = (rel attr : ℕ) (a b : RowId) → Before (lists_of c rel attr) a b → Before (lists_of d rel attr) a b
 
-same_ranking : (relations : List Relation) (c d : Rankings) (rel attr ent : ℕ) (r : Relation) → IsCompletion relations c → IsCompletion relations d
+same_ranking : (relations : List Relation) (c d : Rankings) (rel attr ent : ℕ) (r : Relation)
+    → IsCompletion relations c → IsCompletion relations d
     → KeepsOrder relations c d → slice_get relations rel ≡ Some r → attr < length r.attrs → ent < length r.entities
     → ranking_of c rel attr ent ≡ ranking_of d rel attr ent
 same_ranking relations c d rel attr ent r is other keeps at inside ent_in =
@@ -105,10 +115,19 @@ same_ranking relations c d rel attr ent r is other keeps at inside ent_in =
       back = λ row p. place_of xs row (here.all row (there.only row (at_place ys p.0 row p.1)));
       order = λ a b s.
           in_list a b (here.only a (at_place xs s.low a s.first))
-          (keeps rel attr a b record { ent = ent; low = s.low; high = s.high; below = s.below; first = s.first; second = s.second });
+          (keeps rel attr a b record {
+            ent = ent;
+            low = s.low;
+            high = s.high;
+            below = s.below;
+            first =
+                s.first;
+            second = s.second;
+          });
     }
   where
-    in_list : (a b : RowId) → entity_of r.rows a.0 ≡ Some ent → Before (lists_of d rel attr) a b → StandIn (ranking_of d rel attr ent) a b
+    in_list : (a b : RowId) → entity_of r.rows a.0 ≡ Some ent → Before (lists_of d rel attr) a b
+        → StandIn (ranking_of d rel attr ent) a b
     in_list a b of s =
         let same = before_in relations d rel attr ent r a b other at of s in
         record {
@@ -129,15 +148,18 @@ lists_agree xs ys d long each =
     get_or_from_slice_get xs k (get_or xs k d) e (slice_get-get_or xs k d below)
     ∙ (each k below ∙ sym (get_or_from_slice_get ys k (get_or ys k d) e (slice_get-get_or ys k d below'))))
 
-same_attr : (relations : List Relation) (c d : Rankings) (rel attr : ℕ) (r : Relation) → IsCompletion relations c → IsCompletion relations d
-    → KeepsOrder relations c d → slice_get relations rel ≡ Some r → attr < length r.attrs → lists_of c rel attr ≡ lists_of d rel attr
+same_attr : (relations : List Relation) (c d : Rankings) (rel attr : ℕ) (r : Relation) → IsCompletion relations c
+    → IsCompletion relations d
+    → KeepsOrder relations c d → slice_get relations rel ≡ Some r → attr < length r.attrs → lists_of c rel attr ≡
+    lists_of d rel attr
 same_attr relations c d rel attr r is other keeps at inside =
     let long = is.shape.per_entity rel r at attr inside in
     let long' = other.shape.per_entity rel r at attr inside in
     lists_agree (lists_of c rel attr) (lists_of d rel attr) [] (long ∙ sym long')
     (λ ent below. same_ranking relations c d rel attr ent r is other keeps at inside (subst (λ n. ent < n) long below))
 
-same_relation : (relations : List Relation) (c d : Rankings) (rel : ℕ) (r : Relation) → IsCompletion relations c → IsCompletion relations d
+same_relation : (relations : List Relation) (c d : Rankings) (rel : ℕ) (r : Relation) → IsCompletion relations c
+    → IsCompletion relations d
     → KeepsOrder relations c d → slice_get relations rel ≡ Some r → slice_index_or c rel [] ≡ slice_index_or d rel []
 same_relation relations c d rel r is other keeps at =
     let long = is.shape.per_attr rel r at in
@@ -146,7 +168,8 @@ same_relation relations c d rel r is other keeps at =
     (λ attr below. same_attr relations c d rel attr r is other keeps at (subst (λ n. attr < n) long below))
 
 -- completions of which one keeps the order of the other are one
-pub same_completion : (relations : List Relation) (c d : Rankings) → IsCompletion relations c → IsCompletion relations d → KeepsOrder relations c d → c ≡ d
+pub same_completion : (relations : List Relation) (c d : Rankings) → IsCompletion relations c
+    → IsCompletion relations d → KeepsOrder relations c d → c ≡ d
 same_completion relations c d is other keeps =
     lists_agree c d [] (is.shape.per_relation ∙ sym other.shape.per_relation) (λ rel below. at_relation rel below)
   where

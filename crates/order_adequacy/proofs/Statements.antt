@@ -35,7 +35,8 @@ table_from currents first (r ∷ relations) (suc place) t at =
     let next : first + suc place ≡ first + 1 + place = omega arith in
     (more.0, more.1, ap (λ k. numbered currents k more.0) next ∙ more.2)
 
-table_of : (currents : List RelId) (relations : List Relation) (rel : ℕ) (t : Numbered) → slice_get (tables_from currents 0 relations) rel ≡ Some t
+table_of : (currents : List RelId) (relations : List Relation) (rel : ℕ) (t : Numbered)
+    → slice_get (tables_from currents 0 relations) rel ≡ Some t
     → (r : Relation) × (slice_get relations rel ≡ Some r) × (numbered currents rel r ≡ t)
 table_of currents relations rel t at =
     let found = table_from currents 0 relations rel t at in
@@ -43,7 +44,8 @@ table_of currents relations rel t at =
     (found.0, found.1, ap (λ k. numbered currents k found.0) start ∙ found.2)
 
 -- two rows of a table are two rows of its relation
-pub pair_of_relation : (relations : List Relation) (wanted : Wanted) (rel attr : ℕ) (a b : RowId) → IsPairOf (numbers_of relations wanted) rel attr a b
+pub pair_of_relation : (relations : List Relation) (wanted : Wanted) (rel attr : ℕ) (a b : RowId)
+    → IsPairOf (numbers_of relations wanted) rel attr a b
     → ArePair relations rel attr a b
 pair_of_relation relations wanted rel attr a b pair =
     let found = table_of wanted.currents relations rel pair.table pair.is_table in
@@ -64,7 +66,8 @@ pair_of_relation relations wanted rel attr a b pair =
 -- ---- names
 
 -- a row that stands at its own place in the list of names names itself
-own_name : (rows : List Row) (attr : ℕ) (row : RowId) → slice_get (names_of rows attr) row.0 ≡ Some row → (row.0 < length rows) × (name_of rows attr row ≡ row)
+own_name : (rows : List Row) (attr : ℕ) (row : RowId) → slice_get (names_of rows attr) row.0 ≡ Some row →
+    (row.0 < length rows) × (name_of rows attr row ≡ row)
 own_name rows attr row here =
     let many = length-map (row_ids (length rows)) (name_of rows attr) in
     let id : ℕ → RowId = λ at. record { 0 = at } in
@@ -93,13 +96,15 @@ wants_if : (b : Bool) (given names : List (List RowId)) → cond b (Some given) 
 wants_if true given names e = (refl, same_Some given names e)
 wants_if false given names e = absurd (none-some names e)
 
-wanted_row : (relations : List Relation) (wanted : Wanted) (rel attr : ℕ) (row : RowId) → IsRowOf (numbers_of relations wanted) rel attr row
+wanted_row : (relations : List Relation) (wanted : Wanted) (rel attr : ℕ) (row : RowId)
+    → IsRowOf (numbers_of relations wanted) rel attr row
     → IsWantedRow relations wanted rel attr row
 wanted_row relations wanted rel attr row is =
     let found = table_of wanted.currents relations rel is.table is.is_table in
     let r = found.0 in
     let attrs : length r.attrs ≡ is.table.attrs = ap (λ (x : Numbered). x.attrs) found.2 in
-    let entities : length (entities_of r.rows) ≡ length is.table.rows.entities = ap (λ (x : Numbered). length x.rows.entities) found.2 in
+    let entities : length (entities_of r.rows) ≡ length is.table.rows.entities =
+    ap (λ (x : Numbered). length x.rows.entities) found.2 in
     let many = length-map r.rows (λ row. row.entity.0) in
     let within : row.0 < length r.rows = omega (arith, entities, many, is.row_within) in
     let ent = entity_there r.rows row.0 within in
@@ -113,7 +118,8 @@ wanted_row relations wanted rel attr row is =
       of_entity = ent.1;
     }
 
-wanted_name : (relations : List Relation) (wanted : Wanted) (rel attr : ℕ) (row : RowId) → IsNameOf (numbers_of relations wanted) rel attr row
+wanted_name : (relations : List Relation) (wanted : Wanted) (rel attr : ℕ) (row : RowId)
+    → IsNameOf (numbers_of relations wanted) rel attr row
     → IsWantedName relations wanted rel attr row
 wanted_name relations wanted rel attr row is =
     let found = table_of wanted.currents relations rel is.table is.is_table in
@@ -141,14 +147,18 @@ wanted_name relations wanted rel attr row is =
 
 -- a statement that a row stands last is of a wanted row
 pub top_of_row : (relations : List Relation) (wanted : Wanted) (rel : RelId) (attr : AttrId) (row : RowId)
-    → Contains (statements_of (numbers_of relations wanted)) (says.Top rel attr row) → IsWantedRow relations wanted rel.0 attr.0 row
+    → Contains (statements_of (numbers_of relations wanted)) (says.Top rel attr row) → IsWantedRow relations wanted
+    rel.0 attr.0 row
 top_of_row relations wanted rel attr row at =
     let n = numbers_of relations wanted in
-    wanted_row relations wanted rel.0 attr.0 row (top_in n rel attr row (in_contained (statements_of n) (says.Top rel attr row) at))
+    wanted_row relations wanted rel.0 attr.0 row
+    (top_in n rel attr row (in_contained (statements_of n) (says.Top rel attr row) at))
 
 -- and a statement that a value is current is of a wanted row that names its value
 pub last_of_name : (relations : List Relation) (wanted : Wanted) (rel : RelId) (attr : AttrId) (row : RowId)
-    → Contains (statements_of (numbers_of relations wanted)) (says.Last rel attr row) → IsWantedName relations wanted rel.0 attr.0 row
+    → Contains (statements_of (numbers_of relations wanted)) (says.Last rel attr row) → IsWantedName relations wanted
+    rel.0 attr.0 row
 last_of_name relations wanted rel attr row at =
     let n = numbers_of relations wanted in
-    wanted_name relations wanted rel.0 attr.0 row (last_in n rel attr row (in_contained (statements_of n) (says.Last rel attr row) at))
+    wanted_name relations wanted rel.0 attr.0 row
+    (last_in n rel attr row (in_contained (statements_of n) (says.Last rel attr row) at))

@@ -37,13 +37,15 @@ truths_are_models by_instances answers s wanted facts c consistent truths truth 
       lit = by_one.lit;
       is_in = by_one.is_in;
       is_true =
-          said_true s wanted c answers truths by_one.lit one.said.statement one.said.negative (case_of s c facts consistent) truth by_one.says one.holds;
+          said_true s wanted c answers truths by_one.lit one.said.statement one.said.negative
+          (case_of s c facts consistent) truth by_one.says one.holds;
     }
 
 -- ---- the order that the truths say
 
 -- what stands before a row is put before it
-put_before : (s : Spec) (wanted : Wanted) (c : Rankings) (answers : ℕ → Type 0) (truths : List Bool) (rel : RelId) (attr : AttrId) (a b : RowId)
+put_before : (s : Spec) (wanted : Wanted) (c : Rankings) (answers : ℕ → Type 0) (truths : List Bool) (rel : RelId)
+    (attr : AttrId) (a b : RowId)
     → IsCase s.relations c → IsTruth s.relations c answers (variables s wanted) truths → Before (lists_of c rel.0 attr.0) a b
     → IsSaidTrue (variables s wanted) truths (before rel attr a b)
 put_before s wanted c answers truths rel attr a b is truth h =
@@ -85,33 +87,47 @@ models_are_one answers others s wanted facts truths c d consistent truth consist
 -- ---- there is a truth
 
 -- a truth of which the statement is as it says
-true_or_false : (relations : List Relation) (c : Rankings) (answers : ℕ → Type 0) (s : Statement) → Decided (IsTrue relations c answers s)
+true_or_false : (relations : List Relation) (c : Rankings) (answers : ℕ → Type 0) (s : Statement)
+    → Decided (IsTrue relations c answers s)
     → (truth : Bool) × Holds relations c answers (said s (not truth))
 true_or_false relations c answers s (inl holds) = (true, holds)
 true_or_false relations c answers s (inr never) = (false, never)
 
-true_or : (relations : List Relation) (c : Rankings) (answers : ℕ → Type 0) → ((tuple : ℕ) → Decided (answers tuple)) → (s : Statement)
+true_or : (relations : List Relation) (c : Rankings) (answers : ℕ → Type 0) → ((tuple : ℕ) → Decided (answers tuple))
+    → (s : Statement)
     → Decided (IsTrue relations c answers s)
 true_or relations c answers each (says.Before rel attr a b) = before_or (lists_of c rel.0 attr.0) a b
 true_or relations c answers each (says.Top rel attr row) = stands_or relations c rel.0 attr.0 row
 true_or relations c answers each (says.Last rel attr row) = current_or relations c rel.0 attr.0 row
 true_or relations c answers each (says.Answer tuple) = each tuple
 
-pub truth_there : (answers : ℕ → Type 0) → ((tuple : ℕ) → Decided (answers tuple)) → (relations : List Relation) (c : Rankings) (statements : List Statement)
+pub truth_there : (answers : ℕ → Type 0) → ((tuple : ℕ) → Decided (answers tuple)) → (relations : List Relation)
+    (c : Rankings) (statements : List Statement)
     → (truths : List Bool) × IsTruth relations c answers statements truths
-truth_there answers each relations c [] = ([], record { per_variable = refl; each = λ var s truth at is. absurd (none-some s at) })
+truth_there answers each relations c [] =
+    ([], record { per_variable = refl; each = λ var s truth at is. absurd (none-some s at) })
 truth_there answers each relations c (s ∷ statements) =
-    by (true_or_false relations c answers s (true_or relations c answers each s)) (truth_there answers each relations c statements)
+    by (true_or_false relations c answers s (true_or relations c answers each s))
+    (truth_there answers each relations c statements)
   where
-    places : (t : Bool) (truths : List Bool) → Holds relations c answers (said s (not t)) → IsTruth relations c answers statements truths
-        → (var : ℕ) (x : Statement) (truth : Bool) → slice_get (s ∷ statements) var ≡ Some x → slice_get (t ∷ truths) var ≡ Some truth
+    places : (t : Bool) (truths : List Bool) → Holds relations c answers (said s (not t)) → IsTruth relations c
+        answers statements truths
+        → (var : ℕ) (x : Statement) (truth : Bool) → slice_get (s ∷ statements) var ≡ Some x → slice_get (t ∷ truths)
+        var ≡ Some truth
         → Holds relations c answers (said x (not truth))
     places t truths holds rest zero x truth at is =
         subst (λ (b : Bool). Holds relations c answers (said x (not b))) (same_Some t truth is)
         (subst (λ (y : Statement). Holds relations c answers (said y (not t))) (same_Some s x at) holds)
     places t truths holds rest (suc var) x truth at is = rest.each var x truth at is
 
-    by : (t : Bool) × Holds relations c answers (said s (not t)) → (truths : List Bool) × IsTruth relations c answers statements truths
+    by : (t : Bool) × Holds relations c answers (said s (not t)) → (truths : List Bool) × IsTruth relations c answers
+        statements truths
         → (truths : List Bool) × IsTruth relations c answers (s ∷ statements) truths
-    by (t, holds) (truths, rest) =
-        (t ∷ truths, record { per_variable = one_more (length truths) (length statements) rest.per_variable; each = places t truths holds rest })
+    by (t, holds) (truths, rest) = (
+      t ∷ truths,
+      record {
+        per_variable = one_more (length truths) (length statements) rest.per_variable;
+        each =
+            places t truths holds rest;
+      },
+    )

@@ -78,7 +78,8 @@ ModelsAreOne = (answers others : ℕ → Bool) → ModelsAreOneOver (passing ans
 -- the truth of the statements in a completion puts the rows in its order
 abbrev pub TruthsRankOver : (ℕ → Type 0) → Type 0
 TruthsRankOver answers = (s : Spec) (wanted : Wanted) → IsSpecification s → (c : Rankings) → IsCompletion s.relations c
-    → (truths : List Bool) → IsTruth s.relations c answers (variables s wanted) truths → IsRankedBy s.relations (variables s wanted) truths c
+    → (truths : List Bool) → IsTruth s.relations c answers (variables s wanted) truths → IsRankedBy s.relations
+    (variables s wanted) truths c
 
 abbrev pub TruthsRank : Type 0
 TruthsRank = (answers : ℕ → Bool) → TruthsRankOver (passing answers)

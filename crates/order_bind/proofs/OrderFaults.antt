@@ -24,7 +24,8 @@ found_reads (Some k) code named next later h = later k h
 row_reads : (rows : List (List ℕ)) (named : Named) → IsReadFault (row_named rows named) → ⊥
 row_reads rows named h = found_reads {A = ℕ} (place_of rows named.name) UnknownRow named Ok (λ k f. f) h
 
-pub pair_reads : (attr : ℕ) (earlier later : Result ℕ BindFault) → (IsReadFault earlier → ⊥) → (IsReadFault later → ⊥) → IsReadFault (pair_of attr earlier later) → ⊥
+pub pair_reads : (attr : ℕ) (earlier later : Result ℕ BindFault) → (IsReadFault earlier → ⊥) →
+    (IsReadFault later → ⊥) → IsReadFault (pair_of attr earlier later) → ⊥
 pair_reads attr (Err fault) later a b h = a (same_read_fault Pair ℕ fault h)
 pair_reads attr (Ok earlier) (Err fault) a b h = b (same_read_fault Pair ℕ fault h)
 pair_reads attr (Ok earlier) (Ok later) a b h = h
@@ -35,11 +36,13 @@ all_reads (Err fault) rest a b h = a (same_read_fault (List Pair) Pair fault h)
 all_reads (Ok pair) (Ok pairs) a b h = h
 all_reads (Ok pair) (Err fault) a b h = b h
 
-pub pairs_reads : (rows : List (List ℕ)) (attr : ℕ) (pairs : List NamedPair) → IsReadFault (all_of (pair_named rows attr) pairs) → ⊥
+pub pairs_reads : (rows : List (List ℕ)) (attr : ℕ) (pairs : List NamedPair) → IsReadFault
+    (all_of (pair_named rows attr) pairs) → ⊥
 pairs_reads rows attr [] h = h
 pairs_reads rows attr (p ∷ pairs) h =
     all_reads (pair_named rows attr p) (all_of (pair_named rows attr) pairs)
-    (pair_reads attr (row_named rows p.first) (row_named rows p.second) (row_reads rows p.first) (row_reads rows p.second)) (pairs_reads rows attr pairs) h
+    (pair_reads attr (row_named rows p.first) (row_named rows p.second) (row_reads rows p.first)
+    (row_reads rows p.second)) (pairs_reads rows attr pairs) h
 
 one_entity_reads : (A : Type 0) (p : Option NamedPair) → IsReadFault {A = A} (Err (not_one_entity p)) → ⊥
 one_entity_reads A None h = h
@@ -49,7 +52,8 @@ wrong_reads : (named : List NamedPair) (pairs : List Pair) (wrong : Option ℕ) 
 wrong_reads named pairs None h = h
 wrong_reads named pairs (Some wrong) h = one_entity_reads (List Pair) (slice_get named wrong) h
 
-pub checked_reads : (rows : List Row) (named : List NamedPair) (pairs : Result (List Pair) BindFault) → (IsReadFault pairs → ⊥) → IsReadFault (checked_pairs rows named pairs) → ⊥
+pub checked_reads : (rows : List Row) (named : List NamedPair) (pairs : Result (List Pair) BindFault) →
+    (IsReadFault pairs → ⊥) → IsReadFault (checked_pairs rows named pairs) → ⊥
 checked_reads rows named (Err fault) a h = a h
 checked_reads rows named (Ok pairs) a h = wrong_reads named pairs (position (λ p. not (is_of_one_entity rows p)) pairs) h
 
@@ -58,7 +62,8 @@ unfolding ordered_pairs
 ordered_pairs_reads r o h =
     found_reads {A = List Pair} (place_of (map (λ a. a.name) r.attrs) o.attr.name) UnknownName o.attr
     (λ attr. checked_pairs r.rows o.pairs (all_of (pair_named (map (λ row. row.name) r.rows) attr) o.pairs))
-    (λ attr f. checked_reads r.rows o.pairs (all_of (pair_named (map (λ row. row.name) r.rows) attr) o.pairs) (pairs_reads (map (λ row. row.name) r.rows) attr o.pairs) f) h
+    (λ attr f. checked_reads r.rows o.pairs (all_of (pair_named (map (λ row. row.name) r.rows) attr) o.pairs)
+    (pairs_reads (map (λ row. row.name) r.rows) attr o.pairs) f) h
 
 -- pairs that are due are no read fault
 pub pairs_due_reads : (r : Relation) (o : OrderingTree) (fault : BindFault) → IsDue (ordered_pairs r o) (Err fault)

@@ -25,14 +25,17 @@ with_front xs r = and_then r (λ ys. Ok (xs ++ ys))
 abbrev pub with_one : {A : Type 0} → A → Result (List A) BindFault → Result (List A) BindFault
 with_one x r = and_then r (λ ys. Ok (x ∷ ys))
 
-with_front-one : {A : Type 0} (xs : List A) (x : A) (r : Result (List A) BindFault) → with_front xs (with_one x r) ≡ with_front (xs ++ x ∷ []) r
+with_front-one : {A : Type 0} (xs : List A) (x : A) (r : Result (List A) BindFault) → with_front xs (with_one x r) ≡
+    with_front (xs ++ x ∷ []) r
 with_front-one xs x (Ok ys) = ap Ok (sym (append_assoc xs (x ∷ []) ys))
 with_front-one xs x (Err e) = refl
 
-pub all_of-at_ok : {X A : Type 0} (f : X → Result A BindFault) (n : X) (x : A) (rest : List X) → f n ≡ Ok x → all_of f (n ∷ rest) ≡ with_one x (all_of f rest)
+pub all_of-at_ok : {X A : Type 0} (f : X → Result A BindFault) (n : X) (x : A) (rest : List X) → f n ≡ Ok x
+    → all_of f (n ∷ rest) ≡ with_one x (all_of f rest)
 all_of-at_ok f n x rest is = ap (λ s. and_then s (λ y. with_one y (all_of f rest))) is
 
-pub all_of-at_err : {X A : Type 0} (f : X → Result A BindFault) (n : X) (e : BindFault) (rest : List X) → f n ≡ Err e → all_of f (n ∷ rest) ≡ Err e
+pub all_of-at_err : {X A : Type 0} (f : X → Result A BindFault) (n : X) (e : BindFault) (rest : List X) → f n ≡ Err e
+    → all_of f (n ∷ rest) ≡ Err e
 all_of-at_err f n e rest is = ap (λ s. and_then s (λ y. with_one y (all_of f rest))) is
 
 -- what a loop that reads the answers of a list one after another keeps
@@ -78,7 +81,8 @@ added_there : (old new : List Relation) (rel : ℕ) (pairs : List Pair) (r : Rel
     → slice_get old rel ≡ Some r → slice_get new rel ≡ Some (with_all_given r pairs)
 added_there old new rel pairs r adds is =
     let lt : rel < length old = slice_get_within old rel r is in
-    let lt_set : rel < length (set old rel (with_all_given r pairs)) = omega (arith, length-set old rel (with_all_given r pairs)) in
+    let lt_set : rel < length (set old rel (with_all_given r pairs)) =
+    omega (arith, length-set old rel (with_all_given r pairs)) in
     ap (λ rs. slice_get rs rel) (adds r is)
     ∙ slice_get-get_or (set old rel (with_all_given r pairs)) rel r lt_set
     ∙ ap Some (get_or-set_same old rel (with_all_given r pairs) r lt)
@@ -114,7 +118,8 @@ adds_length old new rel pairs adds lt =
     ap length (adds at.0 at.1) ∙ length-set old rel (with_all_given at.0 pairs)
 
 -- the names stay
-pub adds_names : (old new : Spec) (rel : ℕ) (pairs : List Pair) → AddsAllGiven old.relations new.relations rel pairs → new.rules ≡ old.rules
+pub adds_names : (old new : Spec) (rel : ℕ) (pairs : List Pair) → AddsAllGiven old.relations new.relations rel pairs
+    → new.rules ≡ old.rules
     → new.copies ≡ old.copies → rel < length old.relations → all_names_of new ≡ all_names_of old
 adds_names old new rel pairs adds rules copies lt =
     let at = item_at old.relations rel lt in
@@ -122,10 +127,13 @@ adds_names old new rel pairs adds rules copies lt =
     let here : get_or old.relations rel r ≡ r = get_or_from_slice_get old.relations rel r r at.1 in
     let of_relations : map (λ (s : Relation). s.name) new.relations ≡ map (λ (s : Relation). s.name) old.relations =
     ap (map (λ (s : Relation). s.name)) (adds r at.1)
-    ∙ map-set_same (λ (s : Relation). s.name) old.relations rel (with_all_given r pairs) r (ap (λ (s : Relation). s.name) (sym here)) in
+    ∙ map-set_same (λ (s : Relation). s.name) old.relations rel (with_all_given r pairs) r
+    (ap (λ (s : Relation). s.name) (sym here)) in
     let of_parts : map names_of new.relations ≡ map names_of old.relations =
-    ap (map names_of) (adds r at.1) ∙ map-set_same names_of old.relations rel (with_all_given r pairs) r (ap names_of (sym here)) in
-    let of_rules : map (λ (rule : Rule). rule.name) new.rules ≡ map (λ (rule : Rule). rule.name) old.rules = ap (map (λ (rule : Rule). rule.name)) rules in
+    ap (map names_of) (adds r at.1) ∙ map-set_same names_of old.relations rel (with_all_given r pairs) r
+    (ap names_of (sym here)) in
+    let of_rules : map (λ (rule : Rule). rule.name) new.rules ≡ map (λ (rule : Rule). rule.name) old.rules =
+    ap (map (λ (rule : Rule). rule.name)) rules in
     let of_copies : map (λ copy. copy.name) new.copies ≡ map (λ copy. copy.name) old.copies = rw copies refl in
     cc (of_relations, of_parts, of_rules, of_copies)
 

@@ -33,7 +33,8 @@ found_place None fault place is = cc
 found_place (Some q) fault place is = cc
 
 -- the refusal of a name that is not found, whatever comes next
-pub found_fault : {A : Type 0} (p : Option ℕ) (fault e : BindFault) (next : ℕ → Result A BindFault) → ◌≡◌ {A = Result ℕ BindFault} (found_or p fault Ok) (Err e)
+pub found_fault : {A : Type 0} (p : Option ℕ) (fault e : BindFault) (next : ℕ → Result A BindFault)
+    → ◌≡◌ {A = Result ℕ BindFault} (found_or p fault Ok) (Err e)
     → found_or p fault next ≡ Err e
 found_fault None fault e next is = cc
 found_fault (Some q) fault e next is = cc
@@ -65,7 +66,8 @@ each_ok P f each [] xs is k d lt = let same : [] ≡ xs = cc in absurd (omega (a
 each_ok {X} {A} P f each (n ∷ ns) xs is k d lt =
     let parts = first_ok f n ns xs is in
     let there : k < length (parts.0 ∷ parts.1) = omega (arith, lt, ap length parts.4) in
-    rw parts.4 (here (λ ys rest j lt'. each_ok P f each ns ys rest j d lt') parts.0 parts.1 (each n parts.0 parts.2) parts.3 k there)
+    rw parts.4 (here (λ ys rest j lt'. each_ok P f each ns ys rest j d lt') parts.0 parts.1 (each n parts.0 parts.2)
+    parts.3 k there)
   where
     here : ((ys : List A) → all_of f ns ≡ Ok ys → (j : ℕ) → j < length ys → P (get_or ys j d))
         → (x : A) (ys : List A) → P x → all_of f ns ≡ Ok ys → (j : ℕ) → j < length (x ∷ ys) → P (get_or (x ∷ ys) j d)
@@ -73,7 +75,8 @@ each_ok {X} {A} P f each (n ∷ ns) xs is k d lt =
     here more x ys px rest (suc j) lt' = more ys rest j (omega arith)
 
 -- there are as many answers
-pub all_of-length : {X A : Type 0} (f : X → Result A BindFault) (ns : List X) (xs : List A) → all_of f ns ≡ Ok xs → length xs ≡ length ns
+pub all_of-length : {X A : Type 0} (f : X → Result A BindFault) (ns : List X) (xs : List A) → all_of f ns ≡ Ok xs
+    → length xs ≡ length ns
 all_of-length f [] xs is = ap length (let same : xs ≡ [] = cc in same)
 all_of-length f (n ∷ ns) xs is =
     let parts = first_ok f n ns xs is in
@@ -133,10 +136,16 @@ all_given r named attr pairs lt is none k d within =
     each_ok (IsWithin attr (length rows)) (pair_named rows attr) (pair_named-within rows attr) named pairs is k d within in
     let count : length rows ≡ length r.rows = length-map r.rows (λ (row : Row). row.name) in
     let right = one_entity r.rows (get_or pairs k d) (not-false _ (position_none _ pairs none k d within)) in
-    record { attr = omega (arith, it.attr_is); earlier = omega (arith, it.earlier); later = omega (arith, it.later); one_entity = right }
+    record {
+      attr = omega (arith, it.attr_is);
+      earlier = omega (arith, it.earlier);
+      later = omega (arith, it.later);
+      one_entity = right;
+    }
 
 -- what is left of a step whose fault is handed on
-pub steps_through : {A : Type 0} (new : List Relation) (first : Result A BindFault) (due : Result (List Relation) BindFault) (e : BindFault)
+pub steps_through : {A : Type 0} (new : List Relation) (first : Result A BindFault)
+    (due : Result (List Relation) BindFault) (e : BindFault)
     → IsDue first (Err e) → (first ≡ Err e → due ≡ Err e) → Steps new due (Err e)
 steps_through new first due (Refused refusal) is on = on is
 steps_through new first due (CopyDiffers document line target source) is on = on is
@@ -150,7 +159,8 @@ pub attr_fault : (names : RelationNames) (r : Relation) (o : OrderingTree) (e : 
     → ordered_pairs r o ≡ Err e
 unfolding ordered_pairs
 attr_fault names r o e same is =
-    found_fault (place_of (map (λ (a : Attr). a.name) r.attrs) o.attr.name) (refused_at UnknownName o.attr) e _ (sym (rw same at is))
+    found_fault (place_of (map (λ (a : Attr). a.name) r.attrs) o.attr.name) (refused_at UnknownName o.attr) e _
+    (sym (rw same at is))
 
 -- what is due once the attribute is found
 pub attr_found : (names : RelationNames) (r : Relation) (o : OrderingTree) (attr : ℕ) → names ≡ names_of r
@@ -193,12 +203,19 @@ pub pairs_read : (names : RelationNames) (r : Relation) (o : OrderingTree) (attr
     → result ≡ checked_pairs rows named (Ok pairs) → IsRead r o result
 pairs_read names r o attr named rows pairs result same is_named is_rows at lt is res =
     let is' : all_of (pair_named names.rows attr) o.pairs ≡ Ok pairs = rw (sym is_named) is in
-    let res' : result ≡ checked_pairs r.rows o.pairs (Ok pairs) = res ∙ ap (λ n. checked_pairs rows n (Ok pairs)) is_named ∙ ap (λ w. checked_pairs w o.pairs (Ok pairs)) is_rows in
-    let few : attr < length r.attrs = omega (arith, lt, ap (λ (n : RelationNames). length n.attrs) same, length-map r.attrs (λ (a : Attr). a.name)) in
+    let res' : result ≡ checked_pairs r.rows o.pairs (Ok pairs) = res ∙ ap (λ n. checked_pairs rows n (Ok pairs))
+    is_named ∙ ap (λ w. checked_pairs w o.pairs (Ok pairs)) is_rows in
+    let few : attr < length r.attrs = omega (
+      arith,
+      lt,
+      ap (λ (n : RelationNames). length n.attrs) same,
+      length-map r.attrs (λ (a : Attr). a.name),
+    ) in
     let here : all_of (pair_named (map (λ (row : Row). row.name) r.rows) attr) o.pairs ≡ Ok pairs =
     ap (λ (n : RelationNames). all_of (pair_named n.rows attr) o.pairs) (sym same) ∙ is' in
     record {
-      due = due_same (ordered_pairs r o) result (attr_found names r o attr same at ∙ ap (checked_pairs r.rows o.pairs) is' ∙ sym res');
+      due = due_same (ordered_pairs r o) result (attr_found names r o attr same at
+          ∙ ap (checked_pairs r.rows o.pairs) is' ∙ sym res');
       given = rw res' (given_unless r o.pairs attr pairs _ few here refl);
     }
 
@@ -210,7 +227,8 @@ pub relation_fault : (names : NameLists) (list : List (List ℕ)) (done : Spec) 
 unfolding ordered
 relation_fault names list done o e same listed is =
     let known : list ≡ map (λ (r : Relation). r.name) done.relations = listed ∙ ap (λ (n : NameLists). n.relations) same in
-    found_fault (place_of (map (λ (r : Relation). r.name) done.relations) o.relation.name) (refused_at UnknownName o.relation) e _ (sym (rw known at is))
+    found_fault (place_of (map (λ (r : Relation). r.name) done.relations) o.relation.name)
+    (refused_at UnknownName o.relation) e _ (sym (rw known at is))
 
 -- what is due once the relation is found
 pub relation_found : (names : NameLists) (list : List (List ℕ)) (done : Spec) (o : OrderingTree) (rel : ℕ) (r : Relation)
@@ -229,24 +247,34 @@ relation_found names list done o rel r same listed is here =
 pub parts_of : (names : NameLists) (done : Spec) (rel : ℕ) (r : Relation) (parts : RelationNames) → names ≡ all_names_of done
     → slice_get names.each rel ≡ Some parts → slice_get done.relations rel ≡ Some r → parts ≡ names_of r
 parts_of names done rel r parts same is here =
-    same_Some _ _ (sym is ∙ ap (λ (n : NameLists). slice_get n.each rel) same ∙ slice_get-map names_of done.relations rel ∙ ap (option_map names_of) here)
+    same_Some _ _ (sym is ∙ ap (λ (n : NameLists). slice_get n.each rel) same ∙ slice_get-map names_of done.relations
+    rel ∙ ap (option_map names_of) here)
 
 -- what an ordering leaves where it is refused
-pub steps_same : (new : List Relation) (due : Result (List Relation) BindFault) (e : BindFault) → due ≡ Err e → Steps new due (Err e)
+pub steps_same : (new : List Relation) (due : Result (List Relation) BindFault) (e : BindFault) → due ≡ Err e
+    → Steps new due (Err e)
 steps_same new due e is = steps_through new due due e (due_same due (Err e) is) (λ same. same)
 
 -- pairs that may be given to a relation, at its place
-pub fits_there : (done : List Relation) (rel : ℕ) (r : Relation) (given pairs : List Pair) → slice_get done rel ≡ Some r → given ≡ pairs
+pub fits_there : (done : List Relation) (rel : ℕ) (r : Relation) (given pairs : List Pair) → slice_get done rel ≡
+    Some r → given ≡ pairs
     → All (IsGivenPair r) pairs → IfSome (slice_get done rel) (λ s. All (IsGivenPair s) given)
 fits_there done rel r given pairs here same all = rw (here, same) all
 
 -- the relation that stands at the place of a name
 pub relation_there : (names : NameLists) (list : List (List ℕ)) (done : Spec) (rel : ℕ) (relations : List Relation) (r : Relation)
-    → names ≡ all_names_of done → list ≡ names.relations → rel < length list → relations ≡ done.relations → r ≡ get_or relations rel r
+    → names ≡ all_names_of done → list ≡ names.relations → rel < length list → relations ≡ done.relations
+    → r ≡ get_or relations rel r
     → slice_get done.relations rel ≡ Some r
 relation_there names list done rel relations r same listed within are is =
     let known : list ≡ map (λ (s : Relation). s.name) done.relations = listed ∙ ap (λ (n : NameLists). n.relations) same in
-    let lt : rel < length done.relations = omega (arith, ap length known, length-map done.relations (λ (s : Relation). s.name), within) in
+    let lt : rel < length done.relations = omega (
+      arith,
+      ap length known,
+      length-map done.relations
+          (λ (s : Relation). s.name),
+      within,
+    ) in
     slice_get_read done.relations (length done.relations) rel r refl lt (is ∙ ap (λ s. get_or s rel r) are)
 
 -- what is due where all pairs are added

@@ -11,10 +11,12 @@ use Rattle.order_clauses.specs.Subject.{Subject}
 pub adds_none : (s : Subject) (steps : List Step) → Adds s [] steps steps
 adds_none s steps = record { added = []; is_added = sym (append-nil steps); are_steps = tt }
 
-pub adds_one : (s : Subject) (l : Label) (taken : Step) (old new : List Step) → IsStepOf s l taken → new ≡ old ++ taken ∷ [] → Adds s (l ∷ []) old new
+pub adds_one : (s : Subject) (l : Label) (taken : Step) (old new : List Step) → IsStepOf s l taken → new ≡ old
+    ++ taken ∷ [] → Adds s (l ∷ []) old new
 adds_one s l taken old new is e = record { added = taken ∷ []; is_added = e; are_steps = (is, tt) }
 
-steps_append : (s : Subject) (ls ms : List Label) (ts us : List Step) → AreStepsOf s ls ts → AreStepsOf s ms us → AreStepsOf s (ls ++ ms) (ts ++ us)
+steps_append : (s : Subject) (ls ms : List Label) (ts us : List Step) → AreStepsOf s ls ts → AreStepsOf s ms us
+    → AreStepsOf s (ls ++ ms) (ts ++ us)
 steps_append s [] ms [] us a b = b
 steps_append s [] ms (x ∷ ts) us a b = absurd a
 steps_append s (l ∷ ls) ms [] us a b = absurd a
@@ -31,24 +33,28 @@ pub below_none : (s : Subject) (f : ℕ → List Label) (a : List Step) → Adds
 unfolding below
 below_none s f a = adds_none s a
 
-pub below_more : (s : Subject) (f : ℕ → List Label) (n : ℕ) (a b c : List Step) → Adds s (below f n) a b → Adds s (f n) b c → Adds s (below f (n + 1)) a c
+pub below_more : (s : Subject) (f : ℕ → List Label) (n : ℕ) (a b c : List Step) → Adds s (below f n) a b
+    → Adds s (f n) b c → Adds s (below f (n + 1)) a c
 unfolding below
 below_more s f n a b c x y = rw add-one (adds_both s (below f n) (f n) a b c x y)
 
 pub flat_map_push : {A B : Type 0} (f : A → List B) (xs : List A) (x : A) → flat_map f (xs ++ x ∷ []) ≡ flat_map f xs ++ f x
 flat_map_push f [] x = append-nil (f x)
-flat_map_push {A} {B} f (y ∷ xs) x = ap (λ (l : List B). f y ++ l) (flat_map_push f xs x) ∙ sym (append_assoc (f y) (flat_map f xs) (f x))
+flat_map_push {A} {B} f (y ∷ xs) x = ap (λ (l : List B). f y ++ l) (flat_map_push f xs x)
+    ∙ sym (append_assoc (f y) (flat_map f xs) (f x))
 
 pub flat_push : {A : Type 0} (s : Subject) (f : A → List Label) (xs : List A) (x : A) (a b c : List Step)
     → Adds s (flat_map f xs) a b → Adds s (f x) b c → Adds s (flat_map f (xs ++ x ∷ [])) a c
 flat_push s f xs x a b c p q = rw (flat_map_push f xs x) (adds_both s (flat_map f xs) (f x) a b c p q)
 
-pub flat_more : {A : Type 0} (s : Subject) (f : A → List Label) (xs : List A) (i : ℕ) (x : A) (a b c : List Step) → slice_get xs i ≡ Some x
+pub flat_more : {A : Type 0} (s : Subject) (f : A → List Label) (xs : List A) (i : ℕ) (x : A) (a b c : List Step)
+    → slice_get xs i ≡ Some x
     → Adds s (flat_map f (take i xs)) a b → Adds s (f x) b c → Adds s (flat_map f (take (i + 1) xs)) a c
 flat_more s f xs i x a b c at p q =
     rw (take_more xs i x (slice_get_within xs i x at), get_or_from_slice_get xs i x x at) (flat_push s f (take i xs) x a b c p q)
 
-pub below_all : (s : Subject) (f : ℕ → List Label) (n m : ℕ) (a b : List Step) → n ≡ m → Adds s (below f n) a b → Adds s (below f m) a b
+pub below_all : (s : Subject) (f : ℕ → List Label) (n m : ℕ) (a b : List Step) → n ≡ m → Adds s (below f n) a b
+    → Adds s (below f m) a b
 below_all s f n m a b e adds = subst (λ (k : ℕ). Adds s (below f k) a b) e adds
 
 pub flat_all : {A : Type 0} (s : Subject) (f : A → List Label) (xs : List A) (n : ℕ) (a b : List Step) → length xs ≤ n

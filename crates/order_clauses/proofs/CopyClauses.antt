@@ -94,15 +94,19 @@ sources_in s copy p place at f g of is_place from_f from_g =
     subst (λ (x : RowId). IsPairIn s copy.source at.source x g) first
     (subst (λ (y : RowId). IsPairIn s copy.source at.source t.first_source y) second (sources_are s copy p place at of is_place))
 
-pub copy_clause : (s : Subject) (k : CopyId) (place : ℕ) (p : CopiedPair) (copy : CopyFunction) (at : Place) (f g : RowId) (a b : Lit) → IsCopiedBy s.spec k.0 p
-    → slice_get s.spec.copies k.0 ≡ Some copy → slice_get copy.places place ≡ Some at → source_at copy p.first ≡ Some f → source_at copy p.second ≡ Some g
+pub copy_clause : (s : Subject) (k : CopyId) (place : ℕ) (p : CopiedPair) (copy : CopyFunction) (at : Place)
+    (f g : RowId) (a b : Lit) → IsCopiedBy s.spec k.0 p
+    → slice_get s.spec.copies k.0 ≡ Some copy → slice_get copy.places place ≡ Some at → source_at copy p.first ≡ Some
+    f → source_at copy p.second ≡ Some g
     → Says (told s) a (not_before copy.source at.source f g) → Says (told s) b (before copy.target at.target p.first p.second)
     → IsClauseOf s (label.Copy k place p.first p.second) (a ∷ b ∷ [])
 copy_clause s k place p copy at f g a b by is_copy is_place from_f from_g says_a says_b =
     let same : copy ≡ by.copy = same_Some copy by.copy (sym is_copy ∙ by.is_copy) in
     let together = by.pair.together in
-    let first : f ≡ together.first_source = same_Some f together.first_source (sym from_f ∙ (ap (λ (c : CopyFunction). source_at c p.first) same ∙ together.first_is)) in
-    let second : g ≡ together.second_source = same_Some g together.second_source (sym from_g ∙ (ap (λ (c : CopyFunction). source_at c p.second) same ∙ together.second_is)) in
+    let first : f ≡ together.first_source = same_Some f together.first_source
+    (sym from_f ∙ (ap (λ (c : CopyFunction). source_at c p.first) same ∙ together.first_is)) in
+    let second : g ≡ together.second_source = same_Some g together.second_source
+    (sym from_g ∙ (ap (λ (c : CopyFunction). source_at c p.second) same ∙ together.second_is)) in
     let sources : AreTwo by.source.rows f g = subst (λ (x : RowId). AreTwo by.source.rows x g) (sym first)
     (subst (λ (y : RowId). AreTwo by.source.rows together.first_source y) (sym second)
     (let r : AreTwo by.source.rows together.first_source together.second_source = record {
@@ -136,12 +140,14 @@ copy_clause s k place p copy at f g a b by is_copy is_place from_f from_g says_a
       say = (says_a, (says_b, tt));
     }
 
-pub copy_at_is : (s : Subject) (grounds : List (List CopiedPair)) (k : CopyId) (pairs : List CopiedPair) (a b : List Step) → slice_get grounds k.0 ≡ Some pairs
+pub copy_at_is : (s : Subject) (grounds : List (List CopiedPair)) (k : CopyId) (pairs : List CopiedPair)
+    (a b : List Step) → slice_get grounds k.0 ≡ Some pairs
     → Adds s (copy_in k pairs (slice_get s.spec.copies k.0)) a b → Adds s (copy_at s.spec grounds k.0) a b
 unfolding copy_at
 copy_at_is s grounds k pairs a b at adds = rw (get_or_from_slice_get grounds k.0 pairs [] at) adds
 
-pub all_copied : (s : Spec) (grounds : List (List CopiedPair)) (k : ℕ) (copy : CopyFunction) (pairs : List CopiedPair) → AreCopies s.relations s.copies → AreCopyGrounds s grounds
+pub all_copied : (s : Spec) (grounds : List (List CopiedPair)) (k : ℕ) (copy : CopyFunction)
+    (pairs : List CopiedPair) → AreCopies s.relations s.copies → AreCopyGrounds s grounds
     → slice_get s.copies k ≡ Some copy → slice_get grounds k ≡ Some pairs → All (IsCopiedBy s k) pairs
 all_copied s grounds k copy pairs are of at at_pairs =
     let is = all_at (IsCopyAmong s.relations) s.copies k copy are.each at in

@@ -23,7 +23,8 @@ entity_there [] row within = absurd (omega arith)
 entity_there (r ∷ rows) zero within = (r.entity.0, refl)
 entity_there (r ∷ rows) (suc row) within = entity_there rows row (omega arith)
 
-pub given_pair : (s : Spec) (rel : RelId) (r : Relation) (p : Pair) → slice_get s.relations rel.0 ≡ Some r → IsRelation r → Contains r.given p → IsPairIn s rel p.attr p.earlier p.later
+pub given_pair : (s : Spec) (rel : RelId) (r : Relation) (p : Pair) → slice_get s.relations rel.0 ≡ Some r
+    → IsRelation r → Contains r.given p → IsPairIn s rel p.attr p.earlier p.later
 given_pair s rel r p at is h =
     let of : IsGivenPair r p = All-contains (IsGivenPair r) r.given p is.given h in
     let ent = entity_there r.rows p.earlier.0 of.earlier in
@@ -34,11 +35,18 @@ given_pair s rel r p at is h =
       two = record { ent = ent.0; a_of = ent.1; b_of = sym of.one_entity.1 ∙ ent.1; differ = of.one_entity.0 };
     }
 
-pub given_clause : (s : Subject) (rel : RelId) (r : Relation) (p : Pair) (lit : Lit) → slice_get s.spec.relations rel.0 ≡ Some r → Contains r.given p
+pub given_clause : (s : Subject) (rel : RelId) (r : Relation) (p : Pair) (lit : Lit) → slice_get s.spec.relations
+    rel.0 ≡ Some r → Contains r.given p
     → Says (told s) lit (before rel p.attr p.earlier p.later) → IsClauseOf s (label.Given rel p.attr p.earlier p.later) (lit ∷ [])
-given_clause s rel r p lit at h says = record { clause = before rel p.attr p.earlier p.later ∷ []; is_axiom = (r, at, (h, refl)); say = (says, tt) }
+given_clause s rel r p lit at h says = record {
+  clause = before rel p.attr p.earlier p.later ∷ [];
+  is_axiom =
+      (r, at, (h, refl));
+  say = (says, tt);
+}
 
-pub given_all : (s : Subject) (rel : RelId) (r : Relation) (pairs : List Pair) (a b : List Step) → slice_get s.spec.relations rel.0 ≡ Some r → pairs ≡ r.given
+pub given_all : (s : Subject) (rel : RelId) (r : Relation) (pairs : List Pair) (a b : List Step)
+    → slice_get s.spec.relations rel.0 ≡ Some r → pairs ≡ r.given
     → Adds s (flat_map (given_label rel) pairs) a b → Adds s (given_at s.spec rel.0) a b
 unfolding given_at
 given_all s rel r pairs a b at e adds = rw (at, ← e) adds

@@ -24,11 +24,13 @@ get_both (z ∷ xs) ys (suc i) x at = ⊎_elim
     (λ (h : (j : ℕ) × (i ≡ length xs + j) × (slice_get ys j ≡ Some x)). inr (h.0, omega (arith, h.1), h.2))
     (get_both xs ys i x at)
 
-pub once_both : {A : Type 0} (xs ys : List A) → OnlyOnce xs → OnlyOnce ys → ((x : A) → Contains xs x → Contains ys x → ⊥) → OnlyOnce (xs ++ ys)
+pub once_both : {A : Type 0} (xs ys : List A) → OnlyOnce xs → OnlyOnce ys →
+    ((x : A) → Contains xs x → Contains ys x → ⊥) → OnlyOnce (xs ++ ys)
 once_both {A} xs ys once_xs once_ys apart i j x at_i at_j = ⊎_elim
     (λ (p : slice_get xs i ≡ Some x). ⊎_elim
     (λ (q : slice_get xs j ≡ Some x). once_xs i j x p q)
-    (λ (q : (k : ℕ) × (j ≡ length xs + k) × (slice_get ys k ≡ Some x)). absurd (apart x (contains_at xs i x p) (contains_at ys q.0 x q.2)))
+    (λ (q : (k : ℕ) × (j ≡ length xs + k) × (slice_get ys k ≡ Some x)). absurd
+    (apart x (contains_at xs i x p) (contains_at ys q.0 x q.2)))
     (get_both xs ys j x at_j))
     (λ (p : (k : ℕ) × (i ≡ length xs + k) × (slice_get ys k ≡ Some x)). ⊎_elim
     (λ (q : slice_get xs j ≡ Some x). absurd (apart x (contains_at xs j x q) (contains_at ys p.0 x p.2)))
@@ -77,24 +79,28 @@ once_below f zero each apart = once_none
 once_below f (suc n) each apart = once_both (below f n) (f n)
     (once_below f n (λ i within. each i (omega arith)) (λ i j l at_i at_j p q. apart i j l (omega arith) (omega arith) p q))
     (each n (omega arith))
-    (λ l p q. let m = in_below f n l p in let same = apart m.0 n l (omega (arith, m.1)) (omega arith) m.2 q in absurd (omega (arith, m.1, same)))
+    (λ l p q. let m = in_below f n l p in let same = apart m.0 n l (omega (arith, m.1)) (omega arith) m.2 q in absurd
+    (omega (arith, m.1, same)))
 
 -- ---- a list for each item
 
-pub in_flat : {A : Type 0} (f : A → List Label) (xs : List A) (l : Label) → Contains (flat_map f xs) l → (i : ℕ) × (x : A) × (slice_get xs i ≡ Some x) × Contains (f x) l
+pub in_flat : {A : Type 0} (f : A → List Label) (xs : List A) (l : Label) → Contains (flat_map f xs) l →
+    (i : ℕ) × (x : A) × (slice_get xs i ≡ Some x) × Contains (f x) l
 in_flat f [] l h = absurd (in_none l h)
 in_flat {A} f (x ∷ xs) l h = ⊎_elim
     (λ (p : Contains (f x) l). (0, x, refl, p))
     (λ (p : Contains (flat_map f xs) l). let m = in_flat f xs l p in (suc m.0, m.1, m.2, m.3))
     (Contains-append_cases (f x) (flat_map f xs) l h)
 
-pub flat_in : {A : Type 0} (f : A → List Label) (xs : List A) (i : ℕ) (x : A) (l : Label) → slice_get xs i ≡ Some x → Contains (f x) l → Contains (flat_map f xs) l
+pub flat_in : {A : Type 0} (f : A → List Label) (xs : List A) (i : ℕ) (x : A) (l : Label) → slice_get xs i ≡ Some x
+    → Contains (f x) l → Contains (flat_map f xs) l
 flat_in f [] i x l at h = absurd (none-some x at)
 flat_in f (y ∷ xs) zero x l at h =
     let same = same_Some y x at in Contains-append_left (f y) (flat_map f xs) l (subst (λ z. Contains (f z) l) (sym same) h)
 flat_in f (y ∷ xs) (suc i) x l at h = Contains-append_right (f y) (flat_map f xs) l (flat_in f xs i x l at h)
 
-pub once_flat : {A : Type 0} (f : A → List Label) (xs : List A) → OnlyOnce xs → ((i : ℕ) (x : A) → slice_get xs i ≡ Some x → OnlyOnce (f x))
+pub once_flat : {A : Type 0} (f : A → List Label) (xs : List A) → OnlyOnce xs →
+    ((i : ℕ) (x : A) → slice_get xs i ≡ Some x → OnlyOnce (f x))
     → ((x y : A) (l : Label) → Contains (f x) l → Contains (f y) l → x ≡ y) → OnlyOnce (flat_map f xs)
 once_flat f [] once each apart = once_none
 once_flat f (x ∷ xs) once each apart = once_both (f x) (flat_map f xs) (each 0 x refl)

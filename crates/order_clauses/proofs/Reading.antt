@@ -17,19 +17,24 @@ use Rattle.order_clauses.specs.Subject.{Subject, told, IsPairIn}
 abbrev pub AreNumbersOf : Subject → Numbers → Type 0
 AreNumbersOf s n = n ≡ numbers_of s.spec.relations s.wanted
 
-pub pair_in : (s : Subject) (n : Numbers) (rel : RelId) (attr : AttrId) (a b : RowId) → AreNumbersOf s n → IsPairIn s.spec rel attr a b → IsPairOf n rel.0 attr.0 a b
+pub pair_in : (s : Subject) (n : Numbers) (rel : RelId) (attr : AttrId) (a b : RowId) → AreNumbersOf s n
+    → IsPairIn s.spec rel attr a b → IsPairOf n rel.0 attr.0 a b
 pair_in s n rel attr a b are p =
-    subst (λ (m : Numbers). IsPairOf m rel.0 attr.0 a b) (sym are) (pair_of s.spec.relations s.wanted rel.0 attr.0 a b p.relation p.is_relation p.attr_within p.two)
+    subst (λ (m : Numbers). IsPairOf m rel.0 attr.0 a b) (sym are) (pair_of s.spec.relations s.wanted rel.0 attr.0 a
+    b p.relation p.is_relation p.attr_within p.two)
 
-pub says_of : (s : Subject) (n : Numbers) (lit : Lit) (said : Said) → AreNumbersOf s n → Says (statements_of n) lit said → Says (told s) lit said
+pub says_of : (s : Subject) (n : Numbers) (lit : Lit) (said : Said) → AreNumbersOf s n → Says (statements_of n) lit
+    said → Says (told s) lit said
 unfolding told
 says_of s n lit said are says = subst (λ (m : Numbers). Says (statements_of m) lit said) are says
 
-length_tables : (currents : List RelId) (first : ℕ) (relations : List Relation) → length (tables_from currents first relations) ≡ length relations
+length_tables : (currents : List RelId) (first : ℕ) (relations : List Relation)
+    → length (tables_from currents first relations) ≡ length relations
 length_tables currents first [] = refl
 length_tables currents first (r ∷ relations) = ap suc (length_tables currents (first + 1) relations)
 
-pub table_within : (s : Subject) (n : Numbers) (rel : ℕ) → AreNumbersOf s n → rel < length s.spec.relations → rel < length n.tables
+pub table_within : (s : Subject) (n : Numbers) (rel : ℕ) → AreNumbersOf s n → rel < length s.spec.relations
+    → rel < length n.tables
 table_within s n rel are within =
     let e = length_tables s.wanted.currents 0 s.spec.relations in
     let same : n.tables ≡ tables_from s.wanted.currents 0 s.spec.relations = ap (λ (m : Numbers). m.tables) are in

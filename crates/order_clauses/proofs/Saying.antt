@@ -44,7 +44,12 @@ each_said statements (x ∷ lits) (said ∷ clause) say lit h = ⊎_elim
     (λ (is : x ≡ lit). let r : SaysOneOf statements (said ∷ clause) lit =
     record { said = said; is_in = first_of said clause; says = subst (λ (l : Lit). Says statements l said) is say.0 } in r)
     (λ (more : Contains lits lit). let rest = each_said statements lits clause say.1 lit more in
-    let r : SaysOneOf statements (said ∷ clause) lit = record { said = rest.said; is_in = later_in said clause rest.said rest.is_in; says = rest.says } in r)
+    let r : SaysOneOf statements (said ∷ clause) lit = record {
+      said = rest.said;
+      is_in = later_in said clause
+          rest.said rest.is_in;
+      says = rest.says;
+    } in r)
     (in_cons x lits lit h)
 
 all_said : (statements : List Statement) (lits : List Lit) (clause : List Said) → Say statements lits clause
@@ -56,19 +61,30 @@ all_said statements (lit ∷ lits) (x ∷ clause) say said h = ⊎_elim
     (λ (is : x ≡ said). let r : IsSaidByOne statements (lit ∷ lits) said =
     record { lit = lit; is_in = first_of lit lits; says = subst (λ (s : Said). Says statements lit s) is say.0 } in r)
     (λ (more : Contains clause said). let rest = all_said statements lits clause say.1 said more in
-    let r : IsSaidByOne statements (lit ∷ lits) said = record { lit = rest.lit; is_in = later_in lit lits rest.lit rest.is_in; says = rest.says } in r)
+    let r : IsSaidByOne statements (lit ∷ lits) said = record {
+      lit = rest.lit;
+      is_in = later_in lit lits rest.lit
+          rest.is_in;
+      says = rest.says;
+    } in r)
     (in_cons x clause said h)
 
 pub all_of : {A : Type 0} (P : A → Type 0) (xs : List A) → ((x : A) → Contains xs x → P x) → All P xs
 all_of P xs h k d within = h (get_or xs k d) (Contains-get_or xs k d within)
 
 -- literals that are those that say a clause, each once
-pub are_lits : (statements : List Statement) (lits distinct : List Lit) (clause : List Said) → Say statements lits clause → AreDistinctOf lits distinct → AreLits statements clause distinct
+pub are_lits : (statements : List Statement) (lits distinct : List Lit) (clause : List Said) → Say statements lits
+    clause → AreDistinctOf lits distinct → AreLits statements clause distinct
 are_lits statements lits distinct clause say of = record {
   each = all_of (SaysOneOf statements clause) distinct (λ lit h. each_said statements lits clause say lit (of.each lit h));
   all = all_of (IsSaidByOne statements distinct) clause (λ said h.
       let by = all_said statements lits clause say said h in
-      let r : IsSaidByOne statements distinct said = record { lit = by.lit; is_in = of.all by.lit by.is_in; says = by.says } in r);
+      let r : IsSaidByOne statements distinct said = record {
+        lit = by.lit;
+        is_in = of.all by.lit by.is_in;
+        says =
+            by.says;
+      } in r);
   once = of.once;
 }
 
@@ -76,18 +92,26 @@ are_lits statements lits distinct clause say of = record {
 pub distinct_of_once : (lits : List Lit) → OnlyOnce lits → AreDistinctOf lits lits
 distinct_of_once lits once = record { each = λ lit h. h; all = λ lit h. h; once = once }
 
-pub adds_clause : (s : Subject) (l : Label) (lits distinct : List Lit) (old new : List Step) → IsClauseOf s l lits → AreDistinctOf lits distinct
+pub adds_clause : (s : Subject) (l : Label) (lits distinct : List Lit) (old new : List Step) → IsClauseOf s l lits
+    → AreDistinctOf lits distinct
     → new ≡ old ++ step.Axiom l distinct ∷ [] → Adds s (l ∷ []) old new
 adds_clause s l lits distinct old new is of e =
     let one : IsStepOf s l (step.Axiom l distinct) = record {
       lits = distinct;
-      step = record { is_step = refl; clause = is.clause; is_axiom = is.is_axiom; are_lits = are_lits (told s) lits distinct is.clause is.say of };
+      step = record {
+        is_step = refl;
+        clause = is.clause;
+        is_axiom = is.is_axiom;
+        are_lits = are_lits (told s) lits
+            distinct is.clause is.say of;
+      };
     } in
     adds_one s l (step.Axiom l distinct) old new one e
 
 -- ---- one more literal, unless it is there
 
-get_before : (xs : List Lit) (y : Lit) (i : ℕ) (x : Lit) → slice_get (xs ++ y ∷ []) i ≡ Some x → ((i ≡ length xs) × (y ≡ x)) ⊎ (slice_get xs i ≡ Some x)
+get_before : (xs : List Lit) (y : Lit) (i : ℕ) (x : Lit) → slice_get (xs ++ y ∷ []) i ≡ Some x →
+    ((i ≡ length xs) × (y ≡ x)) ⊎ (slice_get xs i ≡ Some x)
 get_before [] y zero x at = inl (refl, same_Some y x at)
 get_before [] y (suc i) x at = absurd (none-some x at)
 get_before (z ∷ xs) y zero x at = inr at
@@ -111,14 +135,18 @@ once_push xs y once new i j x a b = ⊎_elim
     (get_before xs y j x b))
     (get_before xs y i x a)
 
-pub distinct_push : (lits old new : List Lit) (lit : Lit) → AreDistinctOf lits old → IsAddedTo old lit new → AreDistinctOf (lits ++ lit ∷ []) new
+pub distinct_push : (lits old new : List Lit) (lit : Lit) → AreDistinctOf lits old → IsAddedTo old lit new
+    → AreDistinctOf (lits ++ lit ∷ []) new
 distinct_push lits old new lit of is = ⊎_elim
-    (λ (there : Contains old lit). subst (AreDistinctOf (lits ++ lit ∷ [])) (sym (is.there there)) (let r : AreDistinctOf (lits ++ lit ∷ []) old = record {
+    (λ (there : Contains old lit). subst (AreDistinctOf (lits ++ lit ∷ [])) (sym (is.there there))
+    (let r : AreDistinctOf (lits ++ lit ∷ []) old = record {
       each = λ x h. Contains-append_left lits (lit ∷ []) x (of.each x h);
-      all = λ x h. ⊎_elim (λ (p : Contains lits x). of.all x p) (λ (p : lit ≡ x). subst (Contains old) p there) (Contains-push_cases lits lit x h);
+      all = λ x h. ⊎_elim (λ (p : Contains lits x). of.all x p) (λ (p : lit ≡ x). subst (Contains old) p there)
+          (Contains-push_cases lits lit x h);
       once = of.once;
     } in r))
-    (λ (absent : Contains old lit → ⊥). subst (AreDistinctOf (lits ++ lit ∷ [])) (sym (is.added absent)) (let r : AreDistinctOf (lits ++ lit ∷ []) (old ++ lit ∷ []) = record {
+    (λ (absent : Contains old lit → ⊥). subst (AreDistinctOf (lits ++ lit ∷ [])) (sym (is.added absent))
+    (let r : AreDistinctOf (lits ++ lit ∷ []) (old ++ lit ∷ []) = record {
       each = λ x h. ⊎_elim
           (λ (p : Contains old x). Contains-append_left lits (lit ∷ []) x (of.each x p))
           (λ (p : lit ≡ x). subst (Contains (lits ++ lit ∷ [])) p (Contains-push lits lit))
@@ -131,13 +159,16 @@ distinct_push lits old new lit of is = ⊎_elim
     } in r))
     is.either
 
-pub distinct_more : (lits old new : List Lit) (i : ℕ) (lit : Lit) → slice_get lits i ≡ Some lit → AreDistinctOf (take i lits) old → IsAddedTo old lit new → AreDistinctOf (take (i + 1) lits) new
+pub distinct_more : (lits old new : List Lit) (i : ℕ) (lit : Lit) → slice_get lits i ≡ Some lit → AreDistinctOf
+    (take i lits) old → IsAddedTo old lit new → AreDistinctOf (take (i + 1) lits) new
 distinct_more lits old new i lit at of is =
-    rw (take_more lits i lit (slice_get_within lits i lit at), get_or_from_slice_get lits i lit lit at) (distinct_push (take i lits) old new lit of is)
+    rw (take_more lits i lit (slice_get_within lits i lit at), get_or_from_slice_get lits i lit lit at)
+    (distinct_push (take i lits) old new lit of is)
 
 -- ---- literals after literals
 
-pub say_both : (statements : List Statement) (ls ms : List Lit) (ps qs : List Said) → Say statements ls ps → Say statements ms qs → Say statements (ls ++ ms) (ps ++ qs)
+pub say_both : (statements : List Statement) (ls ms : List Lit) (ps qs : List Said) → Say statements ls ps
+    → Say statements ms qs → Say statements (ls ++ ms) (ps ++ qs)
 say_both statements [] ms [] qs a b = b
 say_both statements [] ms (x ∷ ps) qs a b = absurd a
 say_both statements (l ∷ ls) ms [] qs a b = absurd a

@@ -85,7 +85,8 @@ pub record AreAxioms (s : Spec) (currents : List RelId) (statements : List State
 -- ---- the order of three rows of one list
 
 -- a step that is an axiom on three rows of an entity in an attribute
-pub record IsTransitiveStep (s : Spec) (statements : List Statement) (rel : RelId) (attr : AttrId) (ent : ℕ) (taken : Step) : Type 0 where
+pub record IsTransitiveStep (s : Spec) (statements : List Statement) (rel : RelId) (attr : AttrId) (ent : ℕ)
+    (taken : Step) : Type 0 where
   pub first : RowId
   pub second : RowId
   pub third : RowId
@@ -103,9 +104,12 @@ pub record StandsAmong (statements : List Statement) (steps : List Step) (clause
   pub are_lits : AreLits statements clause lits
 
 -- exactly the clauses on three rows of an entity in an attribute, each once whatever its label
-pub record AreTransitive (s : Spec) (statements : List Statement) (rel : RelId) (attr : AttrId) (ent : ℕ) (steps : List Step) : Type 0 where
+pub record AreTransitive (s : Spec) (statements : List Statement) (rel : RelId) (attr : AttrId) (ent : ℕ)
+    (steps : List Step) : Type 0 where
   pub each : All (IsTransitiveStep s statements rel attr ent) steps
-  pub all : (r : Relation) → slice_get s.relations rel.0 ≡ Some r → (first second third : RowId) → entity_of r.rows first.0 ≡ Some ent
-      → (clause : List Said) → IsAxiom s (label.Transitive rel attr first second third) clause → StandsAmong statements steps clause
+  pub all : (r : Relation) → slice_get s.relations rel.0 ≡ Some r → (first second third : RowId)
+      → entity_of r.rows first.0 ≡ Some ent
+      → (clause : List Said) → IsAxiom s (label.Transitive rel attr first second third) clause
+      → StandsAmong statements steps clause
   pub once : (i j : ℕ) (l m : Label) (lits other : List Lit) (clause : List Said) → slice_get steps i ≡ Some (step.Axiom l lits)
       → slice_get steps j ≡ Some (step.Axiom m other) → AreLits statements clause lits → AreLits statements clause other → i ≡ j

@@ -103,7 +103,8 @@ unfoldable pub entity_labels : Attribute → ℕ → List Label
 entity_labels p ent = flat_map (row_labels p ent) (members_of p.relation ent)
 
 unfoldable pub attr_labels : Subject → Relation → RelId → ℕ → List Label
-attr_labels s r rel attr = below (entity_labels (record { subject = s; relation = r; rel = rel; attr = record { 0 = attr } })) (length r.entities)
+attr_labels s r rel attr = below
+    (entity_labels (record { subject = s; relation = r; rel = rel; attr = record { 0 = attr } })) (length r.entities)
 
 unfoldable pub relation_labels : Subject → Relation → RelId → List Label
 relation_labels s r rel = below (attr_labels s r rel) (length r.attrs)

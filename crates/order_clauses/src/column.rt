@@ -26,7 +26,8 @@ impl<'a> Model for Column<'a> {
 
     ghost view = { λ c. record { subject = c.sayings.now; relation = c.relation.now; rel = c.rel; attr = c.attr } };
 
-    ghost invariant = { λ c. IsAttribute (record { subject = c.sayings.now; relation = c.relation.now; rel = c.rel; attr = c.attr }) };
+    ghost invariant = { λ c. IsAttribute
+        (record { subject = c.sayings.now; relation = c.relation.now; rel = c.rel; attr = c.attr }) };
 }
 
 impl Column<'_> {

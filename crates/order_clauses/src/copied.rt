@@ -38,7 +38,8 @@ fn copied_by(
 ) -> Result<(), NoMemory>
     requires within { copy.0 < length sayings.now.spec.copies }
     requires pairs { All (IsCopiedBy sayings.now.spec copy.0) pairs.now }
-    ensures { OnOk result (Adds sayings.now (copy_in copy pairs.now (slice_get sayings.now.spec.copies copy.0)) steps.old steps.new) }
+    ensures { OnOk result (Adds sayings.now (copy_in copy pairs.now (slice_get sayings.now.spec.copies copy.0))
+        steps.old steps.new) }
 {
     for place in 0..sayings.copy(copy).places().len() {
         copied_at(sayings, steps, distinct, copy, place as u32, pairs)?;

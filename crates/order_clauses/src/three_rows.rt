@@ -178,7 +178,8 @@ fn both_ways(
     third: RowId,
 ) -> Result<(), NoMemory>
     requires { AreThree column.now.relation.rows first second third }
-    ensures { OnOk result (Adds column.now.subject (three_label column.now (Some first) (Some second) (Some third)) steps.old steps.new) }
+    ensures { OnOk result (Adds column.now.subject (three_label column.now (Some first) (Some second) (Some third))
+        steps.old steps.new) }
 {
     one_way(column, steps, distinct, first, second, third)?;
     one_way(column, steps, distinct, third, second, first)
@@ -194,7 +195,8 @@ fn one_way(
     third: RowId,
 ) -> Result<(), NoMemory>
     requires { AreThree column.now.relation.rows first second third }
-    ensures { OnOk result (Adds column.now.subject (label.Transitive column.now.rel column.now.attr first second third ∷ []) steps.old steps.new) }
+    ensures { OnOk result (Adds column.now.subject (label.Transitive column.now.rel column.now.attr first second
+        third ∷ []) steps.old steps.new) }
 {
     column.facts();
     let lits = [

@@ -80,7 +80,8 @@ fn of_attribute(
     requires entities { entities ≡ length column.now.relation.entities }
     requires facts { IsRelation column.now.relation }
     requires wanted { is_wanted column.now.subject.wanted.currents column.now.rel.0 ≡ true }
-    ensures { OnOk result (Adds column.now.subject (attr_labels column.now.subject column.now.relation column.now.rel column.now.attr.0) steps.old steps.new) }
+    ensures { OnOk result (Adds column.now.subject (attr_labels column.now.subject column.now.relation column.now.rel
+        column.now.attr.0) steps.old steps.new) }
 {
     for ent in 0..entities {
         of_entity(column, steps, scratch, EntId(ent as u32))?;

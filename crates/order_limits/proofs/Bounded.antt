@@ -30,7 +30,8 @@ rows_bounded : (limit : ℕ) (relations : List Relation) → list_any (λ (r : R
     → row_variables relations ≤ limit * rows_together relations
 rows_bounded limit [] none = omega arith
 rows_bounded limit (r ∷ relations) none =
-    let both = either_none (ltb limit (length r.attrs)) (list_any (λ (q : Relation). ltb limit (length q.attrs)) relations) none in
+    let both = either_none (ltb limit (length r.attrs)) (list_any (λ (q : Relation). ltb limit (length q.attrs))
+    relations) none in
     omega (
       arith,
       mul-le-mul_right (length r.rows) (ltb-false limit (length r.attrs) both.0),
@@ -44,7 +45,8 @@ rows_bounded limit (r ∷ relations) none =
 -- as many statements as the four kinds have
 kinds_together : (n : Numbers) (pairs tops lasts : List Block)
     → length (flat_map (block_statements n) (pairs ++ tops ++ lasts ++ Answers ∷ []))
-    ≡ length (flat_map (block_statements n) pairs) + length (flat_map (block_statements n) tops) + length (flat_map (block_statements n) lasts) + n.answers
+    ≡ length (flat_map (block_statements n) pairs) + length (flat_map (block_statements n) tops) + length
+    (flat_map (block_statements n) lasts) + n.answers
 kinds_together n pairs tops lasts =
     omega (
       arith,
@@ -55,7 +57,8 @@ kinds_together n pairs tops lasts =
     )
 
 statements_bounded : (relations : List Relation) (wanted : Wanted)
-    → length (statements_of (numbers_of relations wanted)) ≤ order_variables relations + 2 * row_variables relations + wanted.answers
+    → length (statements_of (numbers_of relations wanted)) ≤ order_variables relations + 2 * row_variables relations
+    + wanted.answers
 unfolding order_variables
 statements_bounded relations wanted =
     let n = numbers_of relations wanted in

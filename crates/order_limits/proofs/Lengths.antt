@@ -18,7 +18,8 @@ row_at n = record { 0 = n }
 rows_counted : (first : ℕ) (rows : List Row) (ent : ℕ) → length (rows_from first (entities_of rows) ent) ≡ rows_of ent rows
 rows_counted first [] ent = refl
 rows_counted first (row ∷ rows) ent =
-    go (row.entity.0 == ent) (rows_counted (first + 1) rows ent) ∙ sym (sum_by-cons (λ (q : Row). cond (q.entity.0 == ent) 1 0) row rows)
+    go (row.entity.0 == ent) (rows_counted (first + 1) rows ent)
+    ∙ sym (sum_by-cons (λ (q : Row). cond (q.entity.0 == ent) 1 0) row rows)
   where
     rest : List RowId
     rest = rows_from (first + 1) (entities_of rows) ent

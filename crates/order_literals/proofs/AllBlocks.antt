@@ -41,25 +41,33 @@ pairs_block n rel attr here =
 
 -- a block of rows that stand last
 pub tops_block : (n : Numbers) (rel attr : ℕ) → HasPlace n.tables rel attr
-    → slice_get (blocks_of n) (places n.tables + (attrs_before n.tables rel + attr)) ≡ Some (Tops (record { 0 = rel }) (record { 0 = attr }))
+    → slice_get (blocks_of n) (places n.tables + (attrs_before n.tables rel + attr)) ≡ Some
+    (Tops (record { 0 = rel }) (record { 0 = attr }))
 tops_block n rel attr here =
     let read = kind_at Tops 0 n.tables rel attr here.table here.is_table here.attr_within in
     let number : 0 + rel ≡ rel = omega arith in
     let these = rw number at read in
     let behind = at_right (pairs n) (tops n) (places n.tables) (attrs_before n.tables rel + attr)
     (sym (count_of_kind Pairs 0 n.tables)) in
-    first_of_all n (places n.tables + (attrs_before n.tables rel + attr)) (Tops (record { 0 = rel }) (record { 0 = attr })) (behind ∙ these)
+    first_of_all n (places n.tables + (attrs_before n.tables rel + attr))
+    (Tops (record { 0 = rel }) (record { 0 = attr })) (behind ∙ these)
 
 -- a block of current values
 pub lasts_block : (n : Numbers) (rel attr : ℕ) → HasPlace n.tables rel attr
-    → slice_get (blocks_of n) (2 * places n.tables + (attrs_before n.tables rel + attr)) ≡ Some (Lasts (record { 0 = rel }) (record { 0 = attr }))
+    → slice_get (blocks_of n) (2 * places n.tables + (attrs_before n.tables rel + attr)) ≡ Some
+    (Lasts (record { 0 = rel }) (record { 0 = attr }))
 lasts_block n rel attr here =
     let read = kind_at Lasts 0 n.tables rel attr here.table here.is_table here.attr_within in
     let number : 0 + rel ≡ rel = omega arith in
     let these = rw number at read in
     let front = pairs n ++ tops n in
     let count = length-append (pairs n) (tops n) in
-    let twice : 2 * places n.tables ≡ length front = omega (arith, count_of_kind Pairs 0 n.tables, count_of_kind Tops 0 n.tables) in
+    let twice : 2 * places n.tables ≡ length front = omega (
+      arith,
+      count_of_kind Pairs 0 n.tables,
+      count_of_kind Tops
+          0 n.tables,
+    ) in
     let behind = at_right front (lasts n) (2 * places n.tables) (attrs_before n.tables rel + attr) twice in
     at_left (pairs n ++ tops n ++ lasts n) (Answers ∷ []) (2 * places n.tables + (attrs_before n.tables rel + attr))
     (Lasts (record { 0 = rel }) (record { 0 = attr })) (behind ∙ these)
@@ -75,7 +83,8 @@ answers_block n =
 pub block_known : (n : Numbers) (i : ℕ) (b : Block) → slice_get (blocks_of n) i ≡ Some b → IsBlockOf n.tables b
 block_known n i b e = ends (at_either (pairs n ++ tops n ++ lasts n) (Answers ∷ []) i b e)
   where
-    of_kind : (make : RelId → AttrId → Block) (i : ℕ) → ((rel : RelId) (attr : AttrId) → HasPlace n.tables rel.0 attr.0 → IsBlockOf n.tables (make rel attr))
+    of_kind : (make : RelId → AttrId → Block) (i : ℕ) →
+        ((rel : RelId) (attr : AttrId) → HasPlace n.tables rel.0 attr.0 → IsBlockOf n.tables (make rel attr))
         → slice_get (blocks_from make 0 n.tables) i ≡ Some b → IsBlockOf n.tables b
     of_kind make i known at =
         let found = in_kind make 0 n.tables i b at in
@@ -94,7 +103,8 @@ block_known n i b e = ends (at_either (pairs n ++ tops n ++ lasts n) (Answers �
     three (inl front) = two (at_either (pairs n) (tops n) i b front)
     three (inr third) = of_kind Lasts third.0 (λ rel attr h. h) third.1
 
-    ends : (slice_get (pairs n ++ tops n ++ lasts n) i ≡ Some b) ⊎ ((j : ℕ) × (slice_get (Answers ∷ []) j ≡ Some b) × (i ≡ length (pairs n ++ tops n ++ lasts n) + j)) → IsBlockOf n.tables b
+    ends : (slice_get (pairs n ++ tops n ++ lasts n) i ≡ Some b) ⊎ ((j : ℕ) × (slice_get (Answers ∷ []) j ≡ Some b) ×
+        (i ≡ length (pairs n ++ tops n ++ lasts n) + j)) → IsBlockOf n.tables b
     ends (inl front) = three (at_either (pairs n ++ tops n) (lasts n) i b front)
     ends (inr (zero, at, h)) =
         let is : Answers ≡ b = cc in

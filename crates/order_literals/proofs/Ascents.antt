@@ -56,7 +56,8 @@ module _ {A B : Type 0} (R : B → B → Type 0) where
       ascends_append R (f x) (flat_map f xs) (each x) (ascends_flat_map S f each apart xs up.1)
       (λ a b in_a at. (let from = from_flat_map f xs b at in apart x from.0 a b (up.0 from.0 from.1) in_a from.2))
 
-pub ascends_weaker : {A : Type 0} (R S : A → A → Type 0) → ((x y : A) → R x y → S x y) → (xs : List A) → Ascends R xs → Ascends S xs
+pub ascends_weaker : {A : Type 0} (R S : A → A → Type 0) → ((x y : A) → R x y → S x y) → (xs : List A) → Ascends R xs
+    → Ascends S xs
 ascends_weaker R S weaker [] up = tt
 ascends_weaker R S weaker (x ∷ xs) up = (λ y at. weaker x y (up.0 y at), ascends_weaker R S weaker xs up.1)
 

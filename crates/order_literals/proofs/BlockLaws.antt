@@ -194,9 +194,11 @@ in_blocks n block at =
     (made Lasts (λ r a of. of))
     (in_either (blocks_from Pairs 0 n.tables ++ blocks_from Tops 0 n.tables) (blocks_from Lasts 0 n.tables) block more))
     answers
-    (in_either (blocks_from Pairs 0 n.tables ++ blocks_from Tops 0 n.tables ++ blocks_from Lasts 0 n.tables) (Answers ∷ []) block at)
+    (in_either (blocks_from Pairs 0 n.tables ++ blocks_from Tops 0 n.tables ++ blocks_from Lasts 0 n.tables)
+    (Answers ∷ []) block at)
   where
-    made : (make : RelId → AttrId → Block) → ((rel attr : ℕ) → IsAttrOf n.tables rel attr → IsBlockOf n (make (rel_at rel) (attr_at attr)))
+    made : (make : RelId → AttrId → Block) → ((rel attr : ℕ) → IsAttrOf n.tables rel attr → IsBlockOf n
+        (make (rel_at rel) (attr_at attr)))
         → IsIn (blocks_from make 0 n.tables) block → IsBlockOf n block
     made make is at =
         let from = in_blocks_from make 0 n.tables block at in
@@ -210,18 +212,22 @@ in_blocks n block at =
 
 pub blocks_in : (n : Numbers) (block : Block) → IsBlockOf n block → IsIn (blocks_of n) block
 blocks_in n (Pairs rel attr) of =
-    in_left (blocks_from Pairs 0 n.tables ++ blocks_from Tops 0 n.tables ++ blocks_from Lasts 0 n.tables) (Answers ∷ []) (Pairs rel attr)
+    in_left (blocks_from Pairs 0 n.tables ++ blocks_from Tops 0 n.tables ++ blocks_from Lasts 0 n.tables)
+    (Answers ∷ []) (Pairs rel attr)
     (in_left (blocks_from Pairs 0 n.tables ++ blocks_from Tops 0 n.tables) (blocks_from Lasts 0 n.tables) (Pairs rel attr)
     (in_left (blocks_from Pairs 0 n.tables) (blocks_from Tops 0 n.tables) (Pairs rel attr)
     (blocks_from_in Pairs 0 n.tables rel.0 attr.0 rel.0 (omega arith) of)))
 blocks_in n (Tops rel attr) of =
-    in_left (blocks_from Pairs 0 n.tables ++ blocks_from Tops 0 n.tables ++ blocks_from Lasts 0 n.tables) (Answers ∷ []) (Tops rel attr)
+    in_left (blocks_from Pairs 0 n.tables ++ blocks_from Tops 0 n.tables ++ blocks_from Lasts 0 n.tables)
+    (Answers ∷ []) (Tops rel attr)
     (in_left (blocks_from Pairs 0 n.tables ++ blocks_from Tops 0 n.tables) (blocks_from Lasts 0 n.tables) (Tops rel attr)
     (in_right (blocks_from Pairs 0 n.tables) (blocks_from Tops 0 n.tables) (Tops rel attr)
     (blocks_from_in Tops 0 n.tables rel.0 attr.0 rel.0 (omega arith) of)))
 blocks_in n (Lasts rel attr) of =
-    in_left (blocks_from Pairs 0 n.tables ++ blocks_from Tops 0 n.tables ++ blocks_from Lasts 0 n.tables) (Answers ∷ []) (Lasts rel attr)
+    in_left (blocks_from Pairs 0 n.tables ++ blocks_from Tops 0 n.tables ++ blocks_from Lasts 0 n.tables)
+    (Answers ∷ []) (Lasts rel attr)
     (in_right (blocks_from Pairs 0 n.tables ++ blocks_from Tops 0 n.tables) (blocks_from Lasts 0 n.tables) (Lasts rel attr)
     (blocks_from_in Lasts 0 n.tables rel.0 attr.0 rel.0 (omega arith) of))
 blocks_in n Answers of =
-    in_right (blocks_from Pairs 0 n.tables ++ blocks_from Tops 0 n.tables ++ blocks_from Lasts 0 n.tables) (Answers ∷ []) Answers (inl refl)
+    in_right (blocks_from Pairs 0 n.tables ++ blocks_from Tops 0 n.tables ++ blocks_from Lasts 0 n.tables)
+    (Answers ∷ []) Answers (inl refl)

@@ -16,7 +16,8 @@ use Rattle.order_literals.specs.Axioms.{AreTwo}
 use Rattle.order_literals.specs.Numbers.{Numbered, is_wanted, value_names_of, numbered, tables_from, numbers_of, IsPairOf, IsRowOf}
 use Rattle.order_literals.specs.declared.wanted.Wanted.{Wanted}
 
-table_from : (currents : List RelId) (first : ℕ) (relations : List Relation) (place : ℕ) (r : Relation) → slice_get relations place ≡ Some r
+table_from : (currents : List RelId) (first : ℕ) (relations : List Relation) (place : ℕ) (r : Relation)
+    → slice_get relations place ≡ Some r
     → slice_get (tables_from currents first relations) place ≡ Some (numbered currents (first + place) r)
 table_from currents first [] place r at = cc
 table_from currents first (r' ∷ relations) zero r at =
@@ -41,7 +42,8 @@ entity_read (r ∷ rows) zero ent e = e
 entity_read (r ∷ rows) (suc row) ent e = entity_read rows row ent e
 
 -- two different rows of one entity of a relation of the specification
-pub pair_of : (relations : List Relation) (wanted : Wanted) (rel attr : ℕ) (first second : RowId) (r : Relation) → slice_get relations rel ≡ Some r
+pub pair_of : (relations : List Relation) (wanted : Wanted) (rel attr : ℕ) (first second : RowId) (r : Relation)
+    → slice_get relations rel ≡ Some r
     → attr < length r.attrs → AreTwo r.rows first second → IsPairOf (numbers_of relations wanted) rel attr first second
 pair_of relations wanted rel attr first second r at within two = record {
   table = numbered wanted.currents rel r;
@@ -54,12 +56,15 @@ pair_of relations wanted rel attr first second r at within two = record {
 }
 
 -- what is numbered of a wanted relation holds the names of its values
-wanted_names : (currents : List RelId) (rel : ℕ) (r : Relation) → is_wanted currents rel ≡ true → (numbered currents rel r).names ≡ Some (value_names_of r)
+wanted_names : (currents : List RelId) (rel : ℕ) (r : Relation) → is_wanted currents rel ≡ true →
+    (numbered currents rel r).names ≡ Some (value_names_of r)
 wanted_names currents rel r wants = rw wants refl
 
 -- a row of a wanted relation of the specification
-pub row_of : (relations : List Relation) (wanted : Wanted) (rel attr : ℕ) (row : RowId) (r : Relation) → slice_get relations rel ≡ Some r
-    → attr < length r.attrs → row.0 < length r.rows → is_wanted wanted.currents rel ≡ true → IsRowOf (numbers_of relations wanted) rel attr row
+pub row_of : (relations : List Relation) (wanted : Wanted) (rel attr : ℕ) (row : RowId) (r : Relation)
+    → slice_get relations rel ≡ Some r
+    → attr < length r.attrs → row.0 < length r.rows → is_wanted wanted.currents rel ≡ true
+    → IsRowOf (numbers_of relations wanted) rel attr row
 row_of relations wanted rel attr row r at within row_within wants =
     let many : length (entities_of r.rows) ≡ length r.rows = length-map r.rows (λ row. row.entity.0) in
     record {
@@ -76,8 +81,10 @@ names_at : (r : Relation) (attr : ℕ) → attr < length r.attrs → slice_index
 names_at r attr within = get_or-map-range_with_len (names_of r.rows) 0 (length r.attrs) attr attr [] within (omega arith)
 
 -- what stands as the name of a row of a wanted relation of the specification is its name
-pub named : (relations : List Relation) (wanted : Wanted) (rel attr : ℕ) (row : RowId) (r : Relation) → slice_get relations rel ≡ Some r
-    → attr < length r.attrs → row.0 < length r.rows → is_wanted wanted.currents rel ≡ true → (table : Numbered) (names : List (List RowId))
+pub named : (relations : List Relation) (wanted : Wanted) (rel attr : ℕ) (row : RowId) (r : Relation)
+    → slice_get relations rel ≡ Some r
+    → attr < length r.attrs → row.0 < length r.rows → is_wanted wanted.currents rel ≡ true → (table : Numbered)
+    (names : List (List RowId))
     → slice_get (numbers_of relations wanted).tables rel ≡ Some table → table.names ≡ Some names
     → slice_get (slice_index_or names attr []) row.0 ≡ Some (name_of r.rows attr row)
 named relations wanted rel attr row r at within row_within wants table names is_table is_wanted =
@@ -87,20 +94,25 @@ named relations wanted rel attr row r at within row_within wants table names is_
     rw (these, names_at r attr within) (name_at r.rows attr row row_within)
 
 -- a row that stands as the name of a row of a wanted relation of the specification is its name
-pub name_is : (relations : List Relation) (wanted : Wanted) (rel attr : ℕ) (row : RowId) (r : Relation) → slice_get relations rel ≡ Some r
+pub name_is : (relations : List Relation) (wanted : Wanted) (rel attr : ℕ) (row : RowId) (r : Relation)
+    → slice_get relations rel ≡ Some r
     → attr < length r.attrs → row.0 < length r.rows → is_wanted wanted.currents rel ≡ true → (name : RowId)
-    → ((table : Numbered) (names : List (List RowId)) → slice_get (numbers_of relations wanted).tables rel ≡ Some table → table.names ≡ Some names
+    → ((table : Numbered) (names : List (List RowId)) → slice_get (numbers_of relations wanted).tables rel ≡ Some
+    table → table.names ≡ Some names
     → slice_get (slice_index_or names attr []) row.0 ≡ Some name) → name ≡ name_of r.rows attr row
 name_is relations wanted rel attr row r at within row_within wants name gives =
     let here = table_at wanted.currents relations rel r at in
     let these = wanted_names wanted.currents rel r wants in
     let given = gives (numbered wanted.currents rel r) (value_names_of r) here these in
-    let stands = named relations wanted rel attr row r at within row_within wants (numbered wanted.currents rel r) (value_names_of r) here these in
+    let stands = named relations wanted rel attr row r at within row_within wants (numbered wanted.currents rel r)
+    (value_names_of r) here these in
     cc
 
 -- the row that names a row's value is its own name
-pub own_name : (relations : List Relation) (wanted : Wanted) (rel attr : ℕ) (row : RowId) (r : Relation) → IsRelation r → slice_get relations rel ≡ Some r
-    → attr < length r.attrs → row.0 < length r.rows → is_wanted wanted.currents rel ≡ true → (table : Numbered) (names : List (List RowId))
+pub own_name : (relations : List Relation) (wanted : Wanted) (rel attr : ℕ) (row : RowId) (r : Relation)
+    → IsRelation r → slice_get relations rel ≡ Some r
+    → attr < length r.attrs → row.0 < length r.rows → is_wanted wanted.currents rel ≡ true → (table : Numbered)
+    (names : List (List RowId))
     → slice_get (numbers_of relations wanted).tables rel ≡ Some table → table.names ≡ Some names
     → slice_get (slice_index_or names attr []) (name_of r.rows attr row).0 ≡ Some (name_of r.rows attr row)
 own_name relations wanted rel attr row r facts at within row_within wants table names is_table is_wanted =

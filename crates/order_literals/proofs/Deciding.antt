@@ -29,7 +29,8 @@ never_both : (negative : Bool) → not negative ≡ not (not negative) → ⊥
 never_both true e = cc
 never_both false e = cc
 
-pub literal_decided : (truths : List Bool) (lit : Lit) → var_of lit < length truths → IsLitTrue truths lit ⊎ IsLitTrue truths (negation lit)
+pub literal_decided : (truths : List Bool) (lit : Lit) → var_of lit < length truths → IsLitTrue truths lit ⊎
+    IsLitTrue truths (negation lit)
 literal_decided truths lit within =
     let at = slice_get-get_or truths (var_of lit) true within in
     ⊎_elim
@@ -80,7 +81,8 @@ pair_back n rel attr t u pair = record {
   differ = λ e. pair.differ (sym e);
 }
 
-lesser_decided : (n : Numbers) (truths : List Bool) → length truths ≡ length (statements_of n) → (rel : RelId) (attr : AttrId) (t u : RowId)
+lesser_decided : (n : Numbers) (truths : List Bool) → length truths ≡ length (statements_of n) →
+    (rel : RelId) (attr : AttrId) (t u : RowId)
     → IsPairOf n rel.0 attr.0 t u → IsLess t u
     → IsSaidTrue (statements_of n) truths (before rel attr t u) ⊎ IsSaidTrue (statements_of n) truths (before rel attr u t)
 lesser_decided n truths long rel attr t u pair below =
@@ -91,7 +93,8 @@ lesser_decided n truths long rel attr t u pair below =
     (λ fails. inr (said_turned (statements_of n) truths (signed (says.Before rel attr t u) true) fails))
     (said_decided (statements_of n) truths long (literal at.0 false) (before rel attr t u) said)
 
-pub pair_decided : (n : Numbers) (truths : List Bool) → length truths ≡ length (statements_of n) → (rel : RelId) (attr : AttrId) (t u : RowId)
+pub pair_decided : (n : Numbers) (truths : List Bool) → length truths ≡ length (statements_of n) →
+    (rel : RelId) (attr : AttrId) (t u : RowId)
     → IsPairOf n rel.0 attr.0 t u
     → IsSaidTrue (statements_of n) truths (before rel attr t u) ⊎ IsSaidTrue (statements_of n) truths (before rel attr u t)
 pair_decided n truths long rel attr t u pair = ⊎_elim

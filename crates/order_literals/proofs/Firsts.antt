@@ -24,14 +24,16 @@ pub lesser_first : (rows : List RowId) (row : RowId) → IsAmong rows row → Is
 lesser_first rows row among i j d order within passes = by (cases_lt i j)
   where
     by : (i < j) ⊎ (j ≤ i) → nat_lt (get_or rows i d).0 row.0 ≡ true
-    by (inl before) = lt-ltb (get_or rows i d).0 row.0 (omega (arith, among.rise i j d before within, ltb-true (get_or rows j d).0 row.0 passes))
+    by (inl before) = lt-ltb (get_or rows i d).0 row.0
+        (omega (arith, among.rise i j d before within, ltb-true (get_or rows j d).0 row.0 passes))
     by (inr same) =
         let one : i ≡ j = omega arith in
         rw one passes
 
 -- and the row itself is the next
 pub next_is : (rows : List RowId) (row : RowId) (i : ℕ) → IsAmong rows row → i ≤ length rows
-    → IsPartitionPoint (λ (other : RowId). nat_lt other.0 row.0 ≡ true) (λ (other : RowId). nat_lt other.0 row.0 ≡ false) rows i → slice_get rows i ≡ Some row
+    → IsPartitionPoint (λ (other : RowId). nat_lt other.0 row.0 ≡ true)
+    (λ (other : RowId). nat_lt other.0 row.0 ≡ false) rows i → slice_get rows i ≡ Some row
 next_is rows row i among within point = by (cases_lt among.place i) (cases_lt i among.place)
   where
     here : get_or rows among.place row ≡ row
@@ -58,7 +60,8 @@ next_is rows row i among within point = by (cases_lt among.place i) (cases_lt i 
 -- ---- the rows that name values of an attribute
 
 -- they are kept for each attribute
-pub firsts_at : (names lists : List (List RowId)) (attr : ℕ) (rows : List RowId) → lists ≡ map firsts_of names → attr < length names
+pub firsts_at : (names lists : List (List RowId)) (attr : ℕ) (rows : List RowId) → lists ≡ map firsts_of names
+    → attr < length names
     → slice_get lists attr ≡ Some rows → rows ≡ firsts_of (slice_index_or names attr [])
 firsts_at names lists attr rows are within at =
     let mapped = slice_get-map firsts_of names attr in

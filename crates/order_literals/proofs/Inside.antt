@@ -23,11 +23,13 @@ made_at f count k within =
     slice_get-get_or (map f (range_with_len 0 count)) k (f k) (omega arith) ∙ ap Some read
 
 -- what stands in a mapped list
-pub mapped_at : {A B : Type 0} (f : A → B) (xs : List A) (k : ℕ) (x : A) → slice_get xs k ≡ Some x → slice_get (map f xs) k ≡ Some (f x)
+pub mapped_at : {A B : Type 0} (f : A → B) (xs : List A) (k : ℕ) (x : A) → slice_get xs k ≡ Some x
+    → slice_get (map f xs) k ≡ Some (f x)
 mapped_at f xs k x at = slice_get-map f xs k ∙ ap (option_map f) at
 
 -- what stands in a mapped list is made of what stands there
-pub from_mapped : {A B : Type 0} (f : A → B) (xs : List A) (k : ℕ) (y : B) → slice_get (map f xs) k ≡ Some y → (x : A) × (slice_get xs k ≡ Some x) × (f x ≡ y)
+pub from_mapped : {A B : Type 0} (f : A → B) (xs : List A) (k : ℕ) (y : B) → slice_get (map f xs) k ≡ Some y →
+    (x : A) × (slice_get xs k ≡ Some x) × (f x ≡ y)
 from_mapped f [] k y e = cc
 from_mapped f (x ∷ xs) zero y e = (x, refl, cc)
 from_mapped f (x ∷ xs) (suc k) y e = from_mapped f xs k y e
@@ -36,14 +38,17 @@ from_mapped f (x ∷ xs) (suc k) y e = from_mapped f xs k y e
 pub pair_in : (n : Numbers) (rel : RelId) (attr : AttrId) (t : Numbered) (k : ℕ) (p : RowPair) → slice_get n.tables rel.0 ≡ Some t
     → slice_get (pairs_of t.rows.entities) k ≡ Some p
     → slice_get (block_statements n (Pairs rel attr)) k ≡ Some (says.Before rel attr p.earlier p.later)
-pair_in n rel attr t k p is_table at = rw is_table (mapped_at (λ (q : RowPair). says.Before rel attr q.earlier q.later) (pairs_of t.rows.entities) k p at)
+pair_in n rel attr t k p is_table at = rw is_table
+    (mapped_at (λ (q : RowPair). says.Before rel attr q.earlier q.later) (pairs_of t.rows.entities) k p at)
 
 -- of a row that stands last
-pub top_in : (n : Numbers) (rel : RelId) (attr : AttrId) (t : Numbered) (names : List (List RowId)) (k : ℕ) → slice_get n.tables rel.0 ≡ Some t
+pub top_in : (n : Numbers) (rel : RelId) (attr : AttrId) (t : Numbered) (names : List (List RowId)) (k : ℕ)
+    → slice_get n.tables rel.0 ≡ Some t
     → t.names ≡ Some names → k < length t.rows.entities
     → slice_get (block_statements n (Tops rel attr)) k ≡ Some (says.Top rel attr (record { 0 = k }))
 top_in n rel attr t names k is_table wanted within =
-    let row : slice_get (row_ids (length t.rows.entities)) k ≡ Some (record { 0 = k }) = made_at {A = RowId} (λ at. record { 0 = at }) (length t.rows.entities) k within in
+    let row : slice_get (row_ids (length t.rows.entities)) k ≡ Some (record { 0 = k }) = made_at {A = RowId}
+    (λ at. record { 0 = at }) (length t.rows.entities) k within in
     rw (is_table, wanted) (mapped_at (says.Top rel attr) (row_ids (length t.rows.entities)) k (record { 0 = k }) row)
 
 -- of each place of such a block
@@ -62,7 +67,8 @@ top_within n rel attr k = by (slice_get n.tables rel.0)
         made_at {A = RowId} (λ at. record { 0 = at }) (length t.rows.entities) k (omega arith) in
         mapped_at (says.Top rel attr) (row_ids (length t.rows.entities)) k (record { 0 = k }) row
 
-    by : (o : Option Numbered) → k < length (top_statements rel attr o) → slice_get (top_statements rel attr o) k ≡ Some (says.Top rel attr (record { 0 = k }))
+    by : (o : Option Numbered) → k < length (top_statements rel attr o) → slice_get (top_statements rel attr o) k ≡
+        Some (says.Top rel attr (record { 0 = k }))
     by None within = absurd (omega arith)
     by (Some t) within = of_names t t.names within
 

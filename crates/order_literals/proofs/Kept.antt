@@ -22,15 +22,18 @@ pub count_of_firsts : (tables : List Numbered) → length (firsts_of_tables tabl
 count_of_firsts tables = length-map-range_with_len (attrs_before tables) 0 (length tables + 1)
 
 -- how many attributes the relations before one have
-pub first_read : (tables : List Numbered) (rel : ℕ) → rel ≤ length tables → get_or (firsts_of_tables tables) rel 0 ≡ attrs_before tables rel
-first_read tables rel within = get_or-map-range_with_len (attrs_before tables) 0 (length tables + 1) rel rel 0 (omega arith) (omega arith)
+pub first_read : (tables : List Numbered) (rel : ℕ) → rel ≤ length tables → get_or (firsts_of_tables tables) rel 0 ≡
+    attrs_before tables rel
+first_read tables rel within = get_or-map-range_with_len (attrs_before tables) 0 (length tables + 1) rel rel 0
+    (omega arith) (omega arith)
 
 -- and all of them
 pub last_read : (tables : List Numbered) → get_or (firsts_of_tables tables) (length tables) 0 ≡ places tables
 last_read tables = first_read tables (length tables) (omega arith) ∙ ap places (take_all (length tables) tables (omega arith))
 
 -- the place of a block, by what is kept
-module _ (n : Numbers) (firsts : List ℕ) (rel : RelId) (attr : AttrId) (firsts_are : firsts ≡ firsts_of_tables n.tables) (here : HasPlace n.tables rel.0 attr.0) where
+module _ (n : Numbers) (firsts : List ℕ) (rel : RelId) (attr : AttrId)
+    (firsts_are : firsts ≡ firsts_of_tables n.tables) (here : HasPlace n.tables rel.0 attr.0) where
   first_is : get_or firsts rel.0 0 ≡ attrs_before n.tables rel.0
   first_is =
       let within = slice_get_within n.tables rel.0 here.table here.is_table in
@@ -42,10 +45,12 @@ module _ (n : Numbers) (firsts : List ℕ) (rel : RelId) (attr : AttrId) (firsts
   pub pairs_place : slice_get (blocks_of n) (get_or firsts rel.0 0 + attr.0) ≡ Some (block_of kind.Pairs rel attr)
   pairs_place = rw first_is (pairs_block n rel.0 attr.0 here)
 
-  pub tops_place : slice_get (blocks_of n) (get_or firsts (length n.tables) 0 + (get_or firsts rel.0 0 + attr.0)) ≡ Some (block_of kind.Tops rel attr)
+  pub tops_place : slice_get (blocks_of n) (get_or firsts (length n.tables) 0 + (get_or firsts rel.0 0 + attr.0)) ≡
+      Some (block_of kind.Tops rel attr)
   tops_place = rw (first_is, places_are) (tops_block n rel.0 attr.0 here)
 
-  pub lasts_place : slice_get (blocks_of n) (2 * get_or firsts (length n.tables) 0 + (get_or firsts rel.0 0 + attr.0)) ≡ Some (block_of kind.Lasts rel attr)
+  pub lasts_place : slice_get (blocks_of n) (2 * get_or firsts (length n.tables) 0 +
+      (get_or firsts rel.0 0 + attr.0)) ≡ Some (block_of kind.Lasts rel attr)
   lasts_place = rw (first_is, places_are) (lasts_block n rel.0 attr.0 here)
 
 -- ---- where statements stand
@@ -55,8 +60,10 @@ pub count_of_starts : (n : Numbers) (blocks : List Block) → length (starts_of 
 count_of_starts n blocks = length-map-range_with_len (statements_before n blocks) 0 (length blocks + 1)
 
 -- how many statements the blocks before one have
-pub start_read : (n : Numbers) (blocks : List Block) (place : ℕ) → place ≤ length blocks → get_or (starts_of n blocks) place 0 ≡ statements_before n blocks place
-start_read n blocks place within = get_or-map-range_with_len (statements_before n blocks) 0 (length blocks + 1) place place 0 (omega arith) (omega arith)
+pub start_read : (n : Numbers) (blocks : List Block) (place : ℕ) → place ≤ length blocks
+    → get_or (starts_of n blocks) place 0 ≡ statements_before n blocks place
+start_read n blocks place within = get_or-map-range_with_len (statements_before n blocks) 0 (length blocks + 1) place
+    place 0 (omega arith) (omega arith)
 
 -- all of them
 pub end_read : (n : Numbers) → get_or (starts_of n (blocks_of n)) (length (blocks_of n)) 0 ≡ length (statements_of n)
@@ -68,15 +75,18 @@ pub statement_at : (n : Numbers) (starts : List ℕ) (place number : ℕ) (block
     → slice_get (statements_of n) (get_or starts place 0 + number) ≡ slice_get (block_statements n block) number
 statement_at n starts place number block are at within =
     let inside = slice_get_within (blocks_of n) place block at in
-    let start : get_or starts place 0 ≡ statements_before n (blocks_of n) place = rw are (start_read n (blocks_of n) place (omega arith)) in
+    let start : get_or starts place 0 ≡ statements_before n (blocks_of n) place =
+    rw are (start_read n (blocks_of n) place (omega arith)) in
     rw start (at_piece (block_statements n) (blocks_of n) place number block at within)
 
 -- and is one of all
 pub statement_below : (n : Numbers) (starts : List ℕ) (place number : ℕ) (block : Block) → starts ≡ starts_of n (blocks_of n)
-    → slice_get (blocks_of n) place ≡ Some block → number < length (block_statements n block) → get_or starts place 0 + number < length (statements_of n)
+    → slice_get (blocks_of n) place ≡ Some block → number < length (block_statements n block) → get_or starts place 0
+    + number < length (statements_of n)
 statement_below n starts place number block are at within =
     let inside = slice_get_within (blocks_of n) place block at in
-    let start : get_or starts place 0 ≡ statements_before n (blocks_of n) place = rw are (start_read n (blocks_of n) place (omega arith)) in
+    let start : get_or starts place 0 ≡ statements_before n (blocks_of n) place =
+    rw are (start_read n (blocks_of n) place (omega arith)) in
     let more = statements_more n (blocks_of n) place block inside in
     let is = ap (λ b. length (block_statements n b)) (get_or_from_slice_get (blocks_of n) place block block at) in
     omega (arith, statements_within n (blocks_of n) (place + 1))
@@ -91,7 +101,8 @@ block_fits n place block at =
     omega (arith, statements_within n (blocks_of n) (place + 1))
 
 -- where a variable lies
-module _ (n : Numbers) (starts : List ℕ) (var : ℕ) (starts_are : starts ≡ starts_of n (blocks_of n)) (within : var < length (statements_of n)) where
+module _ (n : Numbers) (starts : List ℕ) (var : ℕ) (starts_are : starts ≡ starts_of n (blocks_of n))
+    (within : var < length (statements_of n)) where
   many : length starts ≡ length (blocks_of n) + 1
   many = rw starts_are (count_of_starts n (blocks_of n))
 
@@ -118,7 +129,8 @@ module _ (n : Numbers) (starts : List ℕ) (var : ℕ) (starts_are : starts ≡ 
           omega (arith, ap (λ bs. length (flat_map (block_statements n) bs)) front)
 
   -- the statement of the variable stands in the block behind whose start, and before the next, the variable lies
-  pub lies_in : (place : ℕ) (block : Block) → place + 1 < length starts → get_or starts place 0 ≤ var → var < get_or starts (place + 1) 0
+  pub lies_in : (place : ℕ) (block : Block) → place + 1 < length starts → get_or starts place 0 ≤ var
+      → var < get_or starts (place + 1) 0
       → slice_get (blocks_of n) place ≡ Some block → var - get_or starts place 0 < length (block_statements n block)
   lies_in place block inside from to at =
       let count = many in
@@ -130,7 +142,8 @@ module _ (n : Numbers) (starts : List ℕ) (var : ℕ) (starts_are : starts ≡ 
       omega arith
 
   -- and is that of its number there
-  pub stands_in : (place number : ℕ) (block : Block) → slice_get (blocks_of n) place ≡ Some block → number ≡ var - get_or starts place 0
+  pub stands_in : (place number : ℕ) (block : Block) → slice_get (blocks_of n) place ≡ Some block
+      → number ≡ var - get_or starts place 0
       → get_or starts place 0 ≤ var → number < length (block_statements n block)
       → slice_get (statements_of n) var ≡ slice_get (block_statements n block) number
   stands_in place number block at is from inside =

@@ -24,14 +24,16 @@ count_of_answers count = length-map-range_with_len says.Answer 0 count
 -- ---- loops over what stands at each place, and at one more
 
 -- one more place
-pub put_more : {A : Type 0} (f : ℕ → A) (n : ℕ) (xs ys : List A) (x : A) → xs ≡ map f (range_with_len 0 n) → x ≡ f n → ys ≡ xs ++ x ∷ []
+pub put_more : {A : Type 0} (f : ℕ → A) (n : ℕ) (xs ys : List A) (x : A) → xs ≡ map f (range_with_len 0 n) → x ≡ f n
+    → ys ≡ xs ++ x ∷ []
     → ys ≡ map f (range_with_len 0 (n + 1))
 put_more f n xs ys x before is pushed =
     let more = map-range_with_len_more f 0 n n (omega arith) in
     cc
 
 -- one more place, behind others
-pub put_after : {A : Type 0} (f : ℕ → A) (n : ℕ) (front xs ys : List A) (x : A) → xs ≡ front ++ map f (range_with_len 0 n) → x ≡ f n
+pub put_after : {A : Type 0} (f : ℕ → A) (n : ℕ) (front xs ys : List A) (x : A) → xs ≡ front
+    ++ map f (range_with_len 0 n) → x ≡ f n
     → ys ≡ xs ++ x ∷ [] → ys ≡ front ++ map f (range_with_len 0 (n + 1))
 put_after f n front xs ys x before is pushed =
     let more = map-range_with_len_more f 0 n n (omega arith) in
@@ -46,7 +48,8 @@ attrs_more tables rel t within is =
 
 -- the statements of one more block
 pub statements_more : (n : Numbers) (blocks : List Block) (place : ℕ) (d : Block) → place < length blocks
-    → statements_before n blocks (place + 1) ≡ statements_before n blocks place + length (block_statements n (get_or blocks place d))
+    → statements_before n blocks (place + 1) ≡ statements_before n blocks place + length
+    (block_statements n (get_or blocks place d))
 statements_more n blocks place d within =
     let b = get_or blocks place d in
     let more = take_more blocks place d within in
@@ -58,19 +61,23 @@ statements_more n blocks place d within =
     ap length whole ∙ length-append (flat_map (block_statements n) (take place blocks)) (block_statements n b)
 
 -- are not more than those of all
-pub statements_within : (n : Numbers) (blocks : List Block) (place : ℕ) → statements_before n blocks place ≤ length (flat_map (block_statements n) blocks)
+pub statements_within : (n : Numbers) (blocks : List Block) (place : ℕ) → statements_before n blocks place ≤ length
+    (flat_map (block_statements n) blocks)
 statements_within n blocks place =
     let split = flat_map-append (block_statements n) (take place blocks) (drop place blocks) in
     let whole = ap (λ bs. length (flat_map (block_statements n) bs)) (take-append-drop place blocks) in
-    let parts = length-append (flat_map (block_statements n) (take place blocks)) (flat_map (block_statements n) (drop place blocks)) in
+    let parts = length-append (flat_map (block_statements n) (take place blocks))
+    (flat_map (block_statements n) (drop place blocks)) in
     omega (arith, ap length split)
 
 -- and are all where no block is left
-pub statements_all : (n : Numbers) (blocks : List Block) → statements_before n blocks (length blocks) ≡ length (flat_map (block_statements n) blocks)
+pub statements_all : (n : Numbers) (blocks : List Block) → statements_before n blocks (length blocks) ≡ length
+    (flat_map (block_statements n) blocks)
 statements_all n blocks = ap (λ bs. length (flat_map (block_statements n) bs)) (take_all (length blocks) blocks (omega arith))
 
 -- what all of them have where there is room for each
-pub total_more : (n : Numbers) (blocks : List Block) (place total more next : ℕ) (d : Block) → place < length blocks → total ≡ statements_before n blocks place
+pub total_more : (n : Numbers) (blocks : List Block) (place total more next : ℕ) (d : Block) → place < length blocks
+    → total ≡ statements_before n blocks place
     → more ≡ length (block_statements n (get_or blocks place d)) → next ≡ total + more
     → (next ≡ statements_before n blocks (place + 1)) × (next ≤ length (flat_map (block_statements n) blocks))
 total_more n blocks place total more next d within before here is =

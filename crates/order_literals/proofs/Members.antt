@@ -28,12 +28,14 @@ pub record IsNameOf (n : Numbers) (rel attr : ℕ) (row : RowId) : Type 0 where
 -- ---- of a block
 
 -- a statement is numbered exactly where it is one of a block
-pub in_statements : (n : Numbers) (s : Statement) → IsIn (statements_of n) s → (b : Block) × IsBlockOf n b × IsIn (block_statements n b) s
+pub in_statements : (n : Numbers) (s : Statement) → IsIn (statements_of n) s → (b : Block) × IsBlockOf n b × IsIn
+    (block_statements n b) s
 in_statements n s at =
     let from = from_flat_map (block_statements n) (blocks_of n) s at in
     (from.0, in_blocks n from.0 from.1, from.2)
 
-pub statements_in : (n : Numbers) (b : Block) (s : Statement) → IsBlockOf n b → IsIn (block_statements n b) s → IsIn (statements_of n) s
+pub statements_in : (n : Numbers) (b : Block) (s : Statement) → IsBlockOf n b → IsIn (block_statements n b) s
+    → IsIn (statements_of n) s
 statements_in n b s of at = in_flat_map (block_statements n) (blocks_of n) b s (blocks_in n b of) at
 
 -- ---- what is numbered of a table
@@ -45,7 +47,8 @@ record IsOnPair (rel : RelId) (attr : AttrId) (t : Numbered) (s : Statement) : T
   from : IsPairFrom 0 t.rows.entities (pair_at earlier later)
   is : says.Before rel attr earlier later ≡ s
 
-on_pair : (rel : RelId) (attr : AttrId) (t : Numbered) (s : Statement) → IsIn (pair_statements rel attr (Some t)) s → IsOnPair rel attr t s
+on_pair : (rel : RelId) (attr : AttrId) (t : Numbered) (s : Statement) → IsIn (pair_statements rel attr (Some t)) s
+    → IsOnPair rel attr t s
 on_pair rel attr t s at =
     let from = from_map (λ (p : RowPair). says.Before rel attr p.earlier p.later) (pairs_of t.rows.entities) s at in
     record { earlier = from.0.earlier; later = from.0.later; from = in_pairs_from 0 t.rows.entities from.0 from.1; is = from.2 }
@@ -57,7 +60,8 @@ record IsOnTop (rel : RelId) (attr : AttrId) (t : Numbered) (s : Statement) : Ty
   wanted : t.names ≡ Some names
   is : says.Top rel attr row ≡ s
 
-on_top : (rel : RelId) (attr : AttrId) (t : Numbered) (s : Statement) → IsIn (top_statements rel attr (Some t)) s → IsOnTop rel attr t s
+on_top : (rel : RelId) (attr : AttrId) (t : Numbered) (s : Statement) → IsIn (top_statements rel attr (Some t)) s
+    → IsOnTop rel attr t s
 on_top rel attr t s at = by t.names refl (from_map (says.Top rel attr) (wanted_rows t t.names) s at)
   where
     by : (names : Option (List (List RowId))) → t.names ≡ names
@@ -78,7 +82,8 @@ record IsOnLast (rel : RelId) (attr : AttrId) (t : Numbered) (s : Statement) : T
   named : slice_get (slice_index_or names attr.0 []) row.0 ≡ Some row
   is : says.Last rel attr row ≡ s
 
-on_last : (rel : RelId) (attr : AttrId) (t : Numbered) (s : Statement) → IsIn (last_statements rel attr (Some t)) s → IsOnLast rel attr t s
+on_last : (rel : RelId) (attr : AttrId) (t : Numbered) (s : Statement) → IsIn (last_statements rel attr (Some t)) s
+    → IsOnLast rel attr t s
 on_last rel attr t s at = by t.names refl (from_map (says.Last rel attr) (wanted_values attr t.names) s at)
   where
     by : (names : Option (List (List RowId))) → t.names ≡ names
@@ -102,7 +107,8 @@ pub before_in : (n : Numbers) (rel : RelId) (attr : AttrId) (t u : RowId) → Is
     → IsPairOf n rel.0 attr.0 t u × IsLess t u
 before_in n rel attr t u at = let from = in_statements n (says.Before rel attr t u) at in by from.0 from.1 from.2
   where
-    of_pair : (rel' : RelId) (attr' : AttrId) (of : IsAttrOf n.tables rel'.0 attr'.0) → IsOnPair rel' attr' of.table (says.Before rel attr t u)
+    of_pair : (rel' : RelId) (attr' : AttrId) (of : IsAttrOf n.tables rel'.0 attr'.0) → IsOnPair rel' attr' of.table
+        (says.Before rel attr t u)
         → IsPairOf n rel.0 attr.0 t u × IsLess t u
     of_pair rel' attr' of on =
         let same_rel : rel' ≡ rel = cc (on.is) in
@@ -124,7 +130,8 @@ before_in n rel attr t u at = let from = in_statements n (says.Before rel attr t
           below,
         )
 
-    by : (b : Block) → IsBlockOf n b → IsIn (block_statements n b) (says.Before rel attr t u) → IsPairOf n rel.0 attr.0 t u × IsLess t u
+    by : (b : Block) → IsBlockOf n b → IsIn (block_statements n b) (says.Before rel attr t u)
+        → IsPairOf n rel.0 attr.0 t u × IsLess t u
     by (Pairs rel' attr') of at =
         of_pair rel' attr' of (on_pair rel' attr' of.table (says.Before rel attr t u)
         (subst (λ o. IsIn (pair_statements rel' attr' o) (says.Before rel attr t u)) of.is_table at))
@@ -136,13 +143,15 @@ before_in n rel attr t u at = let from = in_statements n (says.Before rel attr t
         let on = on_last rel' attr' of.table (says.Before rel attr t u)
         (subst (λ o. IsIn (last_statements rel' attr' o) (says.Before rel attr t u)) of.is_table at) in
         absurd (cc (on.is))
-    by Answers of at = let from = from_map says.Answer (range_with_len 0 n.answers) (says.Before rel attr t u) at in absurd (cc (from.2))
+    by Answers of at = let from = from_map says.Answer (range_with_len 0 n.answers) (says.Before rel attr t u)
+        at in absurd (cc (from.2))
 
 pub in_before : (n : Numbers) (rel : RelId) (attr : AttrId) (t u : RowId) → IsPairOf n rel.0 attr.0 t u → IsLess t u
     → IsIn (statements_of n) (says.Before rel attr t u)
 in_before n rel attr t u pair below =
     let among = in_map (λ (p : RowPair). says.Before rel attr p.earlier p.later) (pairs_of pair.table.rows.entities) (pair_at t u)
-    (pairs_from_in 0 pair.table.rows.entities pair.ent t u t.0 u.0 (omega arith) (omega arith) below pair.first_of pair.second_of) in
+    (pairs_from_in 0 pair.table.rows.entities pair.ent t u t.0 u.0 (omega arith) (omega arith) below pair.first_of
+    pair.second_of) in
     statements_in n (Pairs rel attr) (says.Before rel attr t u)
     (record { table = pair.table; is_table = pair.is_table; attr_within = pair.attr_within })
     (subst (λ o. IsIn (pair_statements rel attr o) (says.Before rel attr t u)) (sym pair.is_table) among)
@@ -150,10 +159,12 @@ in_before n rel attr t u pair below =
 -- ---- rows that stand last
 
 -- that a row stands last is numbered exactly where it is a row of a relation whose current values are wanted
-pub top_in : (n : Numbers) (rel : RelId) (attr : AttrId) (row : RowId) → IsIn (statements_of n) (says.Top rel attr row) → IsRowOf n rel.0 attr.0 row
+pub top_in : (n : Numbers) (rel : RelId) (attr : AttrId) (row : RowId) → IsIn (statements_of n)
+    (says.Top rel attr row) → IsRowOf n rel.0 attr.0 row
 top_in n rel attr row at = let from = in_statements n (says.Top rel attr row) at in by from.0 from.1 from.2
   where
-    of_row : (rel' : RelId) (attr' : AttrId) (of : IsAttrOf n.tables rel'.0 attr'.0) → IsOnTop rel' attr' of.table (says.Top rel attr row)
+    of_row : (rel' : RelId) (attr' : AttrId) (of : IsAttrOf n.tables rel'.0 attr'.0) → IsOnTop rel' attr' of.table
+        (says.Top rel attr row)
         → IsRowOf n rel.0 attr.0 row
     of_row rel' attr' of on =
         let same_rel : rel' ≡ rel = cc (on.is) in
@@ -180,12 +191,15 @@ top_in n rel attr row at = let from = in_statements n (says.Top rel attr row) at
         let on = on_last rel' attr' of.table (says.Top rel attr row)
         (subst (λ o. IsIn (last_statements rel' attr' o) (says.Top rel attr row)) of.is_table at) in
         absurd (cc (on.is))
-    by Answers of at = let from = from_map says.Answer (range_with_len 0 n.answers) (says.Top rel attr row) at in absurd (cc (from.2))
+    by Answers of at = let from = from_map says.Answer (range_with_len 0 n.answers) (says.Top rel attr row)
+        at in absurd (cc (from.2))
 
-pub in_top : (n : Numbers) (rel : RelId) (attr : AttrId) (row : RowId) → IsRowOf n rel.0 attr.0 row → IsIn (statements_of n) (says.Top rel attr row)
+pub in_top : (n : Numbers) (rel : RelId) (attr : AttrId) (row : RowId) → IsRowOf n rel.0 attr.0 row
+    → IsIn (statements_of n) (says.Top rel attr row)
 in_top n rel attr row of =
     let wanted : IsIn (wanted_rows of.table of.table.names) row =
-    subst (λ o. IsIn (wanted_rows of.table o) row) (sym of.wanted) (row_ids_in (length of.table.rows.entities) row of.row_within) in
+    subst (λ o. IsIn (wanted_rows of.table o) row) (sym of.wanted)
+    (row_ids_in (length of.table.rows.entities) row of.row_within) in
     statements_in n (Tops rel attr) (says.Top rel attr row)
     (record { table = of.table; is_table = of.is_table; attr_within = of.attr_within })
     (subst (λ o. IsIn (top_statements rel attr o) (says.Top rel attr row)) (sym of.is_table)
@@ -194,10 +208,12 @@ in_top n rel attr row of =
 -- ---- values that are current
 
 -- that a value is current is numbered exactly where its row names it, in a relation whose current values are wanted
-pub last_in : (n : Numbers) (rel : RelId) (attr : AttrId) (row : RowId) → IsIn (statements_of n) (says.Last rel attr row) → IsNameOf n rel.0 attr.0 row
+pub last_in : (n : Numbers) (rel : RelId) (attr : AttrId) (row : RowId) → IsIn (statements_of n)
+    (says.Last rel attr row) → IsNameOf n rel.0 attr.0 row
 last_in n rel attr row at = let from = in_statements n (says.Last rel attr row) at in by from.0 from.1 from.2
   where
-    of_row : (rel' : RelId) (attr' : AttrId) (of : IsAttrOf n.tables rel'.0 attr'.0) → IsOnLast rel' attr' of.table (says.Last rel attr row)
+    of_row : (rel' : RelId) (attr' : AttrId) (of : IsAttrOf n.tables rel'.0 attr'.0) → IsOnLast rel' attr' of.table
+        (says.Last rel attr row)
         → IsNameOf n rel.0 attr.0 row
     of_row rel' attr' of on =
         let same_rel : rel' ≡ rel = cc (on.is) in
@@ -225,9 +241,11 @@ last_in n rel attr row at = let from = in_statements n (says.Last rel attr row) 
     by (Lasts rel' attr') of at =
         of_row rel' attr' of (on_last rel' attr' of.table (says.Last rel attr row)
         (subst (λ o. IsIn (last_statements rel' attr' o) (says.Last rel attr row)) of.is_table at))
-    by Answers of at = let from = from_map says.Answer (range_with_len 0 n.answers) (says.Last rel attr row) at in absurd (cc (from.2))
+    by Answers of at = let from = from_map says.Answer (range_with_len 0 n.answers) (says.Last rel attr row)
+        at in absurd (cc (from.2))
 
-pub in_last : (n : Numbers) (rel : RelId) (attr : AttrId) (row : RowId) → IsNameOf n rel.0 attr.0 row → IsIn (statements_of n) (says.Last rel attr row)
+pub in_last : (n : Numbers) (rel : RelId) (attr : AttrId) (row : RowId) → IsNameOf n rel.0 attr.0 row
+    → IsIn (statements_of n) (says.Last rel attr row)
 in_last n rel attr row of =
     let wanted : IsIn (wanted_values attr of.table.names) row =
     subst (λ o. IsIn (wanted_values attr o) row) (sym of.wanted)

@@ -60,7 +60,8 @@ at_piece f (a ∷ xs) (suc i) k x e h =
     let front = flat_map f (take i xs) in
     let whole : length (f a ++ front) ≡ length (f a) + length front = length-append (f a) front in
     let place : length (f a ++ front) + k ≡ length (f a) + (length front + k) = omega arith in
-    ap (slice_get (f a ++ flat_map f xs)) place ∙ at_right (f a) (flat_map f xs) (length (f a)) (length front + k) refl ∙ at_piece f xs i k x e h
+    ap (slice_get (f a ++ flat_map f xs)) place ∙ at_right (f a) (flat_map f xs) (length (f a)) (length front + k)
+    refl ∙ at_piece f xs i k x e h
 
 -- what stands in the pieces joined stands in one of them
 pub in_piece : {A B : Type 0} (f : A → List B) (xs : List A) (v : ℕ) (y : B) → slice_get (flat_map f xs) v ≡ Some y
@@ -68,7 +69,8 @@ pub in_piece : {A B : Type 0} (f : A → List B) (xs : List A) (v : ℕ) (y : B)
 in_piece f [] v y e = cc
 in_piece {A = A} {B = B} f (a ∷ xs) v y e = by (in_piece f xs) (at_either (f a) (flat_map f xs) v y e)
   where
-    by : ((v : ℕ) (y : B) → slice_get (flat_map f xs) v ≡ Some y → (i k : ℕ) × (x : A) × (slice_get xs i ≡ Some x) × (slice_get (f x) k ≡ Some y))
+    by : ((v : ℕ) (y : B) → slice_get (flat_map f xs) v ≡ Some y → (i k : ℕ) × (x : A) × (slice_get xs i ≡ Some x) ×
+        (slice_get (f x) k ≡ Some y))
         → (slice_get (f a) v ≡ Some y) ⊎ ((j : ℕ) × (slice_get (flat_map f xs) j ≡ Some y) × (v ≡ length (f a) + j))
         → (i k : ℕ) × (x : A) × (slice_get (a ∷ xs) i ≡ Some x) × (slice_get (f x) k ≡ Some y)
     by more (inl here) = (0, v, a, refl, here)
@@ -95,13 +97,16 @@ count_of_kind make first [] = refl
 count_of_kind make first (t ∷ tables) =
     let front = map (λ attr. make (record { 0 = first }) (record { 0 = attr })) (range_with_len 0 t.attrs) in
     let parts = length-append front (blocks_from make (first + 1) tables) in
-    let these : length front ≡ t.attrs = length-map-range_with_len {X = Block} (λ attr. make (record { 0 = first }) (record { 0 = attr })) 0 t.attrs in
+    let these : length front ≡ t.attrs = length-map-range_with_len {X = Block}
+    (λ attr. make (record { 0 = first }) (record { 0 = attr })) 0 t.attrs in
     let rest = count_of_kind make (first + 1) tables in
     omega (arith, parts, sum_by-cons (λ (t : Numbered). t.attrs) t tables)
 
 -- the block of an attribute of a relation
-pub kind_at : (make : RelId → AttrId → Block) (first : ℕ) (tables : List Numbered) (rel attr : ℕ) (t : Numbered) → slice_get tables rel ≡ Some t
-    → attr < t.attrs → slice_get (blocks_from make first tables) (attrs_before tables rel + attr) ≡ Some (make (record { 0 = first + rel }) (record { 0 = attr }))
+pub kind_at : (make : RelId → AttrId → Block) (first : ℕ) (tables : List Numbered) (rel attr : ℕ) (t : Numbered)
+    → slice_get tables rel ≡ Some t
+    → attr < t.attrs → slice_get (blocks_from make first tables) (attrs_before tables rel + attr) ≡ Some
+    (make (record { 0 = first + rel }) (record { 0 = attr }))
 kind_at make first [] rel attr t e h = cc
 kind_at make first (t' ∷ tables) zero attr t e h =
     let is : t' ≡ t = cc in
@@ -114,12 +119,14 @@ kind_at make first (t' ∷ tables) zero attr t e h =
     rw (same, place) (at_left _ _ attr _ here)
 kind_at make first (t' ∷ tables) (suc rel) attr t e h =
     let front = map (λ attr. make (record { 0 = first }) (record { 0 = attr })) (range_with_len 0 t'.attrs) in
-    let these : length front ≡ t'.attrs = length-map-range_with_len {X = Block} (λ attr. make (record { 0 = first }) (record { 0 = attr })) 0 t'.attrs in
+    let these : length front ≡ t'.attrs = length-map-range_with_len {X = Block}
+    (λ attr. make (record { 0 = first }) (record { 0 = attr })) 0 t'.attrs in
     let more = sum_by-cons (λ (u : Numbered). u.attrs) t' (take rel tables) in
     let place : attrs_before (t' ∷ tables) (suc rel) + attr ≡ t'.attrs + (attrs_before tables rel + attr) = omega arith in
     let number : first + suc rel ≡ first + 1 + rel = omega arith in
     rw (place, number)
-    (at_right front (blocks_from make (first + 1) tables) t'.attrs (attrs_before tables rel + attr) (sym these) ∙ kind_at make (first + 1) tables rel attr t e h)
+    (at_right front (blocks_from make (first + 1) tables) t'.attrs (attrs_before tables rel + attr) (sym these)
+    ∙ kind_at make (first + 1) tables rel attr t e h)
 
 -- the blocks of one more relation
 kinds_push : (make : RelId → AttrId → Block) (first : ℕ) (front : List Numbered) (rel : ℕ) (t : Numbered) → length front ≡ rel
@@ -151,11 +158,14 @@ kinds_more make tables rel t front xs ys within is before put =
     rw (put, before, last, one) joined
 
 -- each of them is of an attribute of a relation
-pub in_kind : (make : RelId → AttrId → Block) (first : ℕ) (tables : List Numbered) (i : ℕ) (b : Block) → slice_get (blocks_from make first tables) i ≡ Some b
+pub in_kind : (make : RelId → AttrId → Block) (first : ℕ) (tables : List Numbered) (i : ℕ) (b : Block)
+    → slice_get (blocks_from make first tables) i ≡ Some b
     → (rel attr : ℕ) × HasPlace tables rel attr × (b ≡ make (record { 0 = first + rel }) (record { 0 = attr }))
 in_kind make first [] i b e = cc
 in_kind make first (t ∷ tables) i b e =
-    by (in_kind make (first + 1) tables) (at_either (map (λ attr. make (record { 0 = first }) (record { 0 = attr })) (range_with_len 0 t.attrs)) (blocks_from make (first + 1) tables) i b e)
+    by (in_kind make (first + 1) tables)
+    (at_either (map (λ attr. make (record { 0 = first }) (record { 0 = attr })) (range_with_len 0 t.attrs))
+    (blocks_from make (first + 1) tables) i b e)
   where
     by : ((i : ℕ) (b : Block) → slice_get (blocks_from make (first + 1) tables) i ≡ Some b
         → (rel attr : ℕ) × HasPlace tables rel attr × (b ≡ make (record { 0 = first + 1 + rel }) (record { 0 = attr })))
@@ -164,8 +174,10 @@ in_kind make first (t ∷ tables) i b e =
         × (i ≡ length (map (λ attr. make (record { 0 = first }) (record { 0 = attr })) (range_with_len 0 t.attrs)) + j))
         → (rel attr : ℕ) × HasPlace (t ∷ tables) rel attr × (b ≡ make (record { 0 = first + rel }) (record { 0 = attr }))
     by more (inl here) =
-        let within = slice_get_within (map (λ attr. make (record { 0 = first }) (record { 0 = attr })) (range_with_len 0 t.attrs)) i b here in
-        let count : length (map (λ attr. make (record { 0 = first }) (record { 0 = attr })) (range_with_len 0 t.attrs)) ≡ t.attrs =
+        let within = slice_get_within (map (λ attr. make (record { 0 = first }) (record { 0 = attr }))
+        (range_with_len 0 t.attrs)) i b here in
+        let count : length (map (λ attr. make (record { 0 = first }) (record { 0 = attr }))
+        (range_with_len 0 t.attrs)) ≡ t.attrs =
         length-map-range_with_len {X = Block} (λ attr. make (record { 0 = first }) (record { 0 = attr })) 0 t.attrs in
         let inside : i < t.attrs = omega arith in
         let read = attr_at make first 0 t.attrs i inside in
@@ -175,5 +187,14 @@ in_kind make first (t ∷ tables) i b e =
         (0, i, record { table = t; is_table = refl; attr_within = inside }, rw (start, ← number) is)
     by more (inr later) =
         let rest = more later.0 b later.1 in
-        let number : first + suc rest.0 ≡ first + 1 + rest.0 = omega arith in
-        (suc rest.0, rest.1, record { table = rest.2.table; is_table = rest.2.is_table; attr_within = rest.2.attr_within }, rw number rest.3)
+        let number : first + suc rest.0 ≡ first + 1 + rest.0 = omega arith in (
+          suc rest.0,
+          rest.1,
+          record {
+            table = rest.2.table;
+            is_table = rest.2.is_table;
+            attr_within =
+                rest.2.attr_within;
+          },
+          rw number rest.3,
+        )

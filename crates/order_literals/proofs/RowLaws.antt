@@ -33,7 +33,8 @@ pub row_ids_in : (count : ℕ) (row : RowId) → row.0 < count → IsIn (row_ids
 row_ids_in count row within = in_map row_at (range_with_len 0 count) row.0 (range_in 0 count row.0 (omega arith) (omega arith))
 
 pub row_ids_ascend : (count : ℕ) → Ascends IsLess (row_ids count)
-row_ids_ascend count = ascends_map IsLess (λ x y. x < y) row_at (λ x y below. below) (range_with_len 0 count) (range_ascends 0 count)
+row_ids_ascend count = ascends_map IsLess (λ x y. x < y) row_at (λ x y below. below) (range_with_len 0 count)
+    (range_ascends 0 count)
 
 -- ---- the rows of an entity
 
@@ -174,12 +175,14 @@ pairs_from_in first (e ∷ entities) ent earlier later (suc low) zero is is' bel
 pairs_from_in first (e ∷ entities) ent earlier later zero (suc high) is is' below of of' =
     let same : row_at first ≡ earlier = row_is (row_at first) earlier (omega arith) in
     let its : ent ≡ e = sym (same_Some e ent of) in
-    in_left (with_each (row_at first) (rows_from (first + 1) entities e)) (pairs_from (first + 1) entities) (pair_at earlier later)
+    in_left (with_each (row_at first) (rows_from (first + 1) entities e)) (pairs_from (first + 1) entities)
+    (pair_at earlier later)
     (subst (λ r. IsIn (with_each (row_at first) (rows_from (first + 1) entities e)) (pair_at r later)) same
     (in_map (pair_at (row_at first)) (rows_from (first + 1) entities e) later
     (rows_from_in (first + 1) entities e later high (omega arith) (of' ∙ ap Some its))))
 pairs_from_in first (e ∷ entities) ent earlier later (suc low) (suc high) is is' below of of' =
-    in_right (with_each (row_at first) (rows_from (first + 1) entities e)) (pairs_from (first + 1) entities) (pair_at earlier later)
+    in_right (with_each (row_at first) (rows_from (first + 1) entities e)) (pairs_from (first + 1) entities)
+    (pair_at earlier later)
     (pairs_from_in (first + 1) entities ent earlier later low high (omega arith) (omega arith) (omega arith) of of')
 
 -- by the first row, and then by the second
@@ -190,7 +193,8 @@ pub pairs_from_ascend : (first : ℕ) (entities : List ℕ) → Ascends IsPairBe
 pairs_from_ascend first [] = tt
 pairs_from_ascend first (e ∷ entities) =
     ascends_append IsPairBelow (with_each (row_at first) (rows_from (first + 1) entities e)) (pairs_from (first + 1) entities)
-    (ascends_map IsPairBelow IsLess (pair_at (row_at first)) (λ a b below. inr (refl, inl below)) (rows_from (first + 1) entities e)
+    (ascends_map IsPairBelow IsLess (pair_at (row_at first)) (λ a b below. inr (refl, inl below))
+    (rows_from (first + 1) entities e)
     (rows_from_ascend (first + 1) entities e))
     (pairs_from_ascend (first + 1) entities)
     (λ p q at later.

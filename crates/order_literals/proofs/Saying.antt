@@ -35,8 +35,10 @@ says_it statements lit var s is sign at =
     inl (rw (here, sign) refl)
 
 -- and the negated literal says it of a pair turned
-pub says_turned : (statements : List Statement) (lit : Lit) (var : ℕ) (rel : RelId) (attr : AttrId) (earlier later : RowId) → var_of lit ≡ var
-    → is_negative lit ≡ true → slice_get statements var ≡ Some (says.Before rel attr later earlier) → Says statements lit (before rel attr earlier later)
+pub says_turned : (statements : List Statement) (lit : Lit) (var : ℕ) (rel : RelId) (attr : AttrId)
+    (earlier later : RowId) → var_of lit ≡ var
+    → is_negative lit ≡ true → slice_get statements var ≡ Some (says.Before rel attr later earlier)
+    → Says statements lit (before rel attr earlier later)
 says_turned statements lit var rel attr earlier later is sign at =
     let here : slice_get statements (var_of lit) ≡ Some (says.Before rel attr later earlier) = rw is at in
     inr (rw (here, sign) refl)
@@ -44,7 +46,8 @@ says_turned statements lit var rel attr earlier later is sign at =
 -- ---- what is numbered
 
 -- a pair of rows the other way round
-pub turned_pair : (n : Numbers) (rel attr : ℕ) (first second : RowId) → IsPairOf n rel attr first second → IsPairOf n rel attr second first
+pub turned_pair : (n : Numbers) (rel attr : ℕ) (first second : RowId) → IsPairOf n rel attr first second
+    → IsPairOf n rel attr second first
 turned_pair n rel attr first second p = record {
   table = p.table;
   is_table = p.is_table;
@@ -59,14 +62,16 @@ turned_pair n rel attr first second p = record {
 abbrev pub IsNumbered : Numbers → Statement → Type 0
 IsNumbered n (says.Before rel attr earlier later) = IsPairOf n rel.0 attr.0 earlier later
 IsNumbered n (says.Top rel attr row) = IsRowOf n rel.0 attr.0 row
-IsNumbered n (says.Last rel attr row) = (t : Numbered) × (slice_get n.tables rel.0 ≡ Some t) × (attr.0 < t.attrs) × IsOwnName t attr.0 row
+IsNumbered n (says.Last rel attr row) = (t : Numbered) × (slice_get n.tables rel.0 ≡ Some t) × (attr.0 < t.attrs) ×
+    IsOwnName t attr.0 row
 IsNumbered n (says.Answer tuple) = tuple < n.answers
 
 of_pairs : (n : Numbers) (rel : RelId) (attr : AttrId) (k : ℕ) (s : Statement) → HasPlace n.tables rel.0 attr.0
     → slice_get (block_statements n (Pairs rel attr)) k ≡ Some s → IsNumbered n s
 of_pairs n rel attr k s here at =
     let t = here.table in
-    let mapped : slice_get (map (λ (p : RowPair). says.Before rel attr p.earlier p.later) (pairs_of t.rows.entities)) k ≡ Some s = rw here.is_table at at in
+    let mapped : slice_get (map (λ (p : RowPair). says.Before rel attr p.earlier p.later) (pairs_of t.rows.entities))
+    k ≡ Some s = rw here.is_table at at in
     let made = from_mapped (λ (p : RowPair). says.Before rel attr p.earlier p.later) (pairs_of t.rows.entities) k s mapped in
     let pair = pair_in t.rows.entities k made.0 made.1 in
     let later = slice_get-get_or t.rows.entities made.0.later.0 0 pair.within in
@@ -84,10 +89,12 @@ of_pairs n rel attr k s here at =
 of_tops : (n : Numbers) (rel : RelId) (attr : AttrId) (k : ℕ) (s : Statement) → HasPlace n.tables rel.0 attr.0
     → slice_get (block_statements n (Tops rel attr)) k ≡ Some s → IsNumbered n s
 of_tops n rel attr k s here at =
-    let mapped : slice_get (map (says.Top rel attr) (wanted_rows here.table here.table.names)) k ≡ Some s = rw here.is_table at at in
+    let mapped : slice_get (map (says.Top rel attr) (wanted_rows here.table here.table.names)) k ≡ Some s =
+    rw here.is_table at at in
     by here.table.names refl mapped
   where
-    by : (o : Option (List (List RowId))) → here.table.names ≡ o → slice_get (map (says.Top rel attr) (wanted_rows here.table o)) k ≡ Some s → IsNumbered n s
+    by : (o : Option (List (List RowId))) → here.table.names ≡ o
+        → slice_get (map (says.Top rel attr) (wanted_rows here.table o)) k ≡ Some s → IsNumbered n s
     by None is e = cc
     by (Some names) is e =
         let count = length here.table.rows.entities in
@@ -95,7 +102,8 @@ of_tops n rel attr k s here at =
         let inside = slice_get_within (row_ids count) k made.0 made.1 in
         let many : length (row_ids count) ≡ count = length-map-range_with_len {X = RowId} (λ at. record { 0 = at }) 0 count in
         let within : k < count = omega arith in
-        let row : slice_get (row_ids count) k ≡ Some (record { 0 = k }) = made_at {A = RowId} (λ at. record { 0 = at }) count k within in
+        let row : slice_get (row_ids count) k ≡ Some (record { 0 = k }) = made_at {A = RowId}
+        (λ at. record { 0 = at }) count k within in
         let same : made.0 ≡ record { 0 = k } = cc in
         let number = ap (λ (r : RowId). r.0) same in
         let numbered : IsNumbered n (says.Top rel attr made.0) = record {
@@ -114,7 +122,8 @@ of_lasts n rel attr k s here at =
     let mapped : slice_get (map (says.Last rel attr) (wanted_values attr here.table.names)) k ≡ Some s = rw here.is_table at at in
     by here.table.names refl mapped
   where
-    by : (o : Option (List (List RowId))) → here.table.names ≡ o → slice_get (map (says.Last rel attr) (wanted_values attr o)) k ≡ Some s → IsNumbered n s
+    by : (o : Option (List (List RowId))) → here.table.names ≡ o
+        → slice_get (map (says.Last rel attr) (wanted_values attr o)) k ≡ Some s → IsNumbered n s
     by None is e = cc
     by (Some names) is e =
         let made = from_mapped (says.Last rel attr) (firsts_of (slice_index_or names attr.0 [])) k s e in
@@ -132,7 +141,8 @@ of_answers n k s at =
     let same : says.Answer k ≡ s = cc in
     subst (IsNumbered n) same within
 
-in_block : (n : Numbers) (b : Block) (k : ℕ) (s : Statement) → IsBlockOf n.tables b → slice_get (block_statements n b) k ≡ Some s → IsNumbered n s
+in_block : (n : Numbers) (b : Block) (k : ℕ) (s : Statement) → IsBlockOf n.tables b
+    → slice_get (block_statements n b) k ≡ Some s → IsNumbered n s
 in_block n (Pairs rel attr) k s here at = of_pairs n rel attr k s here at
 in_block n (Tops rel attr) k s here at = of_tops n rel attr k s here at
 in_block n (Lasts rel attr) k s here at = of_lasts n rel attr k s here at
@@ -145,11 +155,13 @@ numbered_at n var s at =
     in_block n found.2 found.1 s (block_known n found.0 found.2 found.3) found.4
 
 -- an attribute of a pair is there
-pub place_of_pair : (n : Numbers) (rel attr : ℕ) (first second : RowId) → IsPairOf n rel attr first second → HasPlace n.tables rel attr
+pub place_of_pair : (n : Numbers) (rel attr : ℕ) (first second : RowId) → IsPairOf n rel attr first second
+    → HasPlace n.tables rel attr
 place_of_pair n rel attr first second p = record { table = p.table; is_table = p.is_table; attr_within = p.attr_within }
 
 -- and the rows are two of its table
-pub rows_of_pair : (n : Numbers) (rel attr : ℕ) (first second : RowId) (t : Numbered) → IsPairOf n rel attr first second → slice_get n.tables rel ≡ Some t
+pub rows_of_pair : (n : Numbers) (rel attr : ℕ) (first second : RowId) (t : Numbered) → IsPairOf n rel attr first
+    second → slice_get n.tables rel ≡ Some t
     → IsRowPair t.rows.entities first.0 second.0
 rows_of_pair n rel attr first second t p at =
     let same : p.table ≡ t = cc (p.is_table) in
@@ -173,30 +185,43 @@ statement_of negative (Some t) s e =
     let same : record { statement = t; negative = negative } ≡ s = cc in
     ap (λ (u : Said). Some u.statement) same
 
-told_is : (statements : List Statement) (lit : Lit) (s : Said) → told_by statements lit ≡ Some s → slice_get statements (var_of lit) ≡ Some s.statement
+told_is : (statements : List Statement) (lit : Lit) (s : Said) → told_by statements lit ≡ Some s
+    → slice_get statements (var_of lit) ≡ Some s.statement
 told_is statements lit s told = statement_of (is_negative lit) (slice_get statements (var_of lit)) s told
 
 -- a pair, of which it is said that the one row stands before the other, is numbered
-pub pair_said : (n : Numbers) (rel : RelId) (attr : AttrId) (earlier later : RowId) (lit : Lit) → Says (statements_of n) lit (before rel attr earlier later)
+pub pair_said : (n : Numbers) (rel : RelId) (attr : AttrId) (earlier later : RowId) (lit : Lit)
+    → Says (statements_of n) lit (before rel attr earlier later)
     → IsPairOf n rel.0 attr.0 earlier later
 pair_said n rel attr earlier later lit (inl told) =
-    numbered_at n (var_of lit) (says.Before rel attr earlier later) (told_is (statements_of n) lit (before rel attr earlier later) told)
+    numbered_at n (var_of lit) (says.Before rel attr earlier later)
+    (told_is (statements_of n) lit (before rel attr earlier later) told)
 pair_said n rel attr earlier later lit (inr told) =
     turned_pair n rel.0 attr.0 later earlier
-    (numbered_at n (var_of lit) (says.Before rel attr later earlier) (told_is (statements_of n) lit (record { statement = says.Before rel attr later earlier; negative = true }) told))
+    (numbered_at n (var_of lit) (says.Before rel attr later earlier)
+    (told_is (statements_of n) lit (record { statement = says.Before rel attr later earlier; negative = true }) told))
 
 -- so is a row that is said to stand last
-pub top_said : (n : Numbers) (rel : RelId) (attr : AttrId) (row : RowId) (lit : Lit) → Says (statements_of n) lit (top rel attr row) → IsRowOf n rel.0 attr.0 row
-top_said n rel attr row lit (inl told) = numbered_at n (var_of lit) (says.Top rel attr row) (told_is (statements_of n) lit (top rel attr row) told)
-top_said n rel attr row lit (inr told) = numbered_at n (var_of lit) (says.Top rel attr row) (told_is (statements_of n) lit (top rel attr row) told)
+pub top_said : (n : Numbers) (rel : RelId) (attr : AttrId) (row : RowId) (lit : Lit) → Says (statements_of n) lit
+    (top rel attr row) → IsRowOf n rel.0 attr.0 row
+top_said n rel attr row lit (inl told) = numbered_at n (var_of lit) (says.Top rel attr row)
+    (told_is (statements_of n) lit (top rel attr row) told)
+top_said n rel attr row lit (inr told) = numbered_at n (var_of lit) (says.Top rel attr row)
+    (told_is (statements_of n) lit (top rel attr row) told)
 
 -- and a value that is said to be current
-pub last_said : (n : Numbers) (rel : RelId) (attr : AttrId) (row : RowId) (lit : Lit) → Says (statements_of n) lit (last rel attr row)
+pub last_said : (n : Numbers) (rel : RelId) (attr : AttrId) (row : RowId) (lit : Lit) → Says (statements_of n) lit
+    (last rel attr row)
     → IsNumbered n (says.Last rel attr row)
-last_said n rel attr row lit (inl told) = numbered_at n (var_of lit) (says.Last rel attr row) (told_is (statements_of n) lit (last rel attr row) told)
-last_said n rel attr row lit (inr told) = numbered_at n (var_of lit) (says.Last rel attr row) (told_is (statements_of n) lit (last rel attr row) told)
+last_said n rel attr row lit (inl told) = numbered_at n (var_of lit) (says.Last rel attr row)
+    (told_is (statements_of n) lit (last rel attr row) told)
+last_said n rel attr row lit (inr told) = numbered_at n (var_of lit) (says.Last rel attr row)
+    (told_is (statements_of n) lit (last rel attr row) told)
 
 -- and an answer
-pub answer_said : (n : Numbers) (tuple : ℕ) (lit : Lit) → Says (statements_of n) lit (positive (says.Answer tuple)) → tuple < n.answers
-answer_said n tuple lit (inl told) = numbered_at n (var_of lit) (says.Answer tuple) (told_is (statements_of n) lit (positive (says.Answer tuple)) told)
-answer_said n tuple lit (inr told) = numbered_at n (var_of lit) (says.Answer tuple) (told_is (statements_of n) lit (positive (says.Answer tuple)) told)
+pub answer_said : (n : Numbers) (tuple : ℕ) (lit : Lit) → Says (statements_of n) lit (positive (says.Answer tuple))
+    → tuple < n.answers
+answer_said n tuple lit (inl told) = numbered_at n (var_of lit) (says.Answer tuple)
+    (told_is (statements_of n) lit (positive (says.Answer tuple)) told)
+answer_said n tuple lit (inr told) = numbered_at n (var_of lit) (says.Answer tuple)
+    (told_is (statements_of n) lit (positive (says.Answer tuple)) told)

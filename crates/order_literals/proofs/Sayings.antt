@@ -132,7 +132,8 @@ one_said statements lit s t (inr e) (inl f) = inr (same_Some t (turned s) (sym f
 one_said statements lit s t (inr e) (inr f) =
     inl (sym (turned_twice t) ∙ ap turned (same_Some (turned t) (turned s) (sym f ∙ e)) ∙ turned_twice s)
 
-told_within : (statements : List Statement) (lit : Lit) (s : Said) → told_by statements lit ≡ Some s → var_of lit < length statements
+told_within : (statements : List Statement) (lit : Lit) (s : Said) → told_by statements lit ≡ Some s
+    → var_of lit < length statements
 told_within statements lit s e = slice_get_within statements (var_of lit) s.statement (tells statements lit s e).at
 
 pub says_within : (statements : List Statement) (lit : Lit) (s : Said) → Says statements lit s → var_of lit < length statements
@@ -167,7 +168,8 @@ one_way n i j (says.Top rel attr row) negative e f = refl
 one_way n i j (says.Last rel attr row) negative e f = refl
 one_way n i j (says.Answer tuple) negative e f = refl
 
-one_told : (n : Numbers) (a b : Lit) (s : Said) → told_by (statements_of n) a ≡ Some s → told_by (statements_of n) b ≡ Some s → a ≡ b
+one_told : (n : Numbers) (a b : Lit) (s : Said) → told_by (statements_of n) a ≡ Some s → told_by (statements_of n)
+    b ≡ Some s → a ≡ b
 one_told n a b s e f =
     let of_a = tells (statements_of n) a s e in
     let of_b = tells (statements_of n) b s f in

@@ -22,7 +22,8 @@ starts_split starts var around i j d order within passes =
 
 -- and the variable lies before the next
 pub lies_at : (starts : List ℕ) (var i : ℕ) → AreAround starts var → i ≤ length starts
-    → IsPartitionPoint (λ (start : ℕ). nat_le start var ≡ true) (λ (start : ℕ). nat_le start var ≡ false) starts i → LiesAt starts var i
+    → IsPartitionPoint (λ (start : ℕ). nat_le start var ≡ true) (λ (start : ℕ). nat_le start var ≡ false) starts i
+    → LiesAt starts var i
 lies_at starts var i around bound point = by (cases_lt 0 i) (cases_lt i (length starts))
   where
     by : (0 < i) ⊎ (i ≤ 0) → (i < length starts) ⊎ (length starts ≤ i) → LiesAt starts var i
@@ -33,7 +34,8 @@ lies_at starts var i around bound point = by (cases_lt 0 i) (cases_lt i (length 
       to = leb-false (get_or starts i 0) var (point.1 i 0 (omega arith) within);
     }
     by (inl some) (inr past) =
-        let fails = leb-true (get_or starts (length starts - 1) 0) var (point.0 (length starts - 1) 0 (omega arith) (omega arith)) in
+        let fails = leb-true (get_or starts (length starts - 1) 0) var (point.0 (length starts - 1) 0 (omega arith)
+        (omega arith)) in
         absurd (omega (arith, around.last))
     by (inr none) other =
         let least : i ≡ 0 = omega arith in

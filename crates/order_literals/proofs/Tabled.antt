@@ -17,13 +17,16 @@ use Rattle.order_literals.proofs.Callers.{table_at}
 use Rattle.order_literals.proofs.Lengths.{count_of_row_ids}
 
 -- there are as many as relations
-pub count_of_tables : (currents : List RelId) (first : ℕ) (relations : List Relation) → length (tables_from currents first relations) ≡ length relations
+pub count_of_tables : (currents : List RelId) (first : ℕ) (relations : List Relation)
+    → length (tables_from currents first relations) ≡ length relations
 count_of_tables currents first [] = refl
 count_of_tables currents first (r ∷ relations) = ap suc (count_of_tables currents (first + 1) relations)
 
 -- the table of one more relation
-pub table_more : (currents : List RelId) (relations : List Relation) (rel : ℕ) (r : Relation) (xs ys : List Numbered) (t : Numbered)
-    → slice_get relations rel ≡ Some r → xs ≡ take rel (tables_from currents 0 relations) → t ≡ numbered_as (is_wanted currents rel) r
+pub table_more : (currents : List RelId) (relations : List Relation) (rel : ℕ) (r : Relation) (xs ys : List Numbered)
+    (t : Numbered)
+    → slice_get relations rel ≡ Some r → xs ≡ take rel (tables_from currents 0 relations) → t ≡ numbered_as
+    (is_wanted currents rel) r
     → ys ≡ xs ++ t ∷ [] → ys ≡ take (rel + 1) (tables_from currents 0 relations)
 table_more currents relations rel r xs ys t at before is pushed =
     let tables = tables_from currents 0 relations in
@@ -45,7 +48,8 @@ tables_all currents relations rel e =
 names_fit : (r : Relation) → AreNames (length r.attrs) (length (entities_of r.rows)) (value_names_of r)
 names_fit r = record {
   per_attr = length-map-range_with_len (names_of r.rows) 0 (length r.attrs);
-  per_row = All-map (λ (list : List RowId). length list ≡ length (entities_of r.rows)) (names_of r.rows) (range_with_len 0 (length r.attrs))
+  per_row = All-map (λ (list : List RowId). length list ≡ length (entities_of r.rows)) (names_of r.rows)
+      (range_with_len 0 (length r.attrs))
       (λ k d within. same (get_or (range_with_len 0 (length r.attrs)) k d));
 }
   where
@@ -57,6 +61,7 @@ names_fit r = record {
         omega arith
 
 -- where they are wanted
-pub wanted_fit : (wanted : Bool) (r : Relation) → IfSome (numbered_as wanted r).names (AreNames (length r.attrs) (length (entities_of r.rows)))
+pub wanted_fit : (wanted : Bool) (r : Relation) → IfSome (numbered_as wanted r).names
+    (AreNames (length r.attrs) (length (entities_of r.rows)))
 wanted_fit true r = names_fit r
 wanted_fit false r = tt

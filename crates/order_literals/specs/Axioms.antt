@@ -68,7 +68,8 @@ pub record IsCopyAxiom (s : Spec) (copy : CopyFunction) (place : ℕ) (first sec
   pub second_from : source_at copy second ≡ Some second_source
   pub targets : AreTwo target.rows first second
   pub sources : AreTwo source.rows first_source second_source
-  pub clause_is : clause ≡ not_before copy.source at.source first_source second_source ∷ before copy.target at.target first second ∷ []
+  pub clause_is : clause ≡ not_before copy.source at.source first_source second_source ∷ before copy.target at.target
+      first second ∷ []
 
 -- the clause of a label; a label whose condition does not hold has none
 abbrev pub IsAxiom : Spec → Label → List Said → Type 0

@@ -9,7 +9,8 @@ use Rattle.order_literals.specs.Statements.{statements_of}
 
 -- how many variables there are, where the current values of these relations are wanted and there are so many answers
 abbrev pub variables_of : Spec → List RelId → ℕ → ℕ
-variables_of s currents answers = length (statements_of (numbers_of s.relations (record { currents = currents; answers = answers })))
+variables_of s currents answers =
+    length (statements_of (numbers_of s.relations (record { currents = currents; answers = answers })))
 
 -- a number is at least three to the number of the variables: with the answers over each consistent completion, of which there
 -- are as many as is told of it, and with none

@@ -21,7 +21,8 @@ OneLiteral = (n : Numbers) (a b : Lit) (s : Said) → Says (statements_of n) a s
 
 -- what one literal says is one thing, or the same in other words
 abbrev pub OneSaid : Type 0
-OneSaid = (statements : List Statement) (lit : Lit) (s t : Said) → Says statements lit s → Says statements lit t → (t ≡ s) ⊎ (t ≡ turned s)
+OneSaid = (statements : List Statement) (lit : Lit) (s t : Said) → Says statements lit s → Says statements lit t →
+    (t ≡ s) ⊎ (t ≡ turned s)
 
 -- a literal that says something is of a statement
 abbrev pub SaysWithin : Type 0
@@ -34,14 +35,16 @@ NegationSays = (statements : List Statement) (lit : Lit) (s : Said) → Says sta
 
 -- a literal of a variable, or its negation, is true, and not both
 abbrev pub LiteralIsDecided : Type 0
-LiteralIsDecided = (truths : List Bool) (lit : Lit) → var_of lit < length truths → IsLitTrue truths lit ⊎ IsLitTrue truths (negation lit)
+LiteralIsDecided = (truths : List Bool) (lit : Lit) → var_of lit < length truths → IsLitTrue truths lit ⊎ IsLitTrue
+    truths (negation lit)
 
 abbrev pub LiteralsExclude : Type 0
 LiteralsExclude = (truths : List Bool) (lit : Lit) → IsLitTrue truths lit → IsLitTrue truths (negation lit) → ⊥
 
 -- of two different rows of one entity, the first stands before the second or the second before the first
 abbrev pub PairIsDecided : Type 0
-PairIsDecided = (n : Numbers) (truths : List Bool) → length truths ≡ length (statements_of n) → (rel : RelId) (attr : AttrId) (t u : RowId)
+PairIsDecided = (n : Numbers) (truths : List Bool) → length truths ≡ length (statements_of n) →
+    (rel : RelId) (attr : AttrId) (t u : RowId)
     → IsPairOf n rel.0 attr.0 t u
     → IsSaidTrue (statements_of n) truths (before rel attr t u) ⊎ IsSaidTrue (statements_of n) truths (before rel attr u t)
 

@@ -51,7 +51,8 @@ turned s = by s.statement
 
 -- what a literal says by the statement of its variable
 abbrev pub told_by : List Statement → Lit → Option Said
-told_by statements lit = option_map (λ s. record { statement = s; negative = is_negative lit }) (slice_get statements (var_of lit))
+told_by statements lit = option_map (λ s. record { statement = s; negative = is_negative lit })
+    (slice_get statements (var_of lit))
 
 -- a literal says a statement with a sign: its variable's statement with its sign is this, or this in other words
 abbrev pub Says : List Statement → Lit → Said → Type 0

@@ -51,7 +51,8 @@ pub record OneHolds (relations : List Relation) (c : Rankings) (answers : ℕ �
   pub holds : Holds relations c answers said
 
 -- the truth of the statements in a completion: a variable is true exactly where its statement is
-pub record IsTruth (relations : List Relation) (c : Rankings) (answers : ℕ → Type 0) (statements : List Statement) (truths : List Bool) : Type 0 where
+pub record IsTruth (relations : List Relation) (c : Rankings) (answers : ℕ → Type 0) (statements : List Statement)
+    (truths : List Bool) : Type 0 where
   pub per_variable : length truths ≡ length statements
   pub each : (var : ℕ) (s : Statement) (truth : Bool) → slice_get statements var ≡ Some s → slice_get truths var ≡ Some truth
       → Holds relations c answers (record { statement = s; negative = not truth })

@@ -34,7 +34,8 @@ pub(crate) fn firsts_of(alloc: Global, tables: &[Table]) -> Result<Vec<u32>, NoM
 /// All blocks: by kind, then by relation, then by attribute.
 pub(crate) fn all_blocks(alloc: Global, tables: &[Table]) -> Result<Vec<Block>, NoMemory>
     requires { length tables.now < 2 ^ 32 }
-    ensures { IfOk result (λ blocks. (answers : ℕ) → blocks.items ≡ blocks_of (record { tables = tables.now; answers = answers })) }
+    ensures { IfOk result (λ blocks. (answers : ℕ) → blocks.items ≡ blocks_of
+        (record { tables = tables.now; answers = answers })) }
 {
     let mut blocks = Vec::new(alloc);
     let Ok(()) = push_kind(&mut blocks, BlockKind::Pairs, tables) else {

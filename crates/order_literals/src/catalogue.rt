@@ -33,7 +33,8 @@ impl Model for Catalogue {
 
     ghost view = { λ c. record { tables = c.tables.items; answers = c.answers } };
 
-    ghost invariant = { λ c. AreLaidOut (record { tables = c.tables.items; answers = c.answers }) c.firsts.items c.blocks.items c.starts.items };
+    ghost invariant = { λ c. AreLaidOut (record { tables = c.tables.items; answers = c.answers }) c.firsts.items
+        c.blocks.items c.starts.items };
 }
 
 impl Catalogue {
@@ -172,7 +173,8 @@ impl Catalogue {
 fn place_of(tables: &[Table], firsts: &[u32], kind: BlockKind, rel: RelId, attr: AttrId) -> usize
     requires firsts { firsts.now ≡ firsts_of_tables tables.now }
     requires place { HasPlace tables.now rel.0 attr.0 }
-    ensures { (answers : ℕ) → slice_get (blocks_of (record { tables = tables.now; answers = answers })) result ≡ Some (block_of kind rel attr) }
+    ensures { (answers : ℕ) → slice_get (blocks_of (record { tables = tables.now; answers = answers })) result ≡ Some
+        (block_of kind rel attr) }
 {
     let within = firsts[rel.0 as usize] as usize + attr.0 as usize;
     let places = firsts[tables.len()] as usize;

@@ -12,7 +12,8 @@ use Rattle.order_search.specs.Searches.{Subject}
 use Rattle.order_search.proofs.Growing.{asked_axioms, axioms_next}
 use Rattle.order_search.proofs.Marking.{none_marked}
 
-pub held_begun : (s : Subject) (solver : Solver) → IsWithin s.spec → IsPosed (posed_of s solver.frame) → s.wanted.answers ≡ length solver.frame.answers
+pub held_begun : (s : Subject) (solver : Solver) → IsWithin s.spec → IsPosed (posed_of s solver.frame)
+    → s.wanted.answers ≡ length solver.frame.answers
     → solver.frame.statements ≡ vars_of s → AreAxioms s.spec s.wanted.currents (vars_of s) solver.steps
     → IsHeld s solver (replicate (length (vars_of s)) false)
 held_begun s solver within is_posed many statements are =

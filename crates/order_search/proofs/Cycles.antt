@@ -38,7 +38,8 @@ of_list s truths c is = record {
   ent_within = is.ent_within;
   first_of = is.first_second.first_of;
   second_of = is.first_second.second_of;
-  pair = said_of_pairs (numbers_of s.spec.relations s.wanted) is.first_second.put.lit c.rel c.attr c.first c.second false is.first_second.put.says;
+  pair = said_of_pairs (numbers_of s.spec.relations s.wanted) is.first_second.put.lit c.rel c.attr c.first c.second
+      false is.first_second.put.says;
 }
 
 pub of_lists : (s : Subject) (truths : List Bool) (cycles : List Cycle) → All (IsCycle s.spec.relations (vars_of s) truths) cycles
@@ -50,7 +51,8 @@ of_lists s truths cycles all = λ k d h. of_list s truths (get_or cycles k d) (a
 clause_in : (steps : List Step) (taken : Step) → Contains steps taken → Contains (clauses_of steps) (clause_of taken)
 clause_in steps taken c =
     let at = stands_at steps taken c in
-    contains_at (clauses_of steps) at.0 (clause_of taken) (slice_get-map clause_of steps at.0 ∙ ap (λ o. option_map clause_of o) at.1)
+    contains_at (clauses_of steps) at.0 (clause_of taken) (slice_get-map clause_of steps at.0
+    ∙ ap (λ o. option_map clause_of o) at.1)
 
 among_three : (x a b c : Said) → Contains (a ∷ b ∷ c ∷ []) x → (x ≡ a) ⊎ ((x ≡ b) ⊎ (x ≡ c))
 among_three x a b c is = go (stands_at (a ∷ b ∷ c ∷ []) x is)
@@ -75,7 +77,8 @@ module _ (s : Subject) (steps : List Step) (truths : List Bool) (c : Cycle) (hol
 
   clause : List Said
   clause =
-      not_before c.rel c.attr c.first c.second ∷ not_before c.rel c.attr c.second c.third ∷ before c.rel c.attr c.first c.third ∷ []
+      not_before c.rel c.attr c.first c.second ∷ not_before c.rel c.attr c.second c.third ∷ before c.rel c.attr
+      c.first c.third ∷ []
 
   is_axiom : IsAxiom s.spec (label.Transitive c.rel c.attr c.first c.second c.third) clause
   unfolding clause two_of
@@ -93,7 +96,8 @@ module _ (s : Subject) (steps : List Step) (truths : List Bool) (c : Cycle) (hol
       )
 
   one_false : (said : Said) → (said ≡ not_before c.rel c.attr c.first c.second)
-      ⊎ ((said ≡ not_before c.rel c.attr c.second c.third) ⊎ (said ≡ before c.rel c.attr c.first c.third)) → IsSaidTrue (vars_of s) truths said → ⊥
+      ⊎ ((said ≡ not_before c.rel c.attr c.second c.third) ⊎ (said ≡ before c.rel c.attr c.first c.third))
+      → IsSaidTrue (vars_of s) truths said → ⊥
   one_false said (inl e) t =
       said_exclude (numbers_of s.spec.relations s.wanted) truths (before c.rel c.attr c.first c.second) is.first_second.put
       (subst (IsSaidTrue (vars_of s) truths) e t)
@@ -101,7 +105,8 @@ module _ (s : Subject) (steps : List Step) (truths : List Bool) (c : Cycle) (hol
       said_exclude (numbers_of s.spec.relations s.wanted) truths (before c.rel c.attr c.second c.third) is.second_third.put
       (subst (IsSaidTrue (vars_of s) truths) e t)
   one_false said (inr (inr e)) t =
-      pair_exclude (numbers_of s.spec.relations s.wanted) truths c.rel c.attr c.first c.third (subst (IsSaidTrue (vars_of s) truths) e t)
+      pair_exclude (numbers_of s.spec.relations s.wanted) truths c.rel c.attr c.first c.third
+      (subst (IsSaidTrue (vars_of s) truths) e t)
       is.third_first.put
 
   refuted : HaveThrees s steps c.rel c.attr c.ent.0 → ⊥
@@ -112,13 +117,15 @@ module _ (s : Subject) (steps : List Step) (truths : List Bool) (c : Cycle) (hol
       (clause_in steps (Axiom stands.label stands.lits) stands.is_in) in
       let told = All-contains (SaysOneOf (vars_of s) clause) stands.lits one.lit stands.are_lits.each one.is_in in
       one_false told.said
-      (among_three told.said (not_before c.rel c.attr c.first c.second) (not_before c.rel c.attr c.second c.third) (before c.rel c.attr c.first c.third) told.is_in)
+      (among_three told.said (not_before c.rel c.attr c.first c.second) (not_before c.rel c.attr c.second c.third)
+      (before c.rel c.attr c.first c.third) told.is_in)
       (record { lit = one.lit; says = told.says; is_true = one.is_true })
 
 -- ---- the variable of two rows
 
 -- the statement of a literal that says which of two rows stands before the other
-said_either : (s : Subject) (lit : Lit) (rel : RelId) (attr : AttrId) (first second : RowId) → Says (vars_of s) lit (before rel attr first second)
+said_either : (s : Subject) (lit : Lit) (rel : RelId) (attr : AttrId) (first second : RowId) → Says (vars_of s) lit
+    (before rel attr first second)
     → (slice_get (vars_of s) (var_of lit) ≡ Some (says.Before rel attr first second))
     ⊎ (slice_get (vars_of s) (var_of lit) ≡ Some (says.Before rel attr second first))
 said_either s lit rel attr first second (inl e) = inl (tells (vars_of s) lit (before rel attr first second) e).at
@@ -130,25 +137,30 @@ parts : (rel rel' : RelId) (attr attr' : AttrId) (a a' b b' : RowId) → says.Be
     → (rel ≡ rel') × (attr ≡ attr') × (a ≡ a')
 parts rel rel' attr attr' a a' b b' e = (cc, cc, cc)
 
-module _ (s : Subject) (steps : List Step) (c : Cycle) (is : IsOfList s c) (lit : Lit) (lit_says : Says (vars_of s) lit (before c.rel c.attr c.first c.second)) where
+module _ (s : Subject) (steps : List Step) (c : Cycle) (is : IsOfList s c) (lit : Lit)
+    (lit_says : Says (vars_of s) lit (before c.rel c.attr c.first c.second)) where
   -- a list that is brought in may be marked
   pub brought_of : HaveThrees s steps c.rel c.attr c.ent.0 → IsBrought s steps (var_of lit)
   brought_of threes rel attr first second at r is_r ent of = go (said_either s lit c.rel c.attr c.first c.second lit_says)
     where
-      moved : (a b : RowId) → slice_get (vars_of s) (var_of lit) ≡ Some (says.Before c.rel c.attr a b) → entity_of is.relation.rows a.0 ≡ Some c.ent.0
+      moved : (a b : RowId) → slice_get (vars_of s) (var_of lit) ≡ Some (says.Before c.rel c.attr a b)
+          → entity_of is.relation.rows a.0 ≡ Some c.ent.0
           → HaveThrees s steps rel attr ent
       moved a b told of_a =
-          let same = parts c.rel rel c.attr attr a first b second (same_Some (says.Before c.rel c.attr a b) (says.Before rel attr first second) (sym told ∙ at)) in
+          let same = parts c.rel rel c.attr attr a first b second (same_Some (says.Before c.rel c.attr a b)
+          (says.Before rel attr first second) (sym told ∙ at)) in
           let here : r ≡ is.relation =
           same_Some r is.relation (sym is_r ∙ ap (λ (i : RelId). slice_get s.spec.relations i.0) (sym same.0) ∙ is.is_relation) in
           let ents : c.ent.0 ≡ ent =
           same_Some c.ent.0 ent (sym of_a ∙ ap (λ (row : RowId). entity_of is.relation.rows row.0) same.2
           ∙ ap (λ (q : Relation). entity_of q.rows first.0) (sym here) ∙ of) in
           subst (λ (i : RelId). HaveThrees s steps i attr ent) same.0
-          (subst (λ (i : AttrId). HaveThrees s steps c.rel i ent) same.1 (subst (λ (i : ℕ). HaveThrees s steps c.rel c.attr i) ents threes))
+          (subst (λ (i : AttrId). HaveThrees s steps c.rel i ent) same.1
+          (subst (λ (i : ℕ). HaveThrees s steps c.rel c.attr i) ents threes))
 
       go : (slice_get (vars_of s) (var_of lit) ≡ Some (says.Before c.rel c.attr c.first c.second))
-          ⊎ (slice_get (vars_of s) (var_of lit) ≡ Some (says.Before c.rel c.attr c.second c.first)) → HaveThrees s steps rel attr ent
+          ⊎ (slice_get (vars_of s) (var_of lit) ≡ Some (says.Before c.rel c.attr c.second c.first))
+          → HaveThrees s steps rel attr ent
       go (inl told) = moved c.first c.second told is.first_of
       go (inr told) = moved c.second c.first told is.second_of
 
@@ -157,7 +169,8 @@ module _ (s : Subject) (steps : List Step) (c : Cycle) (is : IsOfList s c) (lit 
   threes_of brought = go (said_either s lit c.rel c.attr c.first c.second lit_says)
     where
       go : (slice_get (vars_of s) (var_of lit) ≡ Some (says.Before c.rel c.attr c.first c.second))
-          ⊎ (slice_get (vars_of s) (var_of lit) ≡ Some (says.Before c.rel c.attr c.second c.first)) → HaveThrees s steps c.rel c.attr c.ent.0
+          ⊎ (slice_get (vars_of s) (var_of lit) ≡ Some (says.Before c.rel c.attr c.second c.first))
+          → HaveThrees s steps c.rel c.attr c.ent.0
       go (inl told) = brought c.rel c.attr c.first c.second told is.relation is.is_relation c.ent.0 is.first_of
       go (inr told) = brought c.rel c.attr c.second c.first told is.relation is.is_relation c.ent.0 is.second_of
 
@@ -165,10 +178,12 @@ module _ (s : Subject) (steps : List Step) (c : Cycle) (is : IsOfList s c) (lit 
   pub brings : (marks : List Bool) → AreBrought s steps marks → Brings s c steps marks (slice_set marks (var_of lit) true)
   brings marks were truths holds cycle =
       let below : var_of lit < length marks =
-      let w = says_within (vars_of s) lit (before c.rel c.attr c.first c.second) lit_says in omega (arith, w, were.per_variable) in
+      let w = says_within (vars_of s) lit (before c.rel c.attr c.first c.second) lit_says in omega
+      (arith, w, were.per_variable) in
       go (get_or marks (var_of lit) true) (slice_get-get_or marks (var_of lit) true below)
     where
-      go : (mark : Bool) → slice_get marks (var_of lit) ≡ Some mark → unmarked (slice_set marks (var_of lit) true) < unmarked marks
+      go : (mark : Bool) → slice_get marks (var_of lit) ≡ Some mark → unmarked (slice_set marks (var_of lit) true) <
+          unmarked marks
       go true e = absurd (refuted s steps truths c holds cycle (threes_of (were.marked (var_of lit) e)))
       go false e = unmarked_fewer marks (var_of lit) e
 
@@ -179,24 +194,31 @@ module _ (s : Subject) (c : Cycle) (is : IsOfList s c) (old new : List Bool) (ma
   marked_held solver held threes = record {
     search = held.search;
     lists = subst (AreBrought s solver.steps) (sym marked.marks)
-        (brought_mark s solver.steps old (var_of marked.lit) held.lists (brought_of s solver.steps c is marked.lit marked.lit_says threes));
+        (brought_mark s solver.steps old (var_of marked.lit) held.lists
+        (brought_of s solver.steps c is marked.lit marked.lit_says threes));
   }
 
   pub marked_later : unmarked new ≤ unmarked old
-  marked_later = let later = unmarked_later old (var_of marked.lit) in subst (λ (marks : List Bool). unmarked marks ≤ unmarked old) (sym marked.marks) later
+  marked_later = let later = unmarked_later old (var_of marked.lit) in subst
+      (λ (marks : List Bool). unmarked marks ≤ unmarked old) (sym marked.marks) later
 
   pub marked_brings : (steps : List Step) → AreBrought s steps old → Brings s c steps old new
   marked_brings steps were =
-      subst (λ (marks : List Bool). Brings s c steps old marks) (sym marked.marks) (brings s steps c is marked.lit marked.lit_says old were)
+      subst (λ (marks : List Bool). Brings s c steps old marks) (sym marked.marks)
+      (brings s steps c is marked.lit marked.lit_says old were)
 
 -- ---- one cycle after another
 
-pub in_none : (s : Subject) (cycles : List Cycle) (steps : List Step) (marks : List Bool) → AreBroughtIn s cycles 0 steps marks steps marks
+pub in_none : (s : Subject) (cycles : List Cycle) (steps : List Step) (marks : List Bool) → AreBroughtIn s cycles 0
+    steps marks steps marks
 in_none s cycles steps marks = record { later = omega arith; begun = λ e. (refl, refl); fewer = λ h. absurd (omega (arith, h)) }
 
-pub in_more : (s : Subject) (cycles : List Cycle) (place : ℕ) (c : Cycle) (first_steps : List Step) (first : List Bool) (old_steps : List Step) (old : List Bool)
-    (new_steps : List Step) (new : List Bool) → slice_get cycles place ≡ Some c → AreBroughtIn s cycles place first_steps first old_steps old
-    → unmarked new ≤ unmarked old → Brings s c old_steps old new → AreBroughtIn s cycles (place + 1) first_steps first new_steps new
+pub in_more : (s : Subject) (cycles : List Cycle) (place : ℕ) (c : Cycle) (first_steps : List Step)
+    (first : List Bool) (old_steps : List Step) (old : List Bool)
+    (new_steps : List Step) (new : List Bool) → slice_get cycles place ≡ Some c → AreBroughtIn s cycles place
+    first_steps first old_steps old
+    → unmarked new ≤ unmarked old → Brings s c old_steps old new → AreBroughtIn s cycles (place + 1) first_steps
+    first new_steps new
 in_more s cycles zero c first_steps first old_steps old new_steps new at so_far later fewer = record {
   later = omega (arith, later, so_far.later);
   begun = λ e. absurd (omega (arith, e));
@@ -213,8 +235,11 @@ in_more s cycles (suc place) c first_steps first old_steps old new_steps new at 
   fewer = λ h truths holds all. let one = so_far.fewer (omega arith) truths holds all in omega (arith, one, later);
 }
 
-pub in_all : (s : Subject) (cycles : List Cycle) (place : ℕ) (old_steps : List Step) (old : List Bool) (new_steps : List Step) (new : List Bool)
-    → length cycles ≤ place → AreBroughtIn s cycles place old_steps old new_steps new → (truths : List Bool) → AreTrue truths old_steps
+pub in_all : (s : Subject) (cycles : List Cycle) (place : ℕ) (old_steps : List Step) (old : List Bool)
+    (new_steps : List Step) (new : List Bool)
+    → length cycles ≤ place → AreBroughtIn s cycles place old_steps old new_steps new → (truths : List Bool)
+    → AreTrue truths old_steps
     → All (IsCycle s.spec.relations (vars_of s) truths) cycles → cycles ≢ [] → unmarked new < unmarked old
 in_all s [] place old_steps old new_steps new past so_far truths holds all some = absurd (some refl)
-in_all s (c ∷ cycles) place old_steps old new_steps new past so_far truths holds all some = so_far.fewer (omega (arith, past)) truths holds all
+in_all s (c ∷ cycles) place old_steps old new_steps new past so_far truths holds all some = so_far.fewer
+    (omega (arith, past)) truths holds all

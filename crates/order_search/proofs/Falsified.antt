@@ -1,5 +1,5 @@
--- Truths of all statements: what they make of literals; a clause that is false under truths that make the others true is new; and a log
--- whose clauses are true is open.
+-- Truths of all statements: what they make of literals; a clause that is false under truths that make the others true
+-- is new; and a log whose clauses are true is open.
 use Rattle.std.proofs.Common.{◌≡◌, ◌∙◌, ◌<◌, ℕ, Bool, true, false, not, if◌then◌else◌, List, [], All, Contains, map, inl, refl, sym, subst, arith}
 use Rattle.std.specs.List.{range_with_len}
 use Rattle.std.proofs.lemmas.Bool.{false≢true}
@@ -24,7 +24,8 @@ holds_by : (truth : ℕ → Bool) (lit : Lit) (var : ℕ) (negative : Bool) → 
     → holds truth lit ≡ (if negative then not (truth var) else truth var)
 holds_by truth lit var negative v n = rw (v, n) refl
 
-one_of_two : (negative truth : Bool) → (if negative then not truth else truth) ≡ false → (if not negative then not truth else truth) ≡ true
+one_of_two : (negative truth : Bool) → (if negative then not truth else truth) ≡ false →
+    (if not negative then not truth else truth) ≡ true
 one_of_two true true e = refl
 one_of_two true false e = cc
 one_of_two false true e = cc
@@ -34,7 +35,8 @@ one_of_two false false e = refl
 pub negation_true : (truth : ℕ → Bool) (lit : Lit) → holds truth lit ≡ false → holds truth (negation lit) ≡ true
 negation_true truth lit fails =
     holds_by truth (negation lit) (var_of lit) (not (is_negative lit)) (negation_var lit) (negation_sign lit)
-    ∙ one_of_two (is_negative lit) (truth (var_of lit)) (sym (holds_by truth lit (var_of lit) (is_negative lit) refl refl) ∙ fails)
+    ∙ one_of_two (is_negative lit) (truth (var_of lit))
+    (sym (holds_by truth lit (var_of lit) (is_negative lit) refl refl) ∙ fails)
 
 -- ---- new steps
 
@@ -76,7 +78,8 @@ module _ (truth : ℕ → Bool) (n : ℕ) where
 
   made_holds : (var : ℕ) → holds truth (literal var (not (truth var))) ≡ true
   made_holds var =
-      holds_by truth (literal var (not (truth var))) var (not (truth var)) (literal_var var (not (truth var))) (literal_sign var (not (truth var)))
+      holds_by truth (literal var (not (truth var))) var (not (truth var)) (literal_var var (not (truth var)))
+      (literal_sign var (not (truth var)))
       ∙ signs (truth var)
 
   all_hold : (lit : Lit) → Contains true_lits lit → holds truth lit ≡ true
@@ -90,17 +93,21 @@ module _ (truth : ℕ → Bool) (n : ℕ) where
       let sign : not (truth var) ≡ is_negative lit =
       sign_is (is_negative lit) (truth var) (sym (holds_by truth lit var (is_negative lit) refl refl) ∙ is) in
       let same : literal var (not (truth var)) ≡ lit =
-      lit_is (literal var (not (truth var))) lit (literal_var var (not (truth var))) (literal_sign var (not (truth var)) ∙ sign) in
+      lit_is (literal var (not (truth var))) lit (literal_var var (not (truth var)))
+      (literal_sign var (not (truth var)) ∙ sign) in
       let there =
-      in_map (λ (v : ℕ). literal v (not (truth v))) (range_with_len 0 n) var (range_in 0 n var (omega arith) (omega (arith, below))) in
+      in_map (λ (v : ℕ). literal v (not (truth v))) (range_with_len 0 n) var
+      (range_in 0 n var (omega arith) (omega (arith, below))) in
       contained true_lits lit (subst (λ (x : Lit). IsIn true_lits x) same there)
 
   no_opposites : IsConsistent true_lits
   no_opposites lit here there =
       let yes_here = all_hold lit here in
       let yes_there = all_hold (negation lit) there in
-      absurd (never (is_negative lit) (truth (var_of lit)) (sym (holds_by truth lit (var_of lit) (is_negative lit) refl refl) ∙ yes_here)
-      (sym (holds_by truth (negation lit) (var_of lit) (not (is_negative lit)) (negation_var lit) (negation_sign lit)) ∙ yes_there))
+      absurd (never (is_negative lit) (truth (var_of lit))
+      (sym (holds_by truth lit (var_of lit) (is_negative lit) refl refl) ∙ yes_here)
+      (sym (holds_by truth (negation lit) (var_of lit) (not (is_negative lit)) (negation_var lit)
+      (negation_sign lit)) ∙ yes_there))
     where
       never : (negative b : Bool) → (if negative then not b else b) ≡ true → (if not negative then not b else b) ≡ true → ⊥
       never true true e f = cc
@@ -109,14 +116,21 @@ module _ (truth : ℕ → Bool) (n : ℕ) where
       never false false e f = cc
 
 -- where each clause has a literal that holds, unit propagation over them is at rest under the literals that hold
-pub open_where : (truths : List Bool) (steps : List Step) (n : ℕ) → All (λ step. IsFit n (clause_of step)) steps → AreClausesTrue truths steps → IsOpenLog steps
+pub open_where : (truths : List Bool) (steps : List Step) (n : ℕ) → All (λ step. IsFit n (clause_of step)) steps
+    → AreClausesTrue truths steps → IsOpenLog steps
 open_where truths steps n fit all = record {
   truths = true_lits (truth_in truths) n;
   consistent = no_opposites (truth_in truths) n;
   at_rest = all_of (IsAtRest (true_lits (truth_in truths) n)) (clauses_of steps) (λ clause at.
-      let one = All-contains (λ c. (lit : Lit) × Contains c lit × (holds (truth_in truths) lit ≡ true)) (clauses_of steps) clause all at in
+      let one = All-contains (λ c. (lit : Lit) × Contains c lit × (holds (truth_in truths) lit ≡ true))
+      (clauses_of steps) clause all at in
       let its : IsFit n clause = All-contains (IsFit n) (clauses_of steps) clause (All-map (IsFit n) clause_of steps fit) at in
       let below : var_of one.0 < n = All-contains (λ (lit : Lit). var_of lit < n) clause one.0 its.within one.1 in
-      let r : HasTrue (true_lits (truth_in truths) n) clause = record { lit = one.0; is_in = one.1; is_true = stands (truth_in truths) n one.0 below one.2 } in
+      let r : HasTrue (true_lits (truth_in truths) n) clause = record {
+        lit = one.0;
+        is_in = one.1;
+        is_true =
+            stands (truth_in truths) n one.0 below one.2;
+      } in
       inl r);
 }

@@ -31,9 +31,11 @@ take_front : (old added new : List Step) (place : ℕ) → new ≡ old ++ added 
 take_front old added new place is h = ap (take place) is ∙ take-append-le place old added h
 
 -- what stands before the end stood there before
-stood : (old added new : List Step) (place : ℕ) (taken : Step) → new ≡ old ++ added → place < length old → slice_get new place ≡ Some taken
+stood : (old added new : List Step) (place : ℕ) (taken : Step) → new ≡ old ++ added → place < length old
+    → slice_get new place ≡ Some taken
     → slice_get old place ≡ Some taken
-stood old added new place taken is h at = get_front old added place taken h (ap (λ (ss : List Step). slice_get ss place) (sym is) ∙ at)
+stood old added new place taken is h at = get_front old added place taken h
+    (ap (λ (ss : List Step). slice_get ss place) (sym is) ∙ at)
 
 -- what stands behind a list is among what was put there
 pub behind : (xs ys : List Step) (i : ℕ) (x : Step) → length xs ≤ i → slice_get (xs ++ ys) i ≡ Some x → Contains ys x
@@ -55,10 +57,12 @@ pub record AreNext (s : Subject) (posed : Posed) (old new : List Step) : Type 0 
   pub added : List Step
   pub steps : new ≡ old ++ added
   pub each : (place : ℕ) (taken : Step) → length old ≤ place → slice_get new place ≡ Some taken
-      → IsSearchStep s.spec posed (vars_of s) (clauses_of (take place new)) taken × (is_counted taken ≡ true → IsNew (clauses_of (take place new)) taken)
+      → IsSearchStep s.spec posed (vars_of s) (clauses_of (take place new)) taken ×
+      (is_counted taken ≡ true → IsNew (clauses_of (take place new)) taken)
 
 -- a list that was brought in stays so
-brought_more : (s : Subject) (old added new : List Step) (brought : List Bool) → new ≡ old ++ added → AreBrought s old brought → AreBrought s new brought
+brought_more : (s : Subject) (old added new : List Step) (brought : List Bool) → new ≡ old ++ added
+    → AreBrought s old brought → AreBrought s new brought
 brought_more s old added new brought is were = record {
   per_variable = were.per_variable;
   marked = λ var mark rel attr first second at r is_r ent of r' is_r' a b c of_a clause ax.
@@ -72,9 +76,11 @@ brought_more s old added new brought is were = record {
       };
 }
 
-module _ (s : Subject) (solver new : Solver) (brought : List Bool) (held : IsHeld s solver brought) (frame : new.frame ≡ solver.frame)
+module _ (s : Subject) (solver new : Solver) (brought : List Bool) (held : IsHeld s solver brought)
+    (frame : new.frame ≡ solver.frame)
     (next : AreNext s (posed_of s solver.frame) solver.steps new.steps) where
-  search_steps : (place : ℕ) (taken : Step) → slice_get new.steps place ≡ Some taken → (place < length solver.steps) ⊎ (length solver.steps ≤ place)
+  search_steps : (place : ℕ) (taken : Step) → slice_get new.steps place ≡ Some taken → (place < length solver.steps)
+      ⊎ (length solver.steps ≤ place)
       → IsSearchStep s.spec (posed_of s solver.frame) (vars_of s) (clauses_of (take place new.steps)) taken
   search_steps place taken at (inl below) =
       subst (λ (ss : List Step). IsSearchStep s.spec (posed_of s solver.frame) (vars_of s) (clauses_of ss) taken)
@@ -100,7 +106,8 @@ module _ (s : Subject) (solver new : Solver) (brought : List Bool) (held : IsHel
         answers = refl;
         statements = ap (λ (f : Frame). f.statements) frame ∙ held.search.log.statements;
         steps = λ place taken at.
-            subst (λ (f : Frame). IsSearchStep s.spec (posed_of s f) (vars_of s) (clauses_of (take place new.steps)) taken) (sym frame)
+            subst (λ (f : Frame). IsSearchStep s.spec (posed_of s f) (vars_of s) (clauses_of (take place new.steps))
+            taken) (sym frame)
             (search_steps place taken at (cases_lt place (length solver.steps)));
       };
       begins = record {
@@ -118,7 +125,8 @@ module _ (s : Subject) (solver new : Solver) (brought : List Bool) (held : IsHel
 
 -- ---- what a solver learns
 
-learned_next : (s : Subject) (posed : Posed) (earlier : List (List Lit)) (taken : Step) → IsLearnedAfter (length (vars_of s)) earlier taken
+learned_next : (s : Subject) (posed : Posed) (earlier : List (List Lit)) (taken : Step) → IsLearnedAfter
+    (length (vars_of s)) earlier taken
     → IsSearchStep s.spec posed (vars_of s) earlier taken × (is_counted taken ≡ true → IsNew earlier taken)
 learned_next s posed earlier (Axiom l lits) learned = absurd learned
 learned_next s posed earlier (OnDemand l lits) learned = absurd learned
@@ -146,18 +154,21 @@ held_grown s solver new brought held frame grown =
 axiom_next : (s : Subject) (posed : Posed) (earlier : List (List Lit)) (taken : Step) → IsAxiomOf s taken
     → IsSearchStep s.spec posed (vars_of s) earlier taken × (is_counted taken ≡ true → IsNew earlier taken)
 axiom_next s posed earlier taken is =
-    subst (λ (t : Step). IsSearchStep s.spec posed (vars_of s) earlier t × (is_counted t ≡ true → IsNew earlier t)) (sym is.step.is_step) (
+    subst (λ (t : Step). IsSearchStep s.spec posed (vars_of s) earlier t × (is_counted t ≡ true → IsNew earlier t))
+    (sym is.step.is_step) (
       inl (record { is_step = refl; clause = is.step.clause; is_axiom = is.step.is_axiom; are_lits = is.step.are_lits }),
       λ counted. let no : ⊥ = cc in absurd no,
     )
 
-pub axioms_next : (s : Subject) (posed : Posed) (old axioms new : List Step) → new ≡ old ++ axioms → All (IsAxiomOf s) axioms → AreNext s posed old new
+pub axioms_next : (s : Subject) (posed : Posed) (old axioms new : List Step) → new ≡ old ++ axioms
+    → All (IsAxiomOf s) axioms → AreNext s posed old new
 axioms_next s posed old axioms new is all = record {
   added = axioms;
   steps = is;
   each = λ place taken h at.
       axiom_next s posed (clauses_of (take place new)) taken
-      (All-contains (IsAxiomOf s) axioms taken all (behind old axioms place taken h (ap (λ (ss : List Step). slice_get ss place) (sym is) ∙ at)));
+      (All-contains (IsAxiomOf s) axioms taken all
+      (behind old axioms place taken h (ap (λ (ss : List Step). slice_get ss place) (sym is) ∙ at)));
 }
 
 -- their literals are of the variables, none twice
@@ -177,7 +188,8 @@ axiom_fit s taken is = record {
 pub axioms_fit : (s : Subject) (axioms : List Step) → All (IsAxiomOf s) axioms → All (IsFitAxiom (length (vars_of s))) axioms
 axioms_fit s axioms all = λ k d h. axiom_fit s (get_or axioms k d) (all k d h)
 
-pub clauses_fit : (s : Subject) (axioms : List Step) → All (IsAxiomOf s) axioms → All (λ step. IsFit (length (vars_of s)) (clause_of step)) axioms
+pub clauses_fit : (s : Subject) (axioms : List Step) → All (IsAxiomOf s) axioms
+    → All (λ step. IsFit (length (vars_of s)) (clause_of step)) axioms
 clauses_fit s axioms all = λ k d h.
     let fit = axiom_fit s (get_or axioms k d) (all k d h) in
     subst (λ (t : Step). IsFit (length (vars_of s)) (clause_of t)) (sym fit.is_step) fit.fit
@@ -196,7 +208,8 @@ uncounted s (x ∷ xs) all =
     let sum = counted_cons x xs in
     omega (arith, sum, front, more)
 
-pub counted_added : (s : Subject) (old axioms new : List Step) → new ≡ old ++ axioms → All (IsAxiomOf s) axioms → counted_steps new ≡ counted_steps old
+pub counted_added : (s : Subject) (old axioms new : List Step) → new ≡ old ++ axioms → All (IsAxiomOf s) axioms
+    → counted_steps new ≡ counted_steps old
 counted_added s old axioms new is all =
     let sum = sum_by-append (λ (y : Step). cond (is_counted y) 1 0) old axioms in
     let none = uncounted s axioms all in
@@ -205,12 +218,14 @@ counted_added s old axioms new is all =
     omega (arith, sums, none, same)
 
 -- the axioms from the start, and those on three rows of a list
-pub asked_axioms : (s : Subject) (axioms : List Step) → AreAxioms s.spec s.wanted.currents (vars_of s) axioms → All (IsAxiomOf s) axioms
+pub asked_axioms : (s : Subject) (axioms : List Step) → AreAxioms s.spec s.wanted.currents (vars_of s) axioms
+    → All (IsAxiomOf s) axioms
 asked_axioms s axioms are = λ k d h.
     let one = are.each k d h in
     record { label = one.label; lits = one.lits; step = one.step }
 
-pub three_axioms : (s : Subject) (rel : RelId) (attr : AttrId) (ent : ℕ) (axioms : List Step) → AreTransitive s.spec (vars_of s) rel attr ent axioms
+pub three_axioms : (s : Subject) (rel : RelId) (attr : AttrId) (ent : ℕ) (axioms : List Step) → AreTransitive s.spec
+    (vars_of s) rel attr ent axioms
     → All (IsAxiomOf s) axioms
 three_axioms s rel attr ent axioms are = λ k d h.
     let one = are.each k d h in
@@ -230,14 +245,16 @@ have_threes s rel attr ent old axioms new is are r is_r a b c of clause ax =
     }
 
 -- some of the axioms
-pub some_axioms : (s : Subject) (count : ℕ) (axioms : List Step) → All (IsAxiomOf s) axioms → All (IsAxiomOf s) (take count axioms)
+pub some_axioms : (s : Subject) (count : ℕ) (axioms : List Step) → All (IsAxiomOf s) axioms → All (IsAxiomOf s)
+    (take count axioms)
 some_axioms s count axioms all = All-take (IsAxiomOf s) count axioms all
 
 -- where axioms were put after the others
 pub held_axioms : (s : Subject) (solver new : Solver) (brought : List Bool) → IsHeld s solver brought → new.frame ≡ solver.frame
     → HasAxioms s solver.steps new.steps → IsHeld s new brought
 held_axioms s solver new brought held frame has =
-    held_next s solver new brought held frame (axioms_next s (posed_of s solver.frame) solver.steps has.axioms new.steps has.steps has.are_axioms)
+    held_next s solver new brought held frame (axioms_next s (posed_of s solver.frame) solver.steps has.axioms
+    new.steps has.steps has.are_axioms)
 
 pub same_units : (s : Subject) (old new : List Step) → HasAxioms s old new → counted_steps new ≡ counted_steps old
 same_units s old new has = counted_added s old has.axioms new has.steps has.are_axioms
@@ -247,9 +264,15 @@ has_none s old new is = record { axioms = []; steps = is ∙ sym (append-nil old
 
 pub has_threes : (s : Subject) (rel : RelId) (attr : AttrId) (ent : ℕ) (old axioms new : List Step) → new ≡ old ++ axioms
     → AreTransitive s.spec (vars_of s) rel attr ent axioms → HasAxioms s old new
-has_threes s rel attr ent old axioms new is are = record { axioms = axioms; steps = is; are_axioms = three_axioms s rel attr ent axioms are }
+has_threes s rel attr ent old axioms new is are = record {
+  axioms = axioms;
+  steps = is;
+  are_axioms =
+      three_axioms s rel attr ent axioms are;
+}
 
-pub has_some : (s : Subject) (rel : RelId) (attr : AttrId) (ent : ℕ) (old axioms new : List Step) → (count : ℕ) × (new ≡ old ++ take count axioms)
+pub has_some : (s : Subject) (rel : RelId) (attr : AttrId) (ent : ℕ) (old axioms new : List Step) →
+    (count : ℕ) × (new ≡ old ++ take count axioms)
     → AreTransitive s.spec (vars_of s) rel attr ent axioms → HasAxioms s old new
 has_some s rel attr ent old axioms new is are = record {
   axioms = take is.0 axioms;
@@ -259,7 +282,8 @@ has_some s rel attr ent old axioms new is are = record {
 
 -- ---- one after another
 
-pub take_one : (first axioms old new : List Step) (place : ℕ) (taken : Step) → old ≡ first ++ take place axioms → new ≡ old ++ taken ∷ []
+pub take_one : (first axioms old new : List Step) (place : ℕ) (taken : Step) → old ≡ first ++ take place axioms
+    → new ≡ old ++ taken ∷ []
     → slice_get axioms place ≡ Some taken → new ≡ first ++ take (place + 1) axioms
 take_one first axioms old new place taken before after at =
     let more : take (place + 1) axioms ≡ take place axioms ++ taken ∷ [] =

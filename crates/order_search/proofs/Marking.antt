@@ -15,7 +15,8 @@ unmarked_later (false ∷ marks) zero = (omega arith)
 unmarked_later (true ∷ marks) (suc var) = let more = unmarked_later marks var in more
 unmarked_later (false ∷ marks) (suc var) = let more = unmarked_later marks var in (omega (arith, more))
 
-pub unmarked_fewer : (marks : List Bool) (var : ℕ) → slice_get marks var ≡ Some false → unmarked (slice_set marks var true) < unmarked marks
+pub unmarked_fewer : (marks : List Bool) (var : ℕ) → slice_get marks var ≡ Some false
+    → unmarked (slice_set marks var true) < unmarked marks
 unfolding unmarked
 unmarked_fewer [] var is = let no : ⊥ = cc in absurd no
 unmarked_fewer (true ∷ marks) zero is = let no : ⊥ = cc in absurd no
@@ -37,7 +38,8 @@ set_get (m ∷ marks) (suc var) (suc other) mark is = go (set_get marks var othe
     go (inl e) = inl (ap suc e)
     go (inr e) = inr e
 
-pub brought_mark : (s : Subject) (steps : List Step) (marks : List Bool) (var : ℕ) → AreBrought s steps marks → IsBrought s steps var
+pub brought_mark : (s : Subject) (steps : List Step) (marks : List Bool) (var : ℕ) → AreBrought s steps marks
+    → IsBrought s steps var
     → AreBrought s steps (slice_set marks var true)
 brought_mark s steps marks var were is = record {
   per_variable = length-set marks var true ∙ were.per_variable;

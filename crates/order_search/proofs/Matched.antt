@@ -42,7 +42,8 @@ use Rattle.order_search.proofs.Growing.{AreNext, behind, held_axioms, held_next,
 
 -- ---- what is asked of a match
 
-pub match_for : (s : Subject) (solver : Solver) (brought : List Bool) (c : Rankings) (m : Match) (answer : ℕ) → IsHeld s solver brought
+pub match_for : (s : Subject) (solver : Solver) (brought : List Bool) (c : Rankings) (m : Match) (answer : ℕ)
+    → IsHeld s solver brought
     → IsMatchOf (search_of s solver) c m answer → IsMatchFor s c m answer
 match_for s solver brought c m answer held is = record {
   query = is.query;
@@ -63,7 +64,8 @@ never_below_itself Equal e less = cc
 never_below_itself Greater e less = cc
 
 -- of ascending tuples, none stands twice
-stands_first : IsTotalOrder (slice_cmp value_cmp) → (answers : List (List Value)) → AreAscending answers → (answer : ℕ) (tuple : List Value)
+stands_first : IsTotalOrder (slice_cmp value_cmp) → (answers : List (List Value)) → AreAscending answers →
+    (answer : ℕ) (tuple : List Value)
     → slice_get answers answer ≡ Some tuple → (place : ℕ) → place < answer → slice_get answers place ≡ Some tuple → ⊥
 stands_first total answers up answer tuple at place below there =
     never_below_itself (slice_cmp value_cmp tuple tuple) (total.antisymm tuple tuple) (up place answer tuple tuple below there at)
@@ -71,15 +73,18 @@ stands_first total answers up answer tuple at place below there =
 -- ---- one step more
 
 -- what stands before the last one is all that was there
-ends : (old : List Step) (x : Step) (new : List Step) (place : ℕ) (taken : Step) → new ≡ old ++ x ∷ [] → length old ≤ place → slice_get new place ≡ Some taken
+ends : (old : List Step) (x : Step) (new : List Step) (place : ℕ) (taken : Step) → new ≡ old ++ x ∷ []
+    → length old ≤ place → slice_get new place ≡ Some taken
     → take place new ≡ old
 ends old x new place taken e high at =
     let within = slice_get_within new place taken at in
     let count = ap (λ (ss : List Step). length ss) e ∙ length_push old x in
     let same : place ≡ length old = omega (arith, within, count, high) in
-    ap (λ (n : ℕ). take n new) same ∙ ap (take (length old)) e ∙ take-append-le (length old) old (x ∷ []) (omega arith) ∙ take_all (length old) old (omega arith)
+    ap (λ (n : ℕ). take n new) same ∙ ap (take (length old)) e ∙ take-append-le (length old) old (x ∷ [])
+    (omega arith) ∙ take_all (length old) old (omega arith)
 
-module _ (total : IsTotalOrder (slice_cmp value_cmp)) (s : Subject) (solver : Solver) (brought : List Bool) (held : IsHeld s solver brought)
+module _ (total : IsTotalOrder (slice_cmp value_cmp)) (s : Subject) (solver : Solver) (brought : List Bool)
+    (held : IsHeld s solver brought)
     (c : Rankings) (m : Match) (answer : ℕ) (is : IsMatchOf (search_of s solver) c m answer) where
   -- the literals of the axiom are judged to be it
   match_step : (lits : List Lit) → AreLitsFor s c m answer lits
@@ -104,7 +109,8 @@ module _ (total : IsTotalOrder (slice_cmp value_cmp)) (s : Subject) (solver : So
 
   step_is : (counted : Bool) (lits : List Lit) (earlier : List (List Lit)) → AreLitsFor s c m answer lits
       → (counted ≡ true → IsNew earlier (OnDemand (label.Match m.disjunct m.entities m.values) lits))
-      → IsSearchStep s.spec (posed_of s solver.frame) (vars_of s) earlier (axiom_step (label.Match m.disjunct m.entities m.values) lits counted)
+      → IsSearchStep s.spec (posed_of s solver.frame) (vars_of s) earlier
+      (axiom_step (label.Match m.disjunct m.entities m.values) lits counted)
       × (is_counted (axiom_step (label.Match m.disjunct m.entities m.values) lits counted) ≡ true
       → IsNew earlier (axiom_step (label.Match m.disjunct m.entities m.values) lits counted))
   step_is true lits earlier are new = (inr (match_step lits are), λ counted. new refl)
@@ -119,26 +125,33 @@ module _ (total : IsTotalOrder (slice_cmp value_cmp)) (s : Subject) (solver : So
     steps = e;
     each = λ place taken high at.
         let mine = axiom_step (label.Match m.disjunct m.entities m.values) lits counted in
-        let there : slice_get (solver.steps ++ mine ∷ []) place ≡ Some taken = ap (λ (ss : List Step). slice_get ss place) (sym e) ∙ at in
+        let there : slice_get (solver.steps ++ mine ∷ []) place ≡ Some taken =
+        ap (λ (ss : List Step). slice_get ss place) (sym e) ∙ at in
         let same : mine ≡ taken = ⊎_elim (λ (x : mine ≡ taken). x) (λ (x : ⊥). absurd x)
         (in_contained (mine ∷ []) taken (behind solver.steps (mine ∷ []) place taken high there)) in
         let front : take place new ≡ solver.steps = ends solver.steps mine new place taken e high at in
-        subst (λ (t : Step). IsSearchStep s.spec (posed_of s solver.frame) (vars_of s) (clauses_of (take place new)) t × (is_counted t ≡ true → IsNew (clauses_of (take place new)) t)) same
-        (subst (λ (ss : List Step). IsSearchStep s.spec (posed_of s solver.frame) (vars_of s) (clauses_of ss) mine × (is_counted mine ≡ true → IsNew (clauses_of ss) mine)) (sym front)
+        subst (λ (t : Step). IsSearchStep s.spec (posed_of s solver.frame) (vars_of s) (clauses_of (take place new))
+        t × (is_counted t ≡ true → IsNew (clauses_of (take place new)) t)) same
+        (subst (λ (ss : List Step). IsSearchStep s.spec (posed_of s solver.frame) (vars_of s) (clauses_of ss) mine ×
+        (is_counted mine ≡ true → IsNew (clauses_of ss) mine)) (sym front)
         (step_is counted lits (clauses_of solver.steps) are is_new));
   }
 
-  pub held_matched : (new : Solver) (counted : Bool) → new.frame ≡ solver.frame → (has : HasMatched s c m answer counted solver.steps new.steps)
-      → (counted ≡ true → IsNew (clauses_of solver.steps) (OnDemand (label.Match m.disjunct m.entities m.values) has.lits)) → IsHeld s new brought
+  pub held_matched : (new : Solver) (counted : Bool) → new.frame ≡ solver.frame →
+      (has : HasMatched s c m answer counted solver.steps new.steps)
+      → (counted ≡ true → IsNew (clauses_of solver.steps) (OnDemand (label.Match m.disjunct m.entities m.values)
+      has.lits)) → IsHeld s new brought
   held_matched new counted frame has is_new =
       held_next s solver new brought held frame (one_next counted has.lits new.steps has.are_lits is_new has.steps)
 
 -- a step more is counted or not
-pub counted_one : (old new : List Step) (l : Label) (lits : List Lit) (counted : Bool) → new ≡ old ++ axiom_step l lits counted ∷ []
+pub counted_one : (old new : List Step) (l : Label) (lits : List Lit) (counted : Bool) → new ≡ old
+    ++ axiom_step l lits counted ∷ []
     → counted_steps new ≡ counted_steps old + (if counted then 1 else 0)
 counted_one old new l lits counted e =
     let sum = sum_by-append (λ (y : Step). cond (is_counted y) 1 0) old (axiom_step l lits counted ∷ []) in
-    let sums : counted_steps (old ++ axiom_step l lits counted ∷ []) ≡ counted_steps old + counted_steps (axiom_step l lits counted ∷ []) = sum in
+    let sums : counted_steps (old ++ axiom_step l lits counted ∷ []) ≡ counted_steps old + counted_steps
+    (axiom_step l lits counted ∷ []) = sum in
     let one = one_counted counted in
     ap counted_steps e ∙ sums ∙ ap (λ (n : ℕ). counted_steps old + n) one
   where
@@ -147,19 +160,23 @@ counted_one old new l lits counted e =
     one_counted false = refl
 
 -- where nothing was put, all stays
-pub held_same : (s : Subject) (solver new : Solver) (brought : List Bool) → IsHeld s solver brought → new.frame ≡ solver.frame → new.steps ≡ solver.steps
+pub held_same : (s : Subject) (solver new : Solver) (brought : List Bool) → IsHeld s solver brought
+    → new.frame ≡ solver.frame → new.steps ≡ solver.steps
     → IsHeld s new brought
-held_same s solver new brought held frame steps = held_axioms s solver new brought held frame (has_none s solver.steps new.steps steps)
+held_same s solver new brought held frame steps = held_axioms s solver new brought held frame
+    (has_none s solver.steps new.steps steps)
 
 -- ---- truths
 
 -- a literal that denies a value which is current is false where the truths are those of the completion
-denied_false : (s : Subject) (truths : List Bool) (c : Rankings) (lit : Lit) → IsModelOf s.spec s.wanted truths c → IsCurrentDenied s.spec.relations c (vars_of s) lit
+denied_false : (s : Subject) (truths : List Bool) (c : Rankings) (lit : Lit) → IsModelOf s.spec s.wanted truths c
+    → IsCurrentDenied s.spec.relations c (vars_of s) lit
     → holds (truth_in truths) lit ≡ false
 denied_false s truths c lit model denied = by (get_or truths (var_of lit) false) refl
   where
     told : Tells (vars_of s) (negation lit) (last denied.rel denied.attr denied.row)
-    told = ⊎_elim (λ e. tells (vars_of s) (negation lit) (last denied.rel denied.attr denied.row) e) (λ e. tells (vars_of s) (negation lit) (last denied.rel denied.attr denied.row) e) denied.says
+    told = ⊎_elim (λ e. tells (vars_of s) (negation lit) (last denied.rel denied.attr denied.row) e)
+        (λ e. tells (vars_of s) (negation lit) (last denied.rel denied.attr denied.row) e) denied.says
 
     at : slice_get (vars_of s) (var_of lit) ≡ Some (says.Last denied.rel denied.attr denied.row)
     at = ap (slice_get (vars_of s)) (sym (negation_var lit)) ∙ told.at
@@ -180,7 +197,8 @@ denied_false s truths c lit model denied = by (get_or truths (var_of lit) false)
         absurd (model.truth.each (var_of lit) (says.Last denied.rel denied.attr denied.row) false at there denied.is_current)
 
 -- each literal of the axiom is false where its tuple is said to be no answer
-lits_false : OneLiteral → (s : Subject) (solver : Solver) (brought : List Bool) → IsHeld s solver brought → (c : Rankings) (m : Match) (answer : ℕ)
+lits_false : OneLiteral → (s : Subject) (solver : Solver) (brought : List Bool) → IsHeld s solver brought →
+    (c : Rankings) (m : Match) (answer : ℕ)
     (truths : List Bool) → IsAnswerCounter (search_of s solver) answer truths c → (lits : List Lit) → AreLitsFor s c m answer lits
     → IsMatchFor s c m answer → (lit : Lit) → Contains lits lit → holds (truth_in truths) lit ≡ false
 lits_false one s solver brought held c m answer truths against lits are asked lit is_in =
@@ -189,13 +207,15 @@ lits_false one s solver brought held c m answer truths against lits are asked li
     subst (λ (statements : List Statement). SaysAnswer statements answer against.goal) held.search.log.statements against.says in
     ⊎_elim
     (λ (here : SaysAnswer (vars_of s) answer lit).
-    let same : lit ≡ against.goal = one (numbers_of s.spec.relations s.wanted) lit against.goal (positive (says.Answer answer)) here goal in
+    let same : lit ≡ against.goal = one (numbers_of s.spec.relations s.wanted) lit against.goal
+    (positive (says.Answer answer)) here goal in
     subst (λ (x : Lit). holds (truth_in truths) x ≡ false) (sym same) against.counter.goal_false)
     (λ (denied : IsCurrentDenied s.spec.relations c (vars_of s) lit). denied_false s truths c lit against.counter.model denied)
     (its.each lit is_in)
 
 -- so it is new
-pub demanded_new : OneLiteral → (s : Subject) (solver : Solver) (brought : List Bool) → IsHeld s solver brought → (c : Rankings) (m : Match) (answer : ℕ)
+pub demanded_new : OneLiteral → (s : Subject) (solver : Solver) (brought : List Bool) → IsHeld s solver brought →
+    (c : Rankings) (m : Match) (answer : ℕ)
     (truths : List Bool) → IsAnswerCounter (search_of s solver) answer truths c → (lits : List Lit) → AreLitsFor s c m answer lits
     → IsMatchFor s c m answer → (l : Label) → IsNew (clauses_of solver.steps) (OnDemand l lits)
 demanded_new one s solver brought held c m answer truths against lits are asked l =
@@ -205,14 +225,16 @@ demanded_new one s solver brought held c m answer truths against lits are asked 
 
 -- ---- what is put
 
-pub match_fit : (s : Subject) (c : Rankings) (m : Match) (answer : ℕ) → IsMatchFor s c m answer → (statements : List Statement) → statements ≡ vars_of s
+pub match_fit : (s : Subject) (c : Rankings) (m : Match) (answer : ℕ) → IsMatchFor s c m answer →
+    (statements : List Statement) → statements ≡ vars_of s
     → (lits lent : List Lit) → AreLitsFor s c m answer lits → lent ≡ lits → IsFit (length statements) lent
 match_fit s c m answer asked statements same lits lent are e =
     let its : AreMatchLits s.spec s.wanted asked.query c m answer lits = are asked.query asked.is_query in
     subst (λ (xs : List Statement). IsFit (length xs) lent) (sym same)
     (subst (IsFit (length (vars_of s))) (sym e) (record { within = its.within; once = its.once }))
 
-pub match_put : (s : Subject) (c : Rankings) (m : Match) (answer : ℕ) (counted : Bool) (lits lent : List Lit) (entities : List EntId) (values : List Value)
+pub match_put : (s : Subject) (c : Rankings) (m : Match) (answer : ℕ) (counted : Bool) (lits lent : List Lit)
+    (entities : List EntId) (values : List Value)
     (old new : List Step) → AreLitsFor s c m answer lits → lent ≡ lits → entities ≡ m.entities → values ≡ m.values
     → new ≡ old ++ axiom_step (label.Match m.disjunct entities values) lent counted ∷ [] → HasMatched s c m answer counted old new
 match_put s c m answer counted lits lent entities values old new are same of_entities of_values e = record {

@@ -22,20 +22,23 @@ use Rattle.order_search.specs.Searches.{AreClausesTrue, IsCounter, Subject}
 
 -- ---- truths
 
-lit_true : (truths : List Bool) (lit : Lit) → var_of lit < length truths → holds (truth_in truths) lit ≡ true → IsLitTrue truths lit
+lit_true : (truths : List Bool) (lit : Lit) → var_of lit < length truths → holds (truth_in truths) lit ≡ true
+    → IsLitTrue truths lit
 lit_true truths lit below is = go (is_negative lit) (get_or truths (var_of lit) false) refl refl is
   where
     there : slice_get truths (var_of lit) ≡ Some (get_or truths (var_of lit) false)
     there = slice_get-get_or truths (var_of lit) false below
 
-    go : (negative truth : Bool) → is_negative lit ≡ negative → get_or truths (var_of lit) false ≡ truth → holds (truth_in truths) lit ≡ true
+    go : (negative truth : Bool) → is_negative lit ≡ negative → get_or truths (var_of lit) false ≡ truth
+        → holds (truth_in truths) lit ≡ true
         → IsLitTrue truths lit
     go true true n t h = let no : ⊥ = cc in absurd no
     go true false n t h = there ∙ ap Some (t ∙ ap not (sym n))
     go false true n t h = there ∙ ap Some (t ∙ ap not (sym n))
     go false false n t h = let no : ⊥ = cc in absurd no
 
-pub model_true : (vars : ℕ) (steps : List Step) (goal : Option Lit) (truths : List Bool) → All (λ step. IsFit vars (clause_of step)) steps
+pub model_true : (vars : ℕ) (steps : List Step) (goal : Option Lit) (truths : List Bool)
+    → All (λ step. IsFit vars (clause_of step)) steps
     → IsModel vars steps goal truths → AreTrue truths steps
 model_true vars steps goal truths fit model = λ k d h.
     let one = model.clauses_true k d h in
@@ -49,10 +52,16 @@ front_true : (truths : List Bool) (front more : List Step) → AreTrue truths (f
 front_true truths front more all = λ k d h.
     let is : clauses_of (front ++ more) ≡ clauses_of front ++ clauses_of more = map-append clause_of front more in
     let whole = subst (All (IsClauseTrue truths)) is all in
-    let within : k < length (clauses_of front ++ clauses_of more) = omega (arith, h, length-append (clauses_of front) (clauses_of more)) in
+    let within : k < length (clauses_of front ++ clauses_of more) = omega (
+      arith,
+      h,
+      length-append (clauses_of front)
+          (clauses_of more),
+    ) in
     subst (IsClauseTrue truths) (get_or_append_left (clauses_of front) (clauses_of more) d k h) (whole k d within)
 
-pub model_of : ModelsAreCompletions → (s : Subject) (solver : Solver) (marks truths : List Bool) (c : Rankings) → IsHeld s solver marks
+pub model_of : ModelsAreCompletions → (s : Subject) (solver : Solver) (marks truths : List Bool) (c : Rankings)
+    → IsHeld s solver marks
     → length truths ≡ length (vars_of s) → AreTrue truths solver.steps → IsRankedBy s.spec.relations (vars_of s) truths c
     → IsModelOf s.spec s.wanted truths c
 model_of law s solver marks truths c held whole all ranked =
@@ -61,7 +70,8 @@ model_of law s solver marks truths c held whole all ranked =
     (front_true truths begins.axioms begins.later (subst (AreTrue truths) begins.steps_are all)) c ranked
 
 -- and then, where no step was put after those that are true, it is one in which the goal is false
-pub counter_of : (s : Subject) (vars : ℕ) (solver new : Solver) (goal : Option Lit) (truths : List Bool) (c : Rankings) → IsModel vars solver.steps goal truths
+pub counter_of : (s : Subject) (vars : ℕ) (solver new : Solver) (goal : Option Lit) (truths : List Bool)
+    (c : Rankings) → IsModel vars solver.steps goal truths
     → new.steps ≡ solver.steps → IsModelOf s.spec s.wanted truths c → IsCounter (search_of s new) goal truths c
 counter_of s vars solver new goal truths c model same of = record {
   model = of;

@@ -71,14 +71,17 @@ pub record HasAxioms (s : Subject) (old new : List Step) : Type 0 where
 -- each clause on three rows of an entity in an attribute stands among the steps
 abbrev pub HaveThrees : Subject → List Step → RelId → AttrId → ℕ → Type 0
 HaveThrees s steps rel attr ent =
-    (r : Relation) → slice_get s.spec.relations rel.0 ≡ Some r → (first second third : RowId) → entity_of r.rows first.0 ≡ Some ent
-    → (clause : List Said) → IsAxiom s.spec (label.Transitive rel attr first second third) clause → StandsAmong (vars_of s) steps clause
+    (r : Relation) → slice_get s.spec.relations rel.0 ≡ Some r → (first second third : RowId)
+    → entity_of r.rows first.0 ≡ Some ent
+    → (clause : List Said) → IsAxiom s.spec (label.Transitive rel attr first second third) clause → StandsAmong
+    (vars_of s) steps clause
 
 -- the clauses on three rows of the list that a variable is of stand among the steps
 abbrev pub IsBrought : Subject → List Step → ℕ → Type 0
 IsBrought s steps var =
     (rel : RelId) (attr : AttrId) (first second : RowId) → slice_get (vars_of s) var ≡ Some (says.Before rel attr first second)
-    → (r : Relation) → slice_get s.spec.relations rel.0 ≡ Some r → (ent : ℕ) → entity_of r.rows first.0 ≡ Some ent → HaveThrees s steps rel attr ent
+    → (r : Relation) → slice_get s.spec.relations rel.0 ≡ Some r → (ent : ℕ) → entity_of r.rows first.0 ≡ Some ent
+    → HaveThrees s steps rel attr ent
 
 -- the lists of the variables that are marked are brought in
 pub record AreBrought (s : Subject) (steps : List Step) (brought : List Bool) : Type 0 where
@@ -140,23 +143,26 @@ pub record IsMarked (s : Subject) (c : Cycle) (old new : List Bool) : Type 0 whe
 abbrev pub AreTrue : List Bool → List Step → Type 0
 AreTrue truths steps = All (IsClauseTrue truths) (clauses_of steps)
 
--- the list of a cycle was brought in: fewer variables are without a mark, where the cycle is of an assignment that makes the clauses of the
--- steps so far true
+-- the list of a cycle was brought in: fewer variables are without a mark, where the cycle is of an assignment that
+-- makes the clauses of the steps so far true
 abbrev pub Brings : Subject → Cycle → List Step → List Bool → List Bool → Type 0
-Brings s c steps old new = (truths : List Bool) → AreTrue truths steps → IsCycle s.spec.relations (vars_of s) truths c → unmarked new < unmarked old
+Brings s c steps old new = (truths : List Bool) → AreTrue truths steps → IsCycle s.spec.relations (vars_of s) truths
+    c → unmarked new < unmarked old
 
 -- the first lists of these cycles, so many, were brought in
-pub record AreBroughtIn (s : Subject) (cycles : List Cycle) (place : ℕ) (old_steps : List Step) (old : List Bool) (new_steps : List Step)
+pub record AreBroughtIn (s : Subject) (cycles : List Cycle) (place : ℕ) (old_steps : List Step) (old : List Bool)
+    (new_steps : List Step)
     (new : List Bool) : Type 0 where
   pub later : unmarked new ≤ unmarked old
   pub begun : place ≡ 0 → (new_steps ≡ old_steps) × (new ≡ old)
-  pub fewer : 0 < place → (truths : List Bool) → AreTrue truths old_steps → All (IsCycle s.spec.relations (vars_of s) truths) cycles
+  pub fewer : 0 < place → (truths : List Bool) → AreTrue truths old_steps
+      → All (IsCycle s.spec.relations (vars_of s) truths) cycles
       → unmarked new < unmarked old
 
 -- ---- matches
 
--- a match of the query, over the current instance of a completion, that makes the tuple at a place of the answers one; the current
--- values of its atoms' relations are wanted
+-- a match of the query, over the current instance of a completion, that makes the tuple at a place of the answers one;
+-- the current values of its atoms' relations are wanted
 pub record IsMatchFor (s : Subject) (c : Rankings) (m : Match) (answer : ℕ) : Type 0 where
   pub query : Query
   pub is_query : s.query ≡ Some query

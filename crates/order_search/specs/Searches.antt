@@ -74,7 +74,8 @@ pub record HasGone (old new : Search) : Type 0 where
 
 -- each step's clause has a literal that holds
 abbrev pub AreClausesTrue : List Bool → List Step → Type 0
-AreClausesTrue truths steps = All (λ clause. (lit : Lit) × Contains clause lit × (holds (truth_in truths) lit ≡ true)) (clauses_of steps)
+AreClausesTrue truths steps = All (λ clause. (lit : Lit) × Contains clause lit ×
+    (holds (truth_in truths) lit ≡ true)) (clauses_of steps)
 
 -- a consistent completion in which the goal is false and the clause of each step so far is true
 pub record IsCounter (s : Search) (goal : Option Lit) (truths : List Bool) (c : Rankings) : Type 0 where
@@ -92,8 +93,8 @@ Tells s goal left Spent = (left ≡ 0) × IsOpenLog s.log.steps
 
 -- ---- matches
 
--- a match of the query that is posed, over the current instance of a completion: it makes the tuple at a place of the posed answers
--- one, the current values of its atoms' relations are wanted, and its label can be written
+-- a match of the query that is posed, over the current instance of a completion: it makes the tuple at a place of the
+-- posed answers one, the current values of its atoms' relations are wanted, and its label can be written
 pub record IsMatchOf (s : Search) (c : Rankings) (m : Match) (answer : ℕ) : Type 0 where
   pub query : Query
   pub is_query : s.posed.query ≡ Some query

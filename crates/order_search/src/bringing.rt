@@ -41,7 +41,8 @@ pub(crate) fn bring_all(
     Ok(())
 }
 
-/// Brings in the list of a cycle, or of any three of its rows, and marks the variable that says which of the first two rows stands before the other.
+/// Brings in the list of a cycle, or of any three of its rows, and marks the variable that says which of the first two
+/// rows stands before the other.
 pub(crate) fn bring_in(
     subject: &Subject<'_>,
     progress: &mut Progress,
@@ -55,7 +56,8 @@ pub(crate) fn bring_in(
     ensures added { HasAdded progress.old.solver progress.new.solver }
     ensures units { counted_steps progress.new.solver.steps ≡ counted_steps progress.old.solver.steps }
     ensures later { unmarked progress.new.brought.items ≤ unmarked progress.old.brought.items }
-    ensures brings { OnOk result (Brings subject.now cycle progress.old.solver.steps progress.old.brought.items progress.new.brought.items) }
+    ensures brings { OnOk result (Brings subject.now cycle progress.old.solver.steps progress.old.brought.items
+        progress.new.brought.items) }
 {
     match add_list(subject, &mut progress.solver, alloc, cycle, guides) {
         Ok(()) => {

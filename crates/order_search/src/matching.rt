@@ -29,7 +29,8 @@ pub(crate) fn add_match(
     ensures held { IsHeld subject.now progress.new.solver progress.new.brought.items }
     ensures added { HasAdded progress.old.solver progress.new.solver }
     ensures units { counted_steps progress.new.solver.steps ≡ counted_steps progress.old.solver.steps }
-    ensures put { OnOk result (HasTaken (search_of subject.now progress.old.solver) (search_of subject.now progress.new.solver) completion.now m.now answer false) }
+    ensures put { OnOk result (HasTaken (search_of subject.now progress.old.solver)
+        (search_of subject.now progress.new.solver) completion.now m.now answer false) }
 {
     laws_of_tuple_order();
     match put_match(
@@ -67,7 +68,8 @@ pub(crate) fn demand_match(
     ensures held { IsHeld subject.now progress.new.solver progress.new.brought.items }
     ensures added { HasAdded progress.old.solver progress.new.solver }
     ensures units { counted_steps progress.new.solver.steps + budget.new ≡ counted_steps progress.old.solver.steps + budget.old }
-    ensures put { OnOk result (HasTaken (search_of subject.now progress.old.solver) (search_of subject.now progress.new.solver) completion.now m.now answer true) }
+    ensures put { OnOk result (HasTaken (search_of subject.now progress.old.solver)
+        (search_of subject.now progress.new.solver) completion.now m.now answer true) }
     ensures taken { OnOk result (budget.new + 1 ≡ budget.old) }
 {
     laws_of_tuple_order();

@@ -58,7 +58,8 @@ fn round(
     ensures added { HasAdded progress.old.solver progress.new.solver }
     ensures units { counted_steps progress.new.solver.steps + budget.new ≡ counted_steps progress.old.solver.steps + budget.old }
     ensures some { IfOk result (λ outcome. IfSome outcome (Tells (search_of subject.now progress.new.solver) goal budget.new)) }
-    ensures none { IfOk result (λ outcome. IfNone outcome (unmarked progress.new.brought.items < unmarked progress.old.brought.items)) }
+    ensures none { IfOk result (λ outcome. IfNone outcome
+        (unmarked progress.new.brought.items < unmarked progress.old.brought.items)) }
 {
     counted_stay_new();
     laws_of_literals();
@@ -96,7 +97,8 @@ fn completed(
     ensures units { counted_steps progress.new.solver.steps ≡ counted_steps progress.old.solver.steps }
     ensures some { IfOk result (λ completion. IfSome completion (IsModelOf subject.now.spec subject.now.wanted truths.now)) }
     ensures kept { IfOk result (λ completion. IfSome completion (λ c. progress.new.solver.steps ≡ progress.old.solver.steps)) }
-    ensures none { IfOk result (λ completion. IfNone completion (unmarked progress.new.brought.items < unmarked progress.old.brought.items)) }
+    ensures none { IfOk result (λ completion. IfNone completion
+        (unmarked progress.new.brought.items < unmarked progress.old.brought.items)) }
 {
     models_are_completions();
     pairs_are_decided();

@@ -146,8 +146,8 @@ impl<'a> Search<'a> {
     }
 
     /// Brings in a list that a goal is about, and those that it is linked with, so that no model is spent on finding
-    /// that they go round; those that are there stay. Tells the ring the variables of those that are near, as it is said when the list is decided: about how many.
-    /// No unit is taken.
+    /// that they go round; those that are there stay. Tells the ring the variables of those that are near, as it is
+    /// said when the list is decided: about how many. No unit is taken.
     pub fn bring(
         &mut self,
         alloc: Global,

@@ -59,16 +59,28 @@ pub one_cell : (sizes : List ℕ) (square row column square' row' column' slot :
     → IsCell sizes square' row' column' slot → IsOneCell square row column square' row' column'
 one_cell sizes square row column square' row' column' slot c d = by (cases_lt square square') (cases_lt square' square)
   where
-    by : (square < square') ⊎ (square' ≤ square) → (square' < square) ⊎ (square ≤ square') → IsOneCell square row column square' row' column'
+    by : (square < square') ⊎ (square' ≤ square) → (square' < square) ⊎ (square ≤ square') → IsOneCell square row
+        column square' row' column'
     by (inl less) other =
-        absurd (omega (arith, (cell_within sizes square row column slot c).1, (cell_within sizes square' row' column' slot d).0, base_le sizes (square + 1) square' (omega (arith, less))))
+        absurd (omega (
+          arith,
+          (cell_within sizes square row column slot c).1,
+          (cell_within sizes square' row' column' slot d).0,
+          base_le sizes (square + 1) square' (omega (arith, less)),
+        ))
     by (inr h) (inl less) =
-        absurd (omega (arith, (cell_within sizes square' row' column' slot d).1, (cell_within sizes square row column slot c).0, base_le sizes (square' + 1) square (omega (arith, less))))
+        absurd (omega (
+          arith,
+          (cell_within sizes square' row' column' slot d).1,
+          (cell_within sizes square row column slot c).0,
+          base_le sizes (square' + 1) square (omega (arith, less)),
+        ))
     by (inr h) (inr k) =
         let same : square ≡ square' = omega (arith, h, k) in
         let sized : d.size ≡ c.size = same_Some d.size c.size (sym d.is_size ∙ (ap (slice_get sizes) (sym same) ∙ c.is_size)) in
         let slots : base_of sizes square + row * c.size + column ≡ base_of sizes square + row' * c.size + column' =
-        sym c.slot_is ∙ (d.slot_is ∙ (ap (λ q. base_of sizes q + row' * d.size + column') (sym same) ∙ ap (λ n. base_of sizes square + row' * n + column') sized)) in
+        sym c.slot_is ∙ (d.slot_is ∙ (ap (λ q. base_of sizes q + row' * d.size + column') (sym same)
+        ∙ ap (λ n. base_of sizes square + row' * n + column') sized)) in
         let places : row * c.size + column ≡ row' * c.size + column' = omega (arith, slots) in
         let both = same_from_place row column row' column' c.size c.column_in (omega (arith, d.column_in, sized)) places in
         record { squares = same; rows = both.0; columns = both.1 }

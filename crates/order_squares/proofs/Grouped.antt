@@ -11,16 +11,20 @@ use Rattle.order_squares.specs.Entities.{count_of, entities_in, grouping_of}
 use Rattle.order_squares.proofs.Places.{get_mapped}
 
 -- the grouping at the place of a relation is its own
-pub grouped_at : (relations : List Relation) (lists : List Grouping) (rel : ℕ) (g : Grouping) → lists ≡ map grouping_of relations → slice_get lists rel ≡ Some g
+pub grouped_at : (relations : List Relation) (lists : List Grouping) (rel : ℕ) (g : Grouping)
+    → lists ≡ map grouping_of relations → slice_get lists rel ≡ Some g
     → (g.count ≡ count_of relations rel) × (g.entities ≡ entities_in relations rel)
 grouped_at relations lists rel g are at =
     let m = get_mapped grouping_of relations rel g (ap (λ ls. slice_get ls rel) (sym are) ∙ at) in (
-      ap (λ (x : Grouping). x.count) (sym m.2) ∙ ap (λ (o : Option Relation). option_map_or (λ (r : Relation). length r.entities) o 0) (sym m.1),
-      ap (λ (x : Grouping). x.entities) (sym m.2) ∙ ap (λ (o : Option Relation). option_map_or (λ (r : Relation). entities_of r.rows) o []) (sym m.1),
+      ap (λ (x : Grouping). x.count) (sym m.2)
+          ∙ ap (λ (o : Option Relation). option_map_or (λ (r : Relation). length r.entities) o 0) (sym m.1),
+      ap (λ (x : Grouping). x.entities) (sym m.2)
+          ∙ ap (λ (o : Option Relation). option_map_or (λ (r : Relation). entities_of r.rows) o []) (sym m.1),
     )
 
 -- a relation that has something is there
-pub rel_within : (relations : List Relation) (rel n : ℕ) (f : Relation → ℕ) → n < option_map_or f (slice_get relations rel) 0 → rel < length relations
+pub rel_within : (relations : List Relation) (rel n : ℕ) (f : Relation → ℕ) → n < option_map_or f
+    (slice_get relations rel) 0 → rel < length relations
 rel_within relations rel n f below = by (slice_get relations rel) refl
   where
     by : (o : Option Relation) → slice_get relations rel ≡ o → rel < length relations
@@ -34,10 +38,12 @@ entity_there rows row ent of = by (slice_get rows row) refl
     by : (o : Option Row) → slice_get rows row ≡ o → slice_get (entities_of rows) row ≡ Some ent
     by o e = entities_at rows row ∙ of
 
-pub entity_in : (relations : List Relation) (rel : ℕ) (r : Relation) (row ent : ℕ) → slice_get relations rel ≡ Some r → entity_of r.rows row ≡ Some ent
+pub entity_in : (relations : List Relation) (rel : ℕ) (r : Relation) (row ent : ℕ) → slice_get relations rel ≡ Some r
+    → entity_of r.rows row ≡ Some ent
     → slice_get (entities_in relations rel) row ≡ Some ent
 entity_in relations rel r row ent at of =
-    ap (λ (o : Option Relation). slice_get (option_map_or (λ (q : Relation). entities_of q.rows) o []) row) at ∙ entity_there r.rows row ent of
+    ap (λ (o : Option Relation). slice_get (option_map_or (λ (q : Relation). entities_of q.rows) o []) row) at
+    ∙ entity_there r.rows row ent of
 
 -- there are no more rows of the entity than rows
 pub rows_few : (first : ℕ) (es : List ℕ) (ent : ℕ) → length (rows_from first es ent) ≤ length es

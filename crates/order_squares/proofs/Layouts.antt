@@ -28,7 +28,8 @@ layout_of l starts bases is = record { starts = starts; listed = is.listed; size
 
 -- ---- the number of a square
 
-pub start_within : (relations : List Relation) (starts : List (List ℕ)) (squares : List Square) (rel attr : ℕ) → AreListed relations starts squares
+pub start_within : (relations : List Relation) (starts : List (List ℕ)) (squares : List Square) (rel attr : ℕ)
+    → AreListed relations starts squares
     → attr < attrs_of relations rel → rel < length starts
 start_within relations starts squares rel attr are below =
     let s = are.has_start rel attr below in
@@ -40,15 +41,22 @@ pub record IsRead (squares : List Square) (column : List ℕ) (rel attr ent : �
   pub square : slice_get squares (slice_index column attr + ent) ≡ Some (square_at rel attr ent)
   pub bound : slice_index column attr + ent < length squares
 
-pub is_read : (relations : List Relation) (starts : List (List ℕ)) (squares : List Square) (rel attr ent : ℕ) (column : List ℕ) → AreListed relations starts squares
-    → attr < attrs_of relations rel → ent < count_of relations rel → slice_get starts rel ≡ Some column → IsRead squares column rel attr ent
+pub is_read : (relations : List Relation) (starts : List (List ℕ)) (squares : List Square) (rel attr ent : ℕ)
+    (column : List ℕ) → AreListed relations starts squares
+    → attr < attrs_of relations rel → ent < count_of relations rel → slice_get starts rel ≡ Some column
+    → IsRead squares column rel attr ent
 is_read relations starts squares rel attr ent column are below counted at =
     let s = are.has_start rel attr below in
     let same : s.1.column ≡ column = same_Some s.1.column column (sym s.1.is_column ∙ at) in
     let start : slice_get column attr ≡ Some s.0 = ap (λ c. slice_get c attr) (sym same) ∙ s.1.is_start in
     let read : slice_index column attr ≡ s.0 = get_or_from_slice_get column attr s.0 0 start in
     let square = ap (λ n. slice_get squares (n + ent)) read ∙ are.are_squares.all rel attr s.0 ent s.1 counted in
-    record { within = slice_get_within column attr s.0 start; square = square; bound = slice_get_within squares (slice_index column attr + ent) (square_at rel attr ent) square }
+    record {
+      within = slice_get_within column attr s.0 start;
+      square = square;
+      bound = slice_get_within squares
+          (slice_index column attr + ent) (square_at rel attr ent) square;
+    }
 
 -- ---- a square's base and size
 
@@ -58,7 +66,8 @@ pub record IsPlaced (l : Layout) (q : Square) (k base size : ℕ) : Type 0 where
   pub size_is : size ≡ size_of l.relations q
   pub room : base + size * size < 2 ^ 32
 
-pub as_many : (l : Layout) (starts : List (List ℕ)) (bases : List ℕ) → IsLaidOut l starts bases → length l.sizes ≡ length l.squares
+pub as_many : (l : Layout) (starts : List (List ℕ)) (bases : List ℕ) → IsLaidOut l starts bases
+    → length l.sizes ≡ length l.squares
 as_many l starts bases is = ap length is.sizes ∙ length-map l.squares (size_of l.relations)
 
 pub placed : (l : Layout) (starts : List (List ℕ)) (bases : List ℕ) → IsLaidOut l starts bases → (q : Square) (k base size : ℕ)
@@ -73,7 +82,8 @@ placed l starts bases is q k base size at read_base read_size =
     record {
       base_is = base_is;
       is_size = is_size;
-      size_is = same_Some size (size_of l.relations q) (sym is_size ∙ (ap (λ sizes. slice_get sizes k) is.sizes ∙ get_map (size_of l.relations) l.squares k q at));
+      size_is = same_Some size (size_of l.relations q)
+          (sym is_size ∙ (ap (λ sizes. slice_get sizes k) is.sizes ∙ get_map (size_of l.relations) l.squares k q at));
       room = omega (arith, base_is, base_next l.sizes k size is_size, sum_by-take-le (λ n. n * n) l.sizes (k + 1), is.few);
     }
 
@@ -82,7 +92,8 @@ pub place_of : (rs rs' : List Relation) (rel ent place : ℕ) (row : RowId) → 
     → ((ent : ℕ) → slice_get (entities_in rs rel) row.0 ≡ Some ent → slice_get (members_of rs rel ent) place ≡ Some row)
     → slice_get (entities_in rs' rel) row.0 ≡ Some ent → slice_get (members_of rs' rel ent) place ≡ Some row
 place_of rs rs' rel ent place row same gives of =
-    subst (λ (r : List Relation). (ent : ℕ) → slice_get (entities_in r rel) row.0 ≡ Some ent → slice_get (members_of r rel ent) place ≡ Some row) same gives ent of
+    subst (λ (r : List Relation). (ent : ℕ) → slice_get (entities_in r rel) row.0 ≡ Some ent
+    → slice_get (members_of r rel ent) place ≡ Some row) same gives ent of
 
 -- the rows of a pair are places in its square
 pub place_within : (l : Layout) (q : Square) (k base size row : ℕ) (a : RowId) → IsPlaced l q k base size
@@ -91,7 +102,8 @@ place_within l q k base size row a is at =
     let within = slice_get_within (members_of l.relations q.rel.0 q.ent.0) row a at in
     omega (arith, within, is.size_is)
 
-pub made_slot : (l : Layout) (rel attr ent k base size row column slot : ℕ) (a b : RowId) → slice_get l.squares k ≡ Some (square_at rel attr ent)
+pub made_slot : (l : Layout) (rel attr ent k base size row column slot : ℕ) (a b : RowId) → slice_get l.squares k ≡
+    Some (square_at rel attr ent)
     → IsPlaced l (square_at rel attr ent) k base size → slice_get (members_of l.relations rel ent) row ≡ Some a
     → slice_get (members_of l.relations rel ent) column ≡ Some b → slot ≡ base + row * size + column → IsSlot l rel attr a b slot
 made_slot l rel attr ent k base size row column slot a b at is at_a at_b e = record {
@@ -126,7 +138,14 @@ slot_ent l rel attr a b slot s = (
 pub bases_ascend : (sizes bases : List ℕ) → AreBases sizes bases → IsNonDecreasing bases
 bases_ascend sizes bases are i j d less below =
     let within : i < length bases = omega (arith, less, below) in
-    omega (arith, get_or_default_zero bases i d within, get_or_default_zero bases j d below, are.each i within, are.each j below, base_le sizes i j less)
+    omega (
+      arith,
+      get_or_default_zero bases i d within,
+      get_or_default_zero bases j d below,
+      are.each i within,
+      are.each j below,
+      base_le sizes i j less,
+    )
 
 -- the last square whose base is up to a slot
 pub record IsFound (l : Layout) (k base slot : ℕ) : Type 0 where
@@ -135,8 +154,10 @@ pub record IsFound (l : Layout) (k base slot : ℕ) : Type 0 where
   pub below : slot < base_of l.sizes (k + 1)
   pub above : base ≤ slot
 
-pub found : (l : Layout) (starts : List (List ℕ)) (bases : List ℕ) → IsLaidOut l starts bases → (k slot : ℕ) → slot < cells_of l.sizes → k < length bases
-    → slice_index bases k ≤ slot → (k + 1 < length bases → slot < slice_index bases (k + 1)) → IsFound l k (slice_index bases k) slot
+pub found : (l : Layout) (starts : List (List ℕ)) (bases : List ℕ) → IsLaidOut l starts bases → (k slot : ℕ)
+    → slot < cells_of l.sizes → k < length bases
+    → slice_index bases k ≤ slot → (k + 1 < length bases → slot < slice_index bases (k + 1)) → IsFound l k
+    (slice_index bases k) slot
 found l starts bases is k slot few below up_to last =
     let many = as_many l starts bases is in
     let within : k < length l.squares = by (cases_lt k (length l.sizes)) in
@@ -153,22 +174,28 @@ found l starts bases is k slot few below up_to last =
     by (inr past) = absurd (omega (arith, base_end l.sizes k past, is.bases_are.each k below, up_to, few))
 
 -- the same, where the bases are read from another list that is the same
-pub found_in : (l : Layout) (starts : List (List ℕ)) (bases items : List ℕ) → IsLaidOut l starts bases → items ≡ bases → (k base slot : ℕ) → slot < cells_of l.sizes
-    → k < length items → slice_index items k ≤ slot → (k + 1 < length items → slot < slice_index items (k + 1)) → base ≡ get_or bases k base → IsFound l k base slot
+pub found_in : (l : Layout) (starts : List (List ℕ)) (bases items : List ℕ) → IsLaidOut l starts bases
+    → items ≡ bases → (k base slot : ℕ) → slot < cells_of l.sizes
+    → k < length items → slice_index items k ≤ slot → (k + 1 < length items → slot < slice_index items (k + 1))
+    → base ≡ get_or bases k base → IsFound l k base slot
 found_in l starts bases items is same k base slot few below up_to last read =
     let within : k < length bases = subst (λ (xs : List ℕ). k < length xs) same below in
     let f = found l starts bases is k slot few within (subst (λ (xs : List ℕ). slice_index xs k ≤ slot) same up_to)
     (subst (λ (xs : List ℕ). k + 1 < length xs → slot < slice_index xs (k + 1)) same last) in
     subst (λ n. IsFound l k n slot) (sym (read ∙ get_or_default_zero bases k base within)) f
 
-pub found_within : (l : Layout) (starts : List (List ℕ)) (bases items : List ℕ) → IsLaidOut l starts bases → items ≡ bases → (k slot : ℕ) → slot < cells_of l.sizes
-    → k < length items → slice_index items k ≤ slot → (k + 1 < length items → slot < slice_index items (k + 1)) → k < length l.squares
+pub found_within : (l : Layout) (starts : List (List ℕ)) (bases items : List ℕ) → IsLaidOut l starts bases
+    → items ≡ bases → (k slot : ℕ) → slot < cells_of l.sizes
+    → k < length items → slice_index items k ≤ slot → (k + 1 < length items → slot < slice_index items (k + 1))
+    → k < length l.squares
 found_within l starts bases items is same k slot few below up_to last =
-    (found l starts bases is k slot few (subst (λ (xs : List ℕ). k < length xs) same below) (subst (λ (xs : List ℕ). slice_index xs k ≤ slot) same up_to)
+    (found l starts bases is k slot few (subst (λ (xs : List ℕ). k < length xs) same below)
+    (subst (λ (xs : List ℕ). slice_index xs k ≤ slot) same up_to)
     (subst (λ (xs : List ℕ). k + 1 < length xs → slot < slice_index xs (k + 1)) same last)).within
 
 -- a square that is read is the one at its place
-pub square_read : (squares : List Square) (k : ℕ) (q : Square) → k < length squares → q ≡ get_or squares k q → slice_get squares k ≡ Some q
+pub square_read : (squares : List Square) (k : ℕ) (q : Square) → k < length squares → q ≡ get_or squares k q
+    → slice_get squares k ≡ Some q
 square_read squares k q below read = slice_get-get_or squares k q below ∙ ap Some (sym read)
 
 -- the cell of a slot in its square
@@ -177,10 +204,12 @@ pub record IsWithin (l : Layout) (q : Square) (k base slot size : ℕ) : Type 0 
   pub size_is : size ≡ size_of l.relations q
   pub cell_in : slot - base < size * size
 
-pub within_square : (l : Layout) (starts : List (List ℕ)) (bases : List ℕ) → IsLaidOut l starts bases → (q : Square) (k base slot : ℕ) → slice_get l.squares k ≡ Some q
+pub within_square : (l : Layout) (starts : List (List ℕ)) (bases : List ℕ) → IsLaidOut l starts bases →
+    (q : Square) (k base slot : ℕ) → slice_get l.squares k ≡ Some q
     → IsFound l k base slot → IsWithin l q k base slot (size_of l.relations q)
 within_square l starts bases is q k base slot at f =
-    let is_size : slice_get l.sizes k ≡ Some (size_of l.relations q) = ap (λ sizes. slice_get sizes k) is.sizes ∙ get_map (size_of l.relations) l.squares k q at in
+    let is_size : slice_get l.sizes k ≡ Some (size_of l.relations q) = ap (λ sizes. slice_get sizes k) is.sizes
+    ∙ get_map (size_of l.relations) l.squares k q at in
     record {
       is_size = is_size;
       size_is = refl;
@@ -197,7 +226,8 @@ row_within size cell below = (div-lt_iff_lt-mul (some_size size cell below)).1 b
 pub column_within : (size cell : ℕ) → cell < size * size → cell % size < size
 column_within size cell below = mod-lt cell (some_size size cell below)
 
-pub found_slot : (l : Layout) (q : Square) (k base slot : ℕ) (a b : RowId) → slice_get l.squares k ≡ Some q → IsFound l k base slot
+pub found_slot : (l : Layout) (q : Square) (k base slot : ℕ) (a b : RowId) → slice_get l.squares k ≡ Some q
+    → IsFound l k base slot
     → IsWithin l q k base slot (size_of l.relations q) → AreRowsAt (members_of l.relations q.rel.0 q.ent.0) (slot - base) a b
     → IsSlot l q.rel.0 q.attr.0 a b slot
 found_slot l q k base slot a b at f is rows =
@@ -224,5 +254,6 @@ found_slot l q k base slot a b at f is rows =
 pub no_entity : (o : Option EntId) (p : Option ℕ) (ent : ℕ) → o ≡ None → option_map (λ (e : EntId). e.0) o ≡ p → p ≡ Some ent → ⊥
 no_entity o p ent none is some = absurd (none-some ent (ap (option_map (λ (e : EntId). e.0)) (sym none) ∙ (is ∙ some)))
 
-pub one_ent : (o : Option EntId) (p : Option ℕ) (e : EntId) (ent : ℕ) → o ≡ Some e → option_map (λ (e : EntId). e.0) o ≡ p → p ≡ Some ent → e.0 ≡ ent
+pub one_ent : (o : Option EntId) (p : Option ℕ) (e : EntId) (ent : ℕ) → o ≡ Some e → option_map (λ (e : EntId). e.0)
+    o ≡ p → p ≡ Some ent → e.0 ≡ ent
 one_ent o p e ent some is at = same_Some e.0 ent (ap (option_map (λ (e : EntId). e.0)) (sym some) ∙ (is ∙ at))

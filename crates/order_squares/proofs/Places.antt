@@ -9,7 +9,8 @@ get_old (y ∷ xs) ys zero x at = at
 get_old (y ∷ xs) ys (suc i) x at = get_old xs ys i x at
 
 -- what stands in the second of two lists stands behind the first
-pub get_new : {A : Type 0} (xs ys : List A) (j : ℕ) (x : A) → slice_get ys j ≡ Some x → slice_get (xs ++ ys) (length xs + j) ≡ Some x
+pub get_new : {A : Type 0} (xs ys : List A) (j : ℕ) (x : A) → slice_get ys j ≡ Some x → slice_get (xs ++ ys)
+    (length xs + j) ≡ Some x
 get_new [] ys j x at = ap (slice_get ys) (zero-add j) ∙ at
 get_new (y ∷ xs) ys j x at =
     let next : suc (length xs) + j ≡ suc (length xs + j) = omega arith in
@@ -38,12 +39,14 @@ get_only x zero y at = (refl, same_Some x y at)
 get_only x (suc i) y at = absurd (none-some y at)
 
 -- what stands in a mapped list comes from what stands there
-pub get_mapped : {A B : Type 0} (f : A → B) (xs : List A) (i : ℕ) (y : B) → slice_get (map f xs) i ≡ Some y → (x : A) × (slice_get xs i ≡ Some x) × (f x ≡ y)
+pub get_mapped : {A B : Type 0} (f : A → B) (xs : List A) (i : ℕ) (y : B) → slice_get (map f xs) i ≡ Some y →
+    (x : A) × (slice_get xs i ≡ Some x) × (f x ≡ y)
 get_mapped f [] i y at = absurd (none-some y at)
 get_mapped f (x ∷ xs) zero y at = (x, refl, same_Some (f x) y at)
 get_mapped f (x ∷ xs) (suc i) y at = get_mapped f xs i y at
 
-pub get_map : {A B : Type 0} (f : A → B) (xs : List A) (i : ℕ) (x : A) → slice_get xs i ≡ Some x → slice_get (map f xs) i ≡ Some (f x)
+pub get_map : {A B : Type 0} (f : A → B) (xs : List A) (i : ℕ) (x : A) → slice_get xs i ≡ Some x
+    → slice_get (map f xs) i ≡ Some (f x)
 get_map f xs i x at = slice_get-map f xs i ∙ ap (option_map f) at
 
 -- some item stands at a place within a list

@@ -82,7 +82,8 @@ impl<'a> Groups<'a> {
     /// The place of a row among the rows of its entity.
     pub(crate) fn place(&self, rel: RelId, row: RowId) -> usize
         requires { row.0 < length (entities_in self.now rel.0) }
-        ensures { (ent : ℕ) → slice_get (entities_in self.now rel.0) row.0 ≡ Some ent → slice_get (members_of self.now rel.0 ent) result ≡ Some row }
+        ensures { (ent : ℕ) → slice_get (entities_in self.now rel.0) row.0 ≡ Some ent
+            → slice_get (members_of self.now rel.0 ent) result ≡ Some row }
     {
         self.lists(rel).place(row)
     }

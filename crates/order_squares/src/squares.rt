@@ -35,7 +35,8 @@ impl<'a> Model for Squares<'a> {
 
     ghost view = { λ s. record { relations = s.groups; squares = s.squares.items; sizes = s.sizes.items } };
 
-    ghost invariant = { λ s. IsLaidOut (record { relations = s.groups; squares = s.squares.items; sizes = s.sizes.items }) s.starts s.bases.items };
+    ghost invariant = { λ s. IsLaidOut
+        (record { relations = s.groups; squares = s.squares.items; sizes = s.sizes.items }) s.starts s.bases.items };
 }
 
 impl<'a> Squares<'a> {

@@ -24,7 +24,8 @@ pair_of l i j t u is at_i at_j differ =
       differ = λ same. differ (rows_once is.table.rows.entities is.ent i j u (at_i' ∙ ap Some same) at_j');
     }
 
-slots_differ : (turned : Bool) (rows i j : ℕ) → i < rows → j < rows → i ≢ j → (if turned then rows - 1 - i else i) ≢ (if turned then rows - 1 - j else j)
+slots_differ : (turned : Bool) (rows i j : ℕ) → i < rows → j < rows → i ≢ j → (if turned then rows - 1 - i else i) ≢
+    (if turned then rows - 1 - j else j)
 slots_differ true rows i j below_i below_j differ = omega arith
 slots_differ false rows i j below_i below_j differ = differ
 
@@ -35,11 +36,13 @@ pair_at l i j t u is below_i below_j differ at_i at_j =
     pair_of l (slot_of l i) (slot_of l j) t u is at_i at_j (slots_differ l.turned (length l.rows) i j below_i below_j differ)
 
 -- truths of the numbers of a list are so many
-pub truths_are : (l : Listed) (n : Numbers) (truths : List Bool) → l.numbers ≡ n → length truths ≡ length (statements_of n) → HasTruths l truths
+pub truths_are : (l : Listed) (n : Numbers) (truths : List Bool) → l.numbers ≡ n → length truths ≡ length
+    (statements_of n) → HasTruths l truths
 truths_are l n truths same e = e ∙ ap (λ (m : Numbers). length (statements_of m)) (sym same)
 
 -- a row of an entity of a relation is one of its rows
-pub row_within : (rows : List Row) (names : List RowId) (ent i : ℕ) (row : RowId) → names ≡ rows_of (entities_of rows) ent → slice_get names i ≡ Some row
+pub row_within : (rows : List Row) (names : List RowId) (ent i : ℕ) (row : RowId) → names ≡ rows_of
+    (entities_of rows) ent → slice_get names i ≡ Some row
     → row.0 < length rows
 row_within rows names ent i row e at =
     let at' : slice_get (rows_of (entities_of rows) ent) i ≡ Some row = rw e at at in

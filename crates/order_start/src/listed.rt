@@ -25,9 +25,25 @@ impl<'a> Model for Listed<'a> {
 
     ghost Value = { Listed };
 
-    ghost view = { λ l. record { numbers = l.numbering.now; known = l.known.now; rel = l.rel; attr = l.attr; rows = l.rows.now; turned = l.turned } };
+    ghost view = { λ l. record {
+      numbers = l.numbering.now;
+      known = l.known.now;
+      rel = l.rel;
+      attr = l.attr;
+      rows =
+          l.rows.now;
+      turned = l.turned;
+    } };
 
-    ghost invariant = { λ l. IsListed (record { numbers = l.numbering.now; known = l.known.now; rel = l.rel; attr = l.attr; rows = l.rows.now; turned = l.turned }) };
+    ghost invariant = { λ l. IsListed (record {
+      numbers = l.numbering.now;
+      known = l.known.now;
+      rel = l.rel;
+      attr =
+          l.attr;
+      rows = l.rows.now;
+      turned = l.turned;
+    }) };
 }
 
 impl Listed<'_> {

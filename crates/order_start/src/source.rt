@@ -28,9 +28,20 @@ impl<'a> Model for Source<'a> {
 
     ghost Value = { Subject };
 
-    ghost view = { λ s. record { relations = s.spec.now.relations; wanted = s.wanted.now; numbers = s.numbering.now; known = s.known.now } };
+    ghost view = { λ s. record {
+      relations = s.spec.now.relations;
+      wanted = s.wanted.now;
+      numbers = s.numbering.now;
+      known = s.known.now;
+    } };
 
-    ghost invariant = { λ s. IsSubject (record { relations = s.spec.now.relations; wanted = s.wanted.now; numbers = s.numbering.now; known = s.known.now }) };
+    ghost invariant = { λ s. IsSubject (record {
+      relations = s.spec.now.relations;
+      wanted = s.wanted.now;
+      numbers =
+          s.numbering.now;
+      known = s.known.now;
+    }) };
 }
 
 impl Source<'_> {
@@ -57,7 +68,8 @@ impl Source<'_> {
         requires attr { (r : Relation) → slice_get self.now.relations rel.0 ≡ Some r → attr.0 < length r.attrs }
         requires ent { (r : Relation) → slice_get self.now.relations rel.0 ≡ Some r → ent.0 < length r.entities }
         ensures numbers { result.numbers ≡ self.now.numbers }
-        ensures rows { (r : Relation) → slice_get self.now.relations rel.0 ≡ Some r → result.rows ≡ rows_of (entities_of r.rows) ent.0 }
+        ensures rows { (r : Relation) → slice_get self.now.relations rel.0 ≡ Some r → result.rows ≡ rows_of
+            (entities_of r.rows) ent.0 }
     {
         let rows = self.numbering.lists(rel).of_entity(ent);
         Listed {

@@ -48,7 +48,8 @@ cut_at first (x ∷ es) (suc row) at h is =
     (mine ++ rest.0, ap (λ ps. mine ++ ps) rest.1 ∙ sym (append_assoc mine rest.0 (pairs_from at (drop row es))))
 
 -- what is left from a row on stands behind the pairs of lesser first rows
-pair_from : (es : List ℕ) (row start total k : ℕ) → row ≤ length es → total ≡ length (pairs_of es) → start + left_from es row ≡ total
+pair_from : (es : List ℕ) (row start total k : ℕ) → row ≤ length es → total ≡ length (pairs_of es)
+    → start + left_from es row ≡ total
     → slice_get (pairs_of es) (start + k) ≡ slice_get (pairs_from row (drop row es)) k
 pair_from es row start total k h total_is start_is =
     let cut = cut_at 0 es row row h (omega arith) in
@@ -59,15 +60,18 @@ pair_from es row start total k h total_is start_is =
 -- the rows from a row on, and the later rows of its entity
 row_first : (es : List ℕ) (row ent : ℕ) → slice_get es row ≡ Some ent → drop row es ≡ ent ∷ drop (row + 1) es
 row_first es row ent at =
-    drop_more es row ent (slice_get_within es row ent at) ∙ ap (λ e. e ∷ drop (row + 1) es) (get_or_from_slice_get es row ent ent at)
+    drop_more es row ent (slice_get_within es row ent at) ∙ ap (λ e. e ∷ drop (row + 1) es)
+    (get_or_from_slice_get es row ent ent at)
 
-laters_of : (es : List ℕ) (ent place : ℕ) (row : RowId) → slice_get es row.0 ≡ Some ent → slice_get (rows_of es ent) place ≡ Some row
+laters_of : (es : List ℕ) (ent place : ℕ) (row : RowId) → slice_get es row.0 ≡ Some ent → slice_get (rows_of es ent)
+    place ≡ Some row
     → drop (place + 1) (rows_of es ent) ≡ rows_from (row.0 + 1) (drop (row.0 + 1) es) ent
 laters_of es ent place row of at =
     let after = rows_after 0 es ent row.0 place row (row.0 + 1) of at (omega arith) (omega arith) in
     rw (add-one place, add-one row.0) (rw add-one at after)
 
-pub left_more : (es : List ℕ) (ent place : ℕ) (row : RowId) → slice_get es row.0 ≡ Some ent → slice_get (rows_of es ent) place ≡ Some row
+pub left_more : (es : List ℕ) (ent place : ℕ) (row : RowId) → slice_get es row.0 ≡ Some ent
+    → slice_get (rows_of es ent) place ≡ Some row
     → length (rows_of es ent) - place - 1 + left_from es (row.0 + 1) ≡ left_from es row.0
 left_more es ent place row of at =
     let laters = rows_from (row.0 + 1) (drop (row.0 + 1) es) ent in
@@ -143,7 +147,13 @@ module _ (es starts : List ℕ) (total : ℕ) (are : AreStarts es starts total) 
   starts_ascend i j d order within =
       let at_i = any_default starts i d (omega arith) in
       let at_j = any_default starts j d within in
-      omega (arith, are.before i (omega (arith, are.rows)), are.before j (omega (arith, are.rows)), left_falls es i j order (omega (arith, are.rows)))
+      omega (
+        arith,
+        are.before i (omega (arith, are.rows)),
+        are.before j (omega (arith, are.rows)),
+        left_falls es i j
+            order (omega (arith, are.rows)),
+      )
 
   pub some_row : (number : ℕ) → number < length (pairs_of es) → 0 < length starts
   some_row number below = go (cases_lt 0 (length es))
@@ -156,7 +166,8 @@ module _ (es starts : List ℕ) (total : ℕ) (are : AreStarts es starts total) 
   first_start some = omega (arith, are.before 0 (omega (arith, are.rows)), are.pairs)
 
   -- what is left behind the last row that begins up to a number
-  pub below_next : (number next : ℕ) → number < length (pairs_of es) → next ≤ length starts → (next < length starts → number < slice_index starts next)
+  pub below_next : (number next : ℕ) → number < length (pairs_of es) → next ≤ length starts →
+      (next < length starts → number < slice_index starts next)
       → number + left_from es next < total
   below_next number next below within last = go (cases_lt next (length starts))
     where
@@ -166,7 +177,8 @@ module _ (es starts : List ℕ) (total : ℕ) (are : AreStarts es starts total) 
 
   -- ---- what the calls tell
 
-  module _ (row : RowId) (ent place start : ℕ) (of : slice_get es row.0 ≡ Some ent) (at : slice_get (rows_of es ent) place ≡ Some row)
+  module _ (row : RowId) (ent place start : ℕ) (of : slice_get es row.0 ≡ Some ent)
+      (at : slice_get (rows_of es ent) place ≡ Some row)
       (start_is : start ≡ slice_index starts row.0) where
     begins : start + left_from es row.0 ≡ total
     begins = ap (λ n. n + left_from es row.0) start_is ∙ are.before row.0 (slice_get_within es row.0 ent of)
@@ -199,7 +211,8 @@ module _ (es starts : List ℕ) (total : ℕ) (are : AreStarts es starts total) 
           few = omega (arith, are.few);
           pair = λ d.
               let at' = slice_get-get_or (rows_of es ent) place' d room in
-              let pair = number_at es start total ent place place' row (get_or (rows_of es ent) place' d) are.pairs begins of at at' (omega arith) in
+              let pair = number_at es start total ent place place' row (get_or (rows_of es ent) place' d) are.pairs
+              begins of at at' (omega arith) in
               rw number_is at pair;
         }
 
@@ -228,4 +241,5 @@ module _ (es starts : List ℕ) (total : ℕ) (are : AreStarts es starts total) 
       let up_to' : slice_index starts row.0 ≤ number = rw (← same_items) up_to in
       let start_is : start ≡ slice_index starts row.0 = read ∙ any_default starts row.0 start room' in
       let f = found row ent place start of at start_is number below' room' (omega arith) last' in
-      subst (λ now. IsFound now rows row place start number) same (subst (λ rs. IsFound es rs row place start number) (sym same_rows) f)
+      subst (λ now. IsFound now rows row place start number) same (subst (λ rs. IsFound es rs row place start number)
+      (sym same_rows) f)

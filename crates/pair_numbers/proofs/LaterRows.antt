@@ -12,7 +12,8 @@ abbrev Tells : ℕ → ℕ → Type 0
 Tells x ent = (((x == ent) ≡ true) × (x ≡ ent)) ⊎ (((x == ent) ≡ false) × (x ≢ ent))
 
 -- of two rows the lesser stands first
-pub rows_order : (es : List ℕ) (ent i j : ℕ) (a b : RowId) → slice_get (rows_of es ent) i ≡ Some a → slice_get (rows_of es ent) j ≡ Some b
+pub rows_order : (es : List ℕ) (ent i j : ℕ) (a b : RowId) → slice_get (rows_of es ent) i ≡ Some a
+    → slice_get (rows_of es ent) j ≡ Some b
     → a.0 < b.0 → i < j
 rows_order es ent i j a b at_i at_j below = go (cases_lt i j)
   where
@@ -35,20 +36,26 @@ rows_after first [] ent place i row next of at number is_next = absurd (none-som
 rows_after first (x ∷ es) ent zero i row next of at number is_next = here i (eqb_tells x ent) (same_Some x ent of) at
   where
     here : (i : ℕ) → Tells x ent → x ≡ ent
-        → slice_get (cond (x == ent) (record { 0 = first } ∷ rows_from (first + 1) es ent) (rows_from (first + 1) es ent)) i ≡ Some row
-        → drop (suc i) (cond (x == ent) (record { 0 = first } ∷ rows_from (first + 1) es ent) (rows_from (first + 1) es ent)) ≡ rows_from next es ent
+        → slice_get (cond (x == ent) (record { 0 = first } ∷ rows_from (first + 1) es ent)
+        (rows_from (first + 1) es ent)) i ≡ Some row
+        → drop (suc i) (cond (x == ent) (record { 0 = first } ∷ rows_from (first + 1) es ent)
+        (rows_from (first + 1) es ent)) ≡ rows_from next es ent
     here zero (inl h) same at = rw h.0 (ap (λ n. rows_from n es ent) (omega arith))
     here (suc j) (inl h) same at =
         let m = member_from (first + 1) es ent j row (rw h.0 at at) in
         absurd (omega (arith, m.number))
     here i (inr h) same at = absurd (h.1 same)
 rows_after first (x ∷ es) ent (suc place) i row next of at number is_next =
-    there (λ j at'. rows_after (first + 1) es ent place j row next of at' (omega (arith, number)) (omega (arith, is_next))) i (eqb_tells x ent) at
+    there (λ j at'. rows_after (first + 1) es ent place j row next of at' (omega (arith, number))
+    (omega (arith, is_next))) i (eqb_tells x ent) at
   where
-    there : ((j : ℕ) → slice_get (rows_from (first + 1) es ent) j ≡ Some row → drop (suc j) (rows_from (first + 1) es ent) ≡ rows_from next (drop (suc place) es) ent)
+    there : ((j : ℕ) → slice_get (rows_from (first + 1) es ent) j ≡ Some row → drop (suc j)
+        (rows_from (first + 1) es ent) ≡ rows_from next (drop (suc place) es) ent)
         → (i : ℕ) → Tells x ent
-        → slice_get (cond (x == ent) (record { 0 = first } ∷ rows_from (first + 1) es ent) (rows_from (first + 1) es ent)) i ≡ Some row
-        → drop (suc i) (cond (x == ent) (record { 0 = first } ∷ rows_from (first + 1) es ent) (rows_from (first + 1) es ent)) ≡ rows_from next (drop (suc place) es) ent
+        → slice_get (cond (x == ent) (record { 0 = first } ∷ rows_from (first + 1) es ent)
+        (rows_from (first + 1) es ent)) i ≡ Some row
+        → drop (suc i) (cond (x == ent) (record { 0 = first } ∷ rows_from (first + 1) es ent)
+        (rows_from (first + 1) es ent)) ≡ rows_from next (drop (suc place) es) ent
     there more zero (inl h) at =
         let first_row : RowId = record { 0 = first } in
         let here : Some first_row ≡ Some row = rw h.0 at at in

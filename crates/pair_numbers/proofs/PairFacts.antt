@@ -47,9 +47,11 @@ places_in first (e ∷ es) n p at = go (cases_lt n (length mine)) (λ k at'. pla
     mine : List RowPair
     mine = with_each (record { 0 = first }) (rows_from (first + 1) es e)
 
-    go : (n < length mine) ⊎ (length mine ≤ n) → ((k : ℕ) → slice_get (pairs_from (first + 1) es) k ≡ Some p → ArePlaces (first + 1) es p) → ArePlaces first (e ∷ es) p
+    go : (n < length mine) ⊎ (length mine ≤ n) → ((k : ℕ) → slice_get (pairs_from (first + 1) es) k ≡ Some p
+        → ArePlaces (first + 1) es p) → ArePlaces first (e ∷ es) p
     go (inl h) more =
-        let is = each_is (record { 0 = first }) (rows_from (first + 1) es e) n p (sym (get_front mine (pairs_from (first + 1) es) n h) ∙ at) in
+        let is = each_is (record { 0 = first }) (rows_from (first + 1) es e) n p
+        (sym (get_front mine (pairs_from (first + 1) es) n h) ∙ at) in
         let row = member_from (first + 1) es e n p.later is.1 in
         record {
           one = 0;
@@ -87,7 +89,8 @@ pair_in es n p at =
       one_entity = ap (slice_get es) one ∙ m.of_one ∙ sym m.of_two ∙ sym (ap (slice_get es) two);
     }
 
-pair_at : (first : ℕ) (es : List ℕ) (p : RowPair) (one two ent : ℕ) → one < two → p.earlier.0 ≡ first + one → p.later.0 ≡ first + two
+pair_at : (first : ℕ) (es : List ℕ) (p : RowPair) (one two ent : ℕ) → one < two → p.earlier.0 ≡ first + one
+    → p.later.0 ≡ first + two
     → slice_get es one ≡ Some ent → slice_get es two ≡ Some ent → (n : ℕ) × (slice_get (pairs_from first es) n ≡ Some p)
 pair_at first [] p one two ent order earlier later of_one of_two = absurd (none-some ent of_one)
 pair_at first (e ∷ es) p zero zero ent order earlier later of_one of_two = absurd (omega arith)
@@ -95,28 +98,36 @@ pair_at first (e ∷ es) p zero (suc two) ent order earlier later of_one of_two 
     let mine = with_each p.earlier (rows_from (first + 1) es e) in
     let row = found_from (first + 1) es e two (of_two ∙ sym of_one) in
     let numbered : first + 1 + two ≡ p.later.0 = omega (arith, later) in
-    let at = each_at p.earlier (rows_from (first + 1) es e) row.0 p.later (row.1 ∙ ap (λ (n : ℕ). let r : RowId = record { 0 = n } in Some r) numbered) in
+    let at = each_at p.earlier (rows_from (first + 1) es e) row.0 p.later
+    (row.1 ∙ ap (λ (n : ℕ). let r : RowId = record { 0 = n } in Some r) numbered) in
     let number : p.earlier.0 ≡ first = omega (arith, earlier) in
-    let front = get_front mine (pairs_from (first + 1) es) row.0 (slice_get_within mine row.0 p at) in
-    (row.0, ap (λ (n : ℕ). slice_get (with_each (record { 0 = n }) (rows_from (first + 1) es e) ++ pairs_from (first + 1) es) row.0) (sym number) ∙ front ∙ at)
+    let front = get_front mine (pairs_from (first + 1) es) row.0 (slice_get_within mine row.0 p at) in (
+      row.0,
+      ap (λ (n : ℕ). slice_get (with_each (record { 0 = n }) (rows_from (first + 1) es e) ++ pairs_from
+          (first + 1) es) row.0) (sym number) ∙ front ∙ at,
+    )
 pair_at first (e ∷ es) p (suc one) zero ent order earlier later of_one of_two = absurd (omega arith)
 pair_at first (e ∷ es) p (suc one) (suc two) ent order earlier later of_one of_two =
     let mine = with_each (record { 0 = first }) (rows_from (first + 1) es e) in
-    let found = pair_at (first + 1) es p one two ent (omega arith) (omega (arith, earlier)) (omega (arith, later)) of_one of_two in
+    let found = pair_at (first + 1) es p one two ent (omega arith) (omega (arith, earlier)) (omega (arith, later))
+    of_one of_two in
     (length mine + found.0, get_behind mine (pairs_from (first + 1) es) (length mine + found.0) found.0 (omega arith) ∙ found.1)
 
 -- and each two such rows are
-pub in_pairs : (es : List ℕ) (p : RowPair) → IsPairOf es p → (n : ℕ) × (n < length (pairs_of es)) × (slice_get (pairs_of es) n ≡ Some p)
+pub in_pairs : (es : List ℕ) (p : RowPair) → IsPairOf es p → (n : ℕ) × (n < length (pairs_of es)) ×
+    (slice_get (pairs_of es) n ≡ Some p)
 in_pairs es p is =
     let two = slice_get-get_or es p.later.0 0 is.within in
     let found = pair_at 0 es p p.earlier.0 p.later.0 _ is.order (omega arith) (omega arith) (is.one_entity ∙ two) two in
     (found.0, slice_get_within (pairs_of es) found.0 p found.1, found.1)
 
-ascend : (first : ℕ) (es : List ℕ) (m n : ℕ) (p q : RowPair) → slice_get (pairs_from first es) m ≡ Some p → slice_get (pairs_from first es) n ≡ Some q
+ascend : (first : ℕ) (es : List ℕ) (m n : ℕ) (p q : RowPair) → slice_get (pairs_from first es) m ≡ Some p
+    → slice_get (pairs_from first es) n ≡ Some q
     → m < n → ComesBefore p q
 ascend first [] m n p q at_m at_n less = absurd (none-some p at_m)
 ascend first (e ∷ es) m n p q at_m at_n less =
-    go (cases_lt m (length mine)) (cases_lt n (length mine)) (λ k l at_k at_l below. ascend (first + 1) es k l p q at_k at_l below)
+    go (cases_lt m (length mine)) (cases_lt n (length mine)) (λ k l at_k at_l below. ascend (first + 1) es k l p q
+    at_k at_l below)
   where
     laters : List RowId
     laters = rows_from (first + 1) es e
@@ -135,7 +146,8 @@ ascend first (e ∷ es) m n p q at_m at_n less =
         inr (ap (λ (r : RowId). r.0) (is_p.0 ∙ sym is_q.0), ascend_from (first + 1) es e m n p.later q.later is_p.1 is_q.1 less)
     go (inl h) (inr k) more =
         let is_p = each_is (record { 0 = first }) laters m p (sym (get_front mine rest m h) ∙ at_m) in
-        let q_at : slice_get rest (n - length mine) ≡ Some q = sym (get_behind mine rest n (n - length mine) (omega arith)) ∙ at_n in
+        let q_at : slice_get rest (n - length mine) ≡ Some q =
+        sym (get_behind mine rest n (n - length mine) (omega arith)) ∙ at_n in
         let q_is = places_in (first + 1) es (n - length mine) q q_at in
         inl (omega (arith, ap (λ (r : RowId). r.0) is_p.0, q_is.earlier))
     go (inr h) (inl k) more = absurd (omega arith)
@@ -144,7 +156,8 @@ ascend first (e ∷ es) m n p q at_m at_n less =
         (sym (get_behind mine rest n (n - length mine) (omega arith)) ∙ at_n) (omega arith)
 
 -- the pairs ascend
-pub pairs_ascend : (es : List ℕ) (m n : ℕ) (p q : RowPair) → slice_get (pairs_of es) m ≡ Some p → slice_get (pairs_of es) n ≡ Some q → m < n → ComesBefore p q
+pub pairs_ascend : (es : List ℕ) (m n : ℕ) (p q : RowPair) → slice_get (pairs_of es) m ≡ Some p
+    → slice_get (pairs_of es) n ≡ Some q → m < n → ComesBefore p q
 pairs_ascend es m n p q at_m at_n less = ascend 0 es m n p q at_m at_n less
 
 -- each pair has one number

@@ -23,13 +23,15 @@ kept_relation keeps rel r = record r { given = kept_pairs keeps rel r.given }
 relation_from : (keeps : Keeps) (first : ℕ) (rs : List Relation) (rel : ℕ)
     → slice_get (kept_relations keeps first rs) rel ≡ option_map (kept_relation keeps (first + rel)) (slice_get rs rel)
 relation_from keeps first [] rel = refl
-relation_from keeps first (r ∷ rs) zero = let same : first ≡ first + 0 = omega arith in ap (λ n. Some (kept_relation keeps n r)) same
+relation_from keeps first (r ∷ rs) zero = let same : first ≡ first + 0 = omega arith in ap
+    (λ n. Some (kept_relation keeps n r)) same
 relation_from keeps first (r ∷ rs) (suc rel) =
     let same : suc first + rel ≡ first + suc rel = omega arith in
     relation_from keeps (suc first) rs rel ∙ ap (λ n. option_map (kept_relation keeps n) (slice_get rs rel)) same
 
 -- the relation that one is kept of
-pub relation_of : (keeps : Keeps) (rs : List Relation) (rel : ℕ) (r : Relation) → slice_get (kept_relations keeps 0 rs) rel ≡ Some r
+pub relation_of : (keeps : Keeps) (rs : List Relation) (rel : ℕ) (r : Relation)
+    → slice_get (kept_relations keeps 0 rs) rel ≡ Some r
     → (whole : Relation) × (slice_get rs rel ≡ Some whole) × (kept_relation keeps rel whole ≡ r)
 relation_of keeps rs rel r at =
     let same : 0 + rel ≡ rel = omega arith in
@@ -106,7 +108,8 @@ pub pair_of : (keeps : Keeps) (rel : ℕ) (ps : List Pair) (p : Pair) → Contai
 pair_of keeps rel ps p at =
     let of = pair_among keeps rel ps p (among (kept_pairs keeps rel ps) p at) in (contained ps p of.0, of.1)
 
-pub pair_kept : (keeps : Keeps) (rel : ℕ) (ps : List Pair) (p : Pair) → Contains ps p → keeps (item.Given (record { 0 = rel }) p) ≡ true
+pub pair_kept : (keeps : Keeps) (rel : ℕ) (ps : List Pair) (p : Pair) → Contains ps p
+    → keeps (item.Given (record { 0 = rel }) p) ≡ true
     → Contains (kept_pairs keeps rel ps) p
 pair_kept keeps rel ps p at is = contained (kept_pairs keeps rel ps) p (among_kept keeps rel ps p (among ps p at) is)
 
@@ -119,7 +122,8 @@ kept_copy keeps k copy = record copy { sources = kept_sources keeps k 0 copy.sou
 copy_from : (keeps : Keeps) (first : ℕ) (copies : List CopyFunction) (k : ℕ)
     → slice_get (kept_copies keeps first copies) k ≡ option_map (kept_copy keeps (first + k)) (slice_get copies k)
 copy_from keeps first [] k = refl
-copy_from keeps first (copy ∷ copies) zero = let same : first ≡ first + 0 = omega arith in ap (λ n. Some (kept_copy keeps n copy)) same
+copy_from keeps first (copy ∷ copies) zero = let same : first ≡ first + 0 = omega arith in ap
+    (λ n. Some (kept_copy keeps n copy)) same
 copy_from keeps first (copy ∷ copies) (suc k) =
     let same : suc first + k ≡ first + suc k = omega arith in
     copy_from keeps (suc first) copies k ∙ ap (λ n. option_map (kept_copy keeps n) (slice_get copies k)) same
@@ -133,7 +137,8 @@ copy_of keeps copies k copy at =
     of_option (kept_copy keeps k) (slice_get copies k) copy
     (sym (copy_from keeps 0 copies k ∙ ap (λ n. option_map (kept_copy keeps n) (slice_get copies k)) same) ∙ at)
 
-pub as_many_copies : (keeps : Keeps) (first : ℕ) (copies : List CopyFunction) → length (kept_copies keeps first copies) ≡ length copies
+pub as_many_copies : (keeps : Keeps) (first : ℕ) (copies : List CopyFunction)
+    → length (kept_copies keeps first copies) ≡ length copies
 as_many_copies keeps first [] = refl
 as_many_copies keeps first (copy ∷ copies) = let more = as_many_copies keeps (suc first) copies in omega (arith, more)
 
@@ -167,12 +172,14 @@ some_if true o x e = (refl, e)
 some_if false o x e = absurd (none-some x e)
 
 -- a row that is mapped in what is kept is kept and mapped alike, and the other way round
-pub source_of : (keeps : Keeps) (k : ℕ) (copy : CopyFunction) (row source : RowId) → source_at (kept_copy keeps k copy) row ≡ Some source
+pub source_of : (keeps : Keeps) (k : ℕ) (copy : CopyFunction) (row source : RowId)
+    → source_at (kept_copy keeps k copy) row ≡ Some source
     → (keeps (item.Copy (record { 0 = k }) row) ≡ true) × (source_at copy row ≡ Some source)
 source_of keeps k copy row source at =
     some_if (keeps (item.Copy (record { 0 = k }) row)) (source_at copy row) source (sym (source_is keeps k copy row) ∙ at)
 
-pub source_kept : (keeps : Keeps) (k : ℕ) (copy : CopyFunction) (row source : RowId) → keeps (item.Copy (record { 0 = k }) row) ≡ true
+pub source_kept : (keeps : Keeps) (k : ℕ) (copy : CopyFunction) (row source : RowId)
+    → keeps (item.Copy (record { 0 = k }) row) ≡ true
     → source_at copy row ≡ Some source → source_at (kept_copy keeps k copy) row ≡ Some source
 source_kept keeps k copy row source is at =
     source_is keeps k copy row ∙ ap (λ test. if test then source_at copy row else None) is ∙ at

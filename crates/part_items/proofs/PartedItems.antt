@@ -27,7 +27,8 @@ places_kept keeps relations scope n are = record {
   entities_ascend = are.entities_ascend;
   rows = λ rel r at.
       let of = relation_of keeps relations rel r at in
-      subst (λ (q : Relation). (row : RowId) → Contains (rows_in n rel) row ↔ IsRowIn scope rel q.rows row) of.2 (are.rows rel of.0 of.1);
+      subst (λ (q : Relation). (row : RowId) → Contains (rows_in n rel) row ↔ IsRowIn scope rel q.rows row) of.2
+      (are.rows rel of.0 of.1);
   entities = λ rel r at.
       let of = relation_of keeps relations rel r at in
       subst
@@ -37,7 +38,8 @@ places_kept keeps relations scope n are = record {
 }
 
 -- rows that are mapped where fewer are kept are mapped in the whole
-closed_at : (keeps : Keeps) (s : Spec) (scope : Scope) (k : ℕ) (copy : CopyFunction) → IsClosed s scope → slice_get s.copies k ≡ Some copy
+closed_at : (keeps : Keeps) (s : Spec) (scope : Scope) (k : ℕ) (copy : CopyFunction) → IsClosed s scope
+    → slice_get s.copies k ≡ Some copy
     → (target source : Relation) → slice_get (kept_relations keeps 0 s.relations) copy.target.0 ≡ Some target
     → slice_get (kept_relations keeps 0 s.relations) copy.source.0 ≡ Some source
     → (row from : RowId) → source_at (kept_copy keeps k copy) row ≡ Some from
@@ -46,7 +48,8 @@ closed_at : (keeps : Keeps) (s : Spec) (scope : Scope) (k : ℕ) (copy : CopyFun
 closed_at keeps s scope k copy closed at target source at_target at_source row from mapped ent source_ent of_ent of_source =
     let old_target = relation_of keeps s.relations copy.target.0 target at_target in
     let old_source = relation_of keeps s.relations copy.source.0 source at_source in
-    closed k copy at old_target.0 old_source.0 old_target.1 old_source.1 row from (source_of keeps k copy row from mapped).1 ent source_ent
+    closed k copy at old_target.0 old_source.0 old_target.1 old_source.1 row from
+    (source_of keeps k copy row from mapped).1 ent source_ent
     (ap (λ (q : Relation). entity_of q.rows row.0) old_target.2 ∙ of_ent)
     (ap (λ (q : Relation). entity_of q.rows from.0) old_source.2 ∙ of_source)
 
@@ -66,7 +69,8 @@ closed_kept keeps s scope closed k copy at =
 -- the pair of the whole that a pair of the part is
 pair_is : (rows : List RowId) (p old : Pair) → IsPairPart rows p old → whole_pair rows p ≡ old
 pair_is rows p old is =
-    let earlier : whole_row rows p.earlier ≡ old.earlier = get_or_from_slice_get rows p.earlier.0 old.earlier p.earlier is.earlier in
+    let earlier : whole_row rows p.earlier ≡ old.earlier = get_or_from_slice_get rows p.earlier.0 old.earlier
+    p.earlier is.earlier in
     let later : whole_row rows p.later ≡ old.later = get_or_from_slice_get rows p.later.0 old.later p.later is.later in
     ap (λ a. let q : Pair = record { attr = a; earlier = whole_row rows p.earlier; later = whole_row rows p.later } in q) is.attr
     ∙ ap (λ (x : RowId). let q : Pair = record { attr = old.attr; earlier = x; later = whole_row rows p.later } in q) earlier
@@ -74,7 +78,8 @@ pair_is rows p old is =
 
 relation_part : (n : Places) (copies : List CopyFunction) (keeps : Keeps) (rel : ℕ) (r new : Relation)
     → IsRelationPart r (rows_in n rel) (entities_in n rel) new
-    → IsRelationPart (kept_relation keeps rel r) (rows_in n rel) (entities_in n rel) (kept_relation (kept_in n copies keeps) rel new)
+    → IsRelationPart (kept_relation keeps rel r) (rows_in n rel) (entities_in n rel)
+    (kept_relation (kept_in n copies keeps) rel new)
 relation_part n copies keeps rel r new is = record {
   name = is.name;
   attrs = is.attrs;
@@ -95,7 +100,8 @@ relation_part n copies keeps rel r new is = record {
       pair_kept (kept_in n copies keeps) rel new.given p (is.given_all p old part of.0) here;
 }
 
-relations_kept : (s part : Spec) (scope : Scope) (n : Places) (keeps : Keeps) → IsPartOf s scope n part → (rel : ℕ) (r new : Relation)
+relations_kept : (s part : Spec) (scope : Scope) (n : Places) (keeps : Keeps) → IsPartOf s scope n part →
+    (rel : ℕ) (r new : Relation)
     → slice_get (kept_relations keeps 0 s.relations) rel ≡ Some r
     → slice_get (kept_relations (kept_in n s.copies keeps) 0 part.relations) rel ≡ Some new
     → IsRelationPart r (rows_in n rel) (entities_in n rel) new
@@ -113,13 +119,16 @@ same_rules : (n : Places) (copies : List CopyFunction) (keeps : Keeps) (k : ℕ)
     → kept_rules (kept_in n copies keeps) k rules ≡ kept_rules keeps k rules
 same_rules n copies keeps k [] = refl
 same_rules n copies keeps k (rule ∷ rules) =
-    ap (λ (rest : List Rule). if keeps (item.Rule (record { 0 = k })) then rule ∷ rest else rest) (same_rules n copies keeps (suc k) rules)
+    ap (λ (rest : List Rule). if keeps (item.Rule (record { 0 = k })) then rule ∷ rest else rest)
+    (same_rules n copies keeps (suc k) rules)
 
 -- ---- copy functions
 
-copy_part : (n : Places) (copies : List CopyFunction) (keeps : Keeps) (k : ℕ) (copy new : CopyFunction) → slice_get copies k ≡ Some copy
+copy_part : (n : Places) (copies : List CopyFunction) (keeps : Keeps) (k : ℕ) (copy new : CopyFunction)
+    → slice_get copies k ≡ Some copy
     → IsCopyPart copy (rows_in n copy.target.0) (rows_in n copy.source.0) new
-    → IsCopyPart (kept_copy keeps k copy) (rows_in n copy.target.0) (rows_in n copy.source.0) (kept_copy (kept_in n copies keeps) k new)
+    → IsCopyPart (kept_copy keeps k copy) (rows_in n copy.target.0) (rows_in n copy.source.0)
+    (kept_copy (kept_in n copies keeps) k new)
 copy_part n copies keeps k copy new at is = record {
   name = is.name;
   target = is.target;
@@ -142,9 +151,11 @@ copy_part n copies keeps k copy new at is = record {
         ≡ keeps (item.Copy (record { 0 = k }) old)
     same row old at_row =
         ap (λ (o : Option CopyFunction). keeps (item.Copy (record { 0 = k }) (whole_row (target_rows n o) row))) at
-        ∙ ap (λ (x : RowId). keeps (item.Copy (record { 0 = k }) x)) (get_or_from_slice_get (rows_in n copy.target.0) row.0 old row at_row)
+        ∙ ap (λ (x : RowId). keeps (item.Copy (record { 0 = k }) x)) (get_or_from_slice_get (rows_in n copy.target.0)
+        row.0 old row at_row)
 
-copies_kept : (s part : Spec) (scope : Scope) (n : Places) (keeps : Keeps) → IsPartOf s scope n part → (k : ℕ) (copy new : CopyFunction)
+copies_kept : (s part : Spec) (scope : Scope) (n : Places) (keeps : Keeps) → IsPartOf s scope n part →
+    (k : ℕ) (copy new : CopyFunction)
     → slice_get (kept_copies keeps 0 s.copies) k ≡ Some copy
     → slice_get (kept_copies (kept_in n s.copies keeps) 0 part.copies) k ≡ Some new
     → IsCopyPart copy (rows_in n copy.target.0) (rows_in n copy.source.0) new
@@ -152,7 +163,8 @@ copies_kept s part scope n keeps is k copy new at at_new =
     let of = copy_of keeps s.copies k copy at in
     let of_new = copy_of (kept_in n s.copies keeps) part.copies k new at_new in
     subst (λ (q : CopyFunction). IsCopyPart q (rows_in n q.target.0) (rows_in n q.source.0) new) of.2
-    (subst (λ (q : CopyFunction). IsCopyPart (kept_copy keeps k of.0) (rows_in n of.0.target.0) (rows_in n of.0.source.0) q) of_new.2
+    (subst (λ (q : CopyFunction). IsCopyPart (kept_copy keeps k of.0) (rows_in n of.0.target.0)
+    (rows_in n of.0.source.0) q) of_new.2
     (copy_part n s.copies keeps k of.0 of_new.0 of.1 (is.copies k of.0 of_new.0 of.1 of_new.1)))
 
 -- ---- all together

@@ -5,7 +5,8 @@ use Rattle.completion_fill.proofs.Shapes.{filled_shape, filled_ranking, same_ran
 use Rattle.spec_model.specs.Completion.{Rankings, HasShape, IsBlank, ranking_of}
 use Rattle.spec_model.specs.declared.relation.Relation.{Relation}
 
-pub is_copy : (relations : List Relation) (other blank new : Rankings) → HasShape relations other → HasShape relations blank → IsBlank blank
+pub is_copy : (relations : List Relation) (other blank new : Rankings) → HasShape relations other
+    → HasShape relations blank → IsBlank blank
     → new ≡ filled other blank → new ≡ other
 is_copy relations other blank new of_other of_blank none is =
     is ∙ same_rankings relations (filled other blank) other (filled_shape relations other blank of_other of_blank) of_other

@@ -22,7 +22,8 @@ use Rattle.part_join.proofs.Setting.{place_below}
 -- ---- what fits a part is to be set in a completion of the whole
 
 -- a relation that rankings have lists of
-relation_there : (relations : List Relation) (n : Places) (narrow : Rankings) (rel : ℕ) → FitsPart relations n narrow → rel < length narrow
+relation_there : (relations : List Relation) (n : Places) (narrow : Rankings) (rel : ℕ) → FitsPart relations n narrow
+    → rel < length narrow
     → (r : Relation) × (slice_get relations rel ≡ Some r)
 relation_there relations n narrow rel fits below = there relations rel (omega (arith, below, fits.per_relation))
 
@@ -48,7 +49,11 @@ has_room relations scope n narrow c places fits shape = record {
   per_attr = λ rel.
       ⊎_elim
       (λ (h : rel < length narrow).
-      let r = relation_there relations n narrow rel fits h in omega (arith, fits.per_attr rel r.0 r.1, shape.per_attr rel r.0 r.1))
+      let r = relation_there relations n narrow rel fits h in omega (
+        arith,
+        fits.per_attr rel r.0 r.1,
+        shape.per_attr rel r.0 r.1,
+      ))
       (λ (h : length narrow ≤ rel). omega (arith, ap length (get_or_past narrow rel [] h)))
       (cases_lt rel (length narrow));
   per_entity = λ rel attr inside k ent at.
@@ -92,7 +97,8 @@ is_joined relations n other narrow c shape fits put rest = record {
 
 -- what holds of the lists that are there, holds of each
 each_list : (relations : List Relation) (c : Rankings) (rel attr k : ℕ) (P : List RowId → Type 0) → HasShape relations c → P []
-    → ((r : Relation) → slice_get relations rel ≡ Some r → attr < length r.attrs → k < length r.entities → P (ranking_of c rel attr k))
+    → ((r : Relation) → slice_get relations rel ≡ Some r → attr < length r.attrs → k < length r.entities
+    → P (ranking_of c rel attr k))
     → P (ranking_of c rel attr k)
 each_list relations c rel attr k P shape none here =
     ⊎_elim
@@ -123,7 +129,8 @@ completions_fit s scope n part narrow of completion =
     part_there rel r at =
         there part.relations rel (let below = slice_get_within s.relations rel r at in omega (arith, below, of.per_relation))
 
-    per_attr : (rel : ℕ) (r : Relation) → slice_get s.relations rel ≡ Some r → length (slice_index_or narrow rel []) ≡ length r.attrs
+    per_attr : (rel : ℕ) (r : Relation) → slice_get s.relations rel ≡ Some r
+        → length (slice_index_or narrow rel []) ≡ length r.attrs
     per_attr rel r at =
         let new = part_there rel r at in
         shape.per_attr rel new.0 new.1 ∙ ap (λ (l : List Attr). length l) (of.relations rel r new.0 at new.1).attrs
@@ -139,7 +146,8 @@ completions_fit s scope n part narrow of completion =
     within rel attr k =
         each_list part.relations narrow rel attr k (All Below) shape (All-nil Below)
         (λ new at inside below.
-        let r = there s.relations rel (let there = slice_get_within part.relations rel new at in omega (arith, there, of.per_relation)) in
+        let r = there s.relations rel (let there = slice_get_within part.relations rel new at in omega
+        (arith, there, of.per_relation)) in
         let is = of.relations rel r.0 new r.1 at in
         let list = ranking_of narrow rel attr k in
         All-weaker (Contains list) Below

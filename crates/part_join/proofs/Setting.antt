@@ -87,14 +87,17 @@ put_more n narrow c to_rel to_attr to_k to_ent are to_inside to_at so_far =
 
     there : ranking_of new to_rel to_attr to_ent.0 ≡ list
     there =
-        list_there c to_rel to_attr to_ent.0 list (omega (arith, place_below narrow to_rel to_attr to_inside, so_far.room.per_relation))
-        (omega (arith, to_inside, so_far.room.per_attr to_rel)) (so_far.room.per_entity to_rel to_attr to_inside to_k to_ent to_at)
+        list_there c to_rel to_attr to_ent.0 list
+        (omega (arith, place_below narrow to_rel to_attr to_inside, so_far.room.per_relation))
+        (omega (arith, to_inside, so_far.room.per_attr to_rel)) (so_far.room.per_entity to_rel to_attr to_inside to_k
+        to_ent to_at)
 
     here : (rel attr k : ℕ) (ent : EntId) → slice_get (entities_in n rel) k ≡ Some ent → rel ≡ to_rel → attr ≡ to_attr → k ≡ to_k
         → ranking_of new rel attr ent.0 ≡ map (whole_row (rows_in n rel)) (ranking_of narrow rel attr k)
     here rel attr k ent at e f g =
         let same : ent ≡ to_ent =
-        same_Some ent to_ent (sym at ∙ (ap (λ m. slice_get (entities_in n m) k) e ∙ (ap (slice_get (entities_in n to_rel)) g ∙ to_at))) in
+        same_Some ent to_ent (sym at ∙ (ap (λ m. slice_get (entities_in n m) k) e ∙
+        (ap (slice_get (entities_in n to_rel)) g ∙ to_at))) in
         rw (e, f, g, same) there
 
     put : (rel attr k : ℕ) (ent : EntId) → attr < length (get_or narrow rel []) → slice_get (entities_in n rel) k ≡ Some ent
@@ -110,7 +113,8 @@ put_more n narrow c to_rel to_attr to_k to_ent are to_inside to_at so_far =
         (before_next to_rel to_attr to_k rel attr k before)
 
 -- the list that is read, made of lists in steps
-pub list_read : (narrow : Rankings) (rel attr k : ℕ) (lists : List (List RowId)) (one list : List RowId) → lists ≡ lists_of narrow rel attr
+pub list_read : (narrow : Rankings) (rel attr k : ℕ) (lists : List (List RowId)) (one list : List RowId)
+    → lists ≡ lists_of narrow rel attr
     → slice_get lists k ≡ Some one → list ≡ one → list ≡ ranking_of narrow rel attr k
 list_read narrow rel attr k lists one list are at is =
     is ∙ (sym (get_or_from_slice_get lists k one [] at) ∙ ap (λ (l : List (List RowId)). get_or l k []) are)
@@ -122,7 +126,8 @@ pub entity_read : (n : Places) (rel k : ℕ) (entities : List EntId) (d : EntId)
 entity_read n rel k entities d are below = rw are (slice_get-get_or (entities_in n rel) k d below)
 
 -- one more, as it is put
-pub put_one : (n : Places) (narrow c new : Rankings) (rel attr k : ℕ) (ent : EntId) (rows list mapped : List RowId) → AreToPut n narrow
+pub put_one : (n : Places) (narrow c new : Rankings) (rel attr k : ℕ) (ent : EntId) (rows list mapped : List RowId)
+    → AreToPut n narrow
     → attr < length (get_or narrow rel []) → slice_get (entities_in n rel) k ≡ Some ent → ArePutSoFar n narrow rel attr k c
     → rows ≡ rows_in n rel → list ≡ ranking_of narrow rel attr k → mapped ≡ map (whole_row rows) list
     → new ≡ with_ranking c rel attr ent.0 mapped → ArePutSoFar n narrow rel attr (k + 1) new
@@ -133,12 +138,14 @@ put_one n narrow c new rel attr k ent rows list mapped are inside at so_far rows
 
 -- ---- all of an attribute, and all of a relation
 
-from_attr : (n : Places) (rel attr k : ℕ) → length (entities_in n rel) ≤ k → {rel' attr' k' : ℕ} → k' < length (entities_in n rel')
+from_attr : (n : Places) (rel attr k : ℕ) → length (entities_in n rel) ≤ k → {rel' attr' k' : ℕ} → k' < length
+    (entities_in n rel')
     → Precedes rel (attr + 1) 0 rel' attr' k' → Precedes rel attr k rel' attr' k'
 from_attr n rel attr k all below (by_rel h) = by_rel h
 from_attr n rel attr k all below (by_attr {rel = rel'} {attr = attr'} {k = k'} e h) =
     let many : length (entities_in n rel') ≡ length (entities_in n rel) = ap (λ m. length (entities_in n m)) e in
-    ⊎_elim (λ (g : attr' < attr). by_attr e g) (λ (g : attr ≤ attr'). by_entity e (omega arith) (omega arith)) (cases_lt attr' attr)
+    ⊎_elim (λ (g : attr' < attr). by_attr e g) (λ (g : attr ≤ attr'). by_entity e (omega arith) (omega arith))
+    (cases_lt attr' attr)
 from_attr n rel attr k all below (by_entity e f h) = absurd (omega arith)
 
 pub attribute_all : (n : Places) (narrow c : Rankings) (rel attr k : ℕ) → length (entities_in n rel) ≤ k
@@ -146,7 +153,8 @@ pub attribute_all : (n : Places) (narrow c : Rankings) (rel attr k : ℕ) → le
 attribute_all n narrow c rel attr k all so_far = record {
   room = so_far.room;
   put = λ rel' attr' k' ent inside at before.
-      so_far.put rel' attr' k' ent inside at (from_attr n rel attr k all (slice_get_within (entities_in n rel') k' ent at) before);
+      so_far.put rel' attr' k' ent inside at
+      (from_attr n rel attr k all (slice_get_within (entities_in n rel') k' ent at) before);
 }
 
 from_rel : (narrow : Rankings) (rel attr : ℕ) → length (get_or narrow rel []) ≤ attr → {rel' attr' k' : ℕ}

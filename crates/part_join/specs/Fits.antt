@@ -8,7 +8,8 @@ use Rattle.spec_model.specs.declared.relation.Relation.{Relation}
 -- one list per relation, attribute and entity of a part, of rows of the part
 pub record FitsPart (relations : List Relation) (n : Places) (narrow : Rankings) : Type 0 where
   pub per_relation : length narrow ≡ length relations
-  pub per_attr : (rel : ℕ) (r : Relation) → slice_get relations rel ≡ Some r → length (slice_index_or narrow rel []) ≡ length r.attrs
+  pub per_attr : (rel : ℕ) (r : Relation) → slice_get relations rel ≡ Some r
+      → length (slice_index_or narrow rel []) ≡ length r.attrs
   pub per_entity : (rel : ℕ) (r : Relation) → slice_get relations rel ≡ Some r
       → (attr : ℕ) → attr < length r.attrs → length (lists_of narrow rel attr) ≡ length (entities_in n rel)
   pub within : (rel attr k : ℕ) → All (λ row. row.0 < length (rows_in n rel)) (ranking_of narrow rel attr k)

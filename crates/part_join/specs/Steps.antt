@@ -30,7 +30,8 @@ pub data Precedes (to_rel to_attr to_k : ℕ) : ℕ → ℕ → ℕ → Type 0 w
 -- the lists at the places before one are set
 pub record ArePutSoFar (n : Places) (narrow : Rankings) (to_rel to_attr to_k : ℕ) (c : Rankings) : Type 0 where
   pub room : HasRoom n narrow c
-  pub put : (rel attr k : ℕ) (ent : EntId) → attr < length (slice_index_or narrow rel []) → slice_get (entities_in n rel) k ≡ Some ent
+  pub put : (rel attr k : ℕ) (ent : EntId) → attr < length (slice_index_or narrow rel [])
+      → slice_get (entities_in n rel) k ≡ Some ent
       → Precedes to_rel to_attr to_k rel attr k
       → ranking_of c rel attr ent.0 ≡ map (whole_row (rows_in n rel)) (ranking_of narrow rel attr k)
 

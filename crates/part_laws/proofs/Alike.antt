@@ -34,7 +34,8 @@ pub record AreAlike (attrs : ℕ) (a b : Scene) : Type 0 where
 pub alike_back : (attrs : ℕ) (a b : Scene) → AreAlike attrs a b → AreAlike attrs b a
 alike_back attrs a b are = record { value = λ var attr. sym (are.value var attr); forth = are.back; back = are.forth }
 
-operands : (attrs : ℕ) (a b : Scene) (o : Operand) → AreAlike attrs a b → operand_value a.table a.rows o ≡ operand_value b.table b.rows o
+operands : (attrs : ℕ) (a b : Scene) (o : Operand) → AreAlike attrs a b → operand_value a.table a.rows o ≡
+    operand_value b.table b.rows o
 operands attrs a b (Field var attr) are = are.value var attr.0
 operands attrs a b (Constant value) are = refl
 
@@ -43,10 +44,12 @@ predicates : (vars : ℕ) (kinds : List Kind) (a b : Scene) (p : Predicate) → 
 predicates vars kinds a b (Order atom) are is holds = are.forth atom.attr.0 atom.earlier atom.later is.attr holds
 predicates vars kinds a b (Compare left cmp right) are is holds =
     ap (λ (v : Option Value). is_compared v cmp (operand_value b.table b.rows right)) (sym (operands (length kinds) a b left are))
-    ∙ (ap (λ (v : Option Value). is_compared (operand_value a.table a.rows left) cmp v) (sym (operands (length kinds) a b right are))
+    ∙ (ap (λ (v : Option Value). is_compared (operand_value a.table a.rows left) cmp v)
+    (sym (operands (length kinds) a b right are))
     ∙ holds)
 
-conclusions : (vars : ℕ) (kinds : List Kind) (a b : Scene) (q : Conclusion) → AreAlike (length kinds) a b → IsConclusion vars kinds q
+conclusions : (vars : ℕ) (kinds : List Kind) (a b : Scene) (q : Conclusion) → AreAlike (length kinds) a b
+    → IsConclusion vars kinds q
     → ConclusionHolds a.lists a.rows q → ConclusionHolds b.lists b.rows q
 conclusions vars kinds a b conclusion.Never are is holds = holds
 conclusions vars kinds a b (conclusion.Order atom) are is holds = are.forth atom.attr.0 atom.earlier atom.later is.attr holds

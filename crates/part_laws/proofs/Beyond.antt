@@ -67,7 +67,8 @@ before_same r lists others earlier later ent are of same before =
     let is = before_of r lists earlier later are before in
     let one : before.ent ≡ ent = same_number r.rows earlier.0 before.ent ent is.earlier_of of in
     let at = λ (place : ℕ) (row : RowId) (e : slice_get (slice_index_or lists before.ent []) place ≡ Some row).
-    ap (λ (l : List RowId). slice_get l place) (sym same) ∙ (ap (λ (n : ℕ). slice_get (slice_index_or lists n []) place) (sym one) ∙ e) in
+    ap (λ (l : List RowId). slice_get l place) (sym same) ∙
+    (ap (λ (n : ℕ). slice_get (slice_index_or lists n []) place) (sym one) ∙ e) in
     record {
       ent = ent;
       low = before.low;
@@ -78,7 +79,8 @@ before_same r lists others earlier later ent are of same before =
     }
 
 -- a row of an entity beyond the scope, which stands before another in the one completion, does in the other
-stands_same : (b : Both) (rel : ℕ) (r : Relation) (attr ent : ℕ) (earlier later : RowId) → AreBoth b → slice_get b.s.relations rel ≡ Some r
+stands_same : (b : Both) (rel : ℕ) (r : Relation) (attr ent : ℕ) (earlier later : RowId) → AreBoth b
+    → slice_get b.s.relations rel ≡ Some r
     → attr < length r.attrs → beyond b.scope rel ent ≡ true → entity_of r.rows earlier.0 ≡ Some ent
     → Before (lists_of b.c rel attr) earlier later → Before (lists_of b.other rel attr) earlier later
 stands_same b rel r attr ent earlier later are at inside scoped of =
@@ -102,7 +104,8 @@ of_entity_at table ent rows i all = go (slice_get rows i) refl
     go None e = tt
     go (Some row) e = all_at (λ (x : RowId). entity_of table x.0 ≡ Some ent) rows i row all e
 
-options_same : (b : Both) (rel : ℕ) (r : Relation) (attr ent : ℕ) (x y : Option RowId) → AreBoth b → slice_get b.s.relations rel ≡ Some r
+options_same : (b : Both) (rel : ℕ) (r : Relation) (attr ent : ℕ) (x y : Option RowId) → AreBoth b
+    → slice_get b.s.relations rel ≡ Some r
     → attr < length r.attrs → beyond b.scope rel ent ≡ true → OfEntity r.rows ent x
     → StandsBefore (lists_of b.c rel attr) x y → StandsBefore (lists_of b.other rel attr) x y
 options_same b rel r attr ent None y are at inside scoped of stands = absurd stands
@@ -114,7 +117,8 @@ abbrev scene_of : Rankings → ℕ → Relation → List RowId → Scene
 scene_of c rel r rows = record { table = r.rows; lists = slice_index_or c rel []; rows = rows }
 
 -- a choice of rows of an entity beyond the scope is alike in both
-alike_beyond : (b : Both) (rel : ℕ) (r : Relation) (vars : ℕ) (rows : List RowId) → AreBoth b → slice_get b.s.relations rel ≡ Some r
+alike_beyond : (b : Both) (rel : ℕ) (r : Relation) (vars : ℕ) (rows : List RowId) → AreBoth b
+    → slice_get b.s.relations rel ≡ Some r
     → (choice : IsChoice r.rows vars rows) → beyond b.scope rel choice.ent ≡ true
     → AreAlike (length (kinds_of r)) (scene_of b.other rel r rows) (scene_of b.c rel r rows)
 alike_beyond b rel r vars rows are at choice scoped =
@@ -123,8 +127,10 @@ alike_beyond b rel r vars rows are at choice scoped =
     record {
       value = λ var attr. refl;
       forth = λ attr x y below.
-          options_same (turned b) rel r attr choice.ent (get x) (get y) (are_turned b are) at (attr_within r attr below) scoped (of x);
-      back = λ attr x y below. options_same b rel r attr choice.ent (get x) (get y) are at (attr_within r attr below) scoped (of x);
+          options_same (turned b) rel r attr choice.ent (get x) (get y) (are_turned b are) at
+          (attr_within r attr below) scoped (of x);
+      back = λ attr x y below. options_same b rel r attr choice.ent (get x) (get y) are at (attr_within r attr below)
+          scoped (of x);
     }
 
 -- ---- all that is kept
@@ -143,15 +149,18 @@ rules_beyond b are satisfied at rule is_rule r at_r rows choice scoped =
     (rule_fits b.s at rule r are.whole_is is_rule at_r) (satisfied at rule is_rule r at_r rows choice)
 
 -- the sources of rows that are beyond the scope are beyond it too
-copies_beyond : (b : Both) → AreBoth b → IsCompatibleWith b.s.relations b.s.copies b.other → IsCompatibleIn b.s (beyond b.scope) b.c
+copies_beyond : (b : Both) → AreBoth b → IsCompatibleWith b.s.relations b.s.copies b.other → IsCompatibleIn b.s
+    (beyond b.scope) b.c
 copies_beyond b are compatible at copy is_copy t u is_t is_u place_at place is_place first second rows scoped before =
     let inside = place_inside b.s at copy t u place_at place are.whole_is is_copy is_t is_u is_place in
     let one = are.closed at copy is_copy t u is_t is_u first rows.first_source rows.first_is rows.ent rows.source_ent
     rows.first_of rows.first_source_of in
     let source_scoped = sym (ap not one) ∙ scoped in
-    stands_same (turned b) copy.target.0 t place.target.0 rows.ent first second (are_turned b are) is_t inside.target scoped rows.first_of
+    stands_same (turned b) copy.target.0 t place.target.0 rows.ent first second (are_turned b are) is_t inside.target
+    scoped rows.first_of
     (compatible at copy is_copy t u is_t is_u place_at place is_place first second rows
-    (stands_same b copy.source.0 u place.source.0 rows.source_ent rows.first_source rows.second_source are is_u inside.source source_scoped
+    (stands_same b copy.source.0 u place.source.0 rows.source_ent rows.first_source rows.second_source are is_u
+    inside.source source_scoped
     rows.first_source_of before))
 
 pub kept_beyond : (b : Both) → AreBoth b → IsConsistent b.s b.other → IsKeptIn b.s (beyond b.scope) b.c

@@ -62,7 +62,8 @@ placed_part k ent (old ∷ olds) is inside all =
 
 all_whole : (k : Cut) (ent : ℕ) (old_ent : EntId) (xs olds : List RowId) → IsCut k → slice_get k.entities ent ≡ Some old_ent
     → ArePlaced k.rows xs olds
-    → All (λ (x : RowId). entity_of k.part.rows x.0 ≡ Some ent) xs → All (λ (x : RowId). entity_of k.whole.rows x.0 ≡ Some old_ent.0) olds
+    → All (λ (x : RowId). entity_of k.part.rows x.0 ≡ Some ent) xs
+    → All (λ (x : RowId). entity_of k.whole.rows x.0 ≡ Some old_ent.0) olds
 all_whole k ent old_ent [] [] is at are all = All-nil (λ (x : RowId). entity_of k.whole.rows x.0 ≡ Some old_ent.0)
 all_whole k ent old_ent [] (old ∷ olds) is at are all = absurd are
 all_whole k ent old_ent (x ∷ xs) [] is at are all = absurd are
@@ -73,14 +74,16 @@ all_whole k ent old_ent (x ∷ xs) (old ∷ olds) is at are all =
 
 all_part : (k : Cut) (ent : ℕ) (old_ent : EntId) (xs olds : List RowId) → IsCut k → slice_get k.entities ent ≡ Some old_ent
     → ArePlaced k.rows xs olds
-    → All (λ (x : RowId). entity_of k.whole.rows x.0 ≡ Some old_ent.0) olds → All (λ (x : RowId). entity_of k.part.rows x.0 ≡ Some ent) xs
+    → All (λ (x : RowId). entity_of k.whole.rows x.0 ≡ Some old_ent.0) olds
+    → All (λ (x : RowId). entity_of k.part.rows x.0 ≡ Some ent) xs
 all_part k ent old_ent [] [] is at are all = All-nil (λ (x : RowId). entity_of k.part.rows x.0 ≡ Some ent)
 all_part k ent old_ent [] (old ∷ olds) is at are all = absurd are
 all_part k ent old_ent (x ∷ xs) [] is at are all = absurd are
 all_part k ent old_ent (x ∷ xs) (old ∷ olds) is at are all =
     All-cons (λ (x : RowId). entity_of k.part.rows x.0 ≡ Some ent) x xs
     (of_part k x old ent old_ent is are.0 at (All-head (λ (x : RowId). entity_of k.whole.rows x.0 ≡ Some old_ent.0) old olds all))
-    (all_part k ent old_ent xs olds is at are.1 (All-tail (λ (x : RowId). entity_of k.whole.rows x.0 ≡ Some old_ent.0) old olds all))
+    (all_part k ent old_ent xs olds is at are.1
+    (All-tail (λ (x : RowId). entity_of k.whole.rows x.0 ≡ Some old_ent.0) old olds all))
 
 -- ---- choices
 
@@ -98,7 +101,8 @@ choice_whole k vars (x ∷ xs) (old ∷ olds) is are choice =
     record {
       one_each = sym (as_many k.rows (x ∷ xs) (old ∷ olds) are) ∙ choice.one_each;
       ent = cut.old_ent.0;
-      of_entity = all_whole k choice.ent cut.old_ent (x ∷ xs) (old ∷ olds) is (sym (ap (slice_get k.entities) same) ∙ cut.is_ent) are
+      of_entity = all_whole k choice.ent cut.old_ent (x ∷ xs) (old ∷ olds) is (sym (ap (slice_get k.entities) same)
+          ∙ cut.is_ent) are
           choice.of_entity;
     }
 
@@ -133,7 +137,8 @@ values_placed k None (Some old) attr is placed = absurd placed
 values_placed k (Some x) None attr is placed = absurd placed
 values_placed k (Some x) (Some old) attr is placed = (row_cut k x old is placed).value attr
 
-stands_whole : (k : Cut) (attr : ℕ) (x y old_x old_y : Option RowId) → IsCut k → attr < length k.whole.attrs → IsPlaced k.rows x old_x
+stands_whole : (k : Cut) (attr : ℕ) (x y old_x old_y : Option RowId) → IsCut k → attr < length k.whole.attrs
+    → IsPlaced k.rows x old_x
     → IsPlaced k.rows y old_y
     → StandsBefore (slice_index_or k.part_lists attr []) x y → StandsBefore (slice_index_or k.lists attr []) old_x old_y
 stands_whole k attr None y old_x old_y is inside at_x at_y stands = absurd stands
@@ -188,5 +193,6 @@ pub rule_whole : (k : Cut) (rule : Rule) → IsCut k → AreAllListed k → IsRu
     → IsSatisfiedBy k.whole.rows k.lists rule olds
 rule_whole k rule is are fits satisfied olds choice inside =
     let placed = placed_part k choice.ent olds is inside choice.of_entity in
-    satisfied_alike (kinds_of k.whole) rule (part_scene k placed.0) (whole_scene k olds) (alike_placed k placed.0 olds is are placed.1) fits
+    satisfied_alike (kinds_of k.whole) rule (part_scene k placed.0) (whole_scene k olds)
+    (alike_placed k placed.0 olds is are placed.1) fits
     (satisfied placed.0 (choice_part k rule.vars placed.0 olds is placed.1 choice))

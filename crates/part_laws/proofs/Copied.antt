@@ -40,7 +40,8 @@ pub record AreMatched (d : Copied) (first second old_first old_second : RowId) (
   pub second_from : slice_get d.source.rows part.second_source.0 ≡ Some whole.second_source
 
 -- two rows of the part that are of one entity are of one entity of the whole
-together : (k : Cut) (a b old_a old_b : RowId) (ent : ℕ) → IsCut k → slice_get k.rows a.0 ≡ Some old_a → slice_get k.rows b.0 ≡ Some old_b
+together : (k : Cut) (a b old_a old_b : RowId) (ent : ℕ) → IsCut k → slice_get k.rows a.0 ≡ Some old_a
+    → slice_get k.rows b.0 ≡ Some old_b
     → entity_of k.part.rows a.0 ≡ Some ent → entity_of k.part.rows b.0 ≡ Some ent
     → (old : ℕ) × (entity_of k.whole.rows old_a.0 ≡ Some old) × (entity_of k.whole.rows old_b.0 ≡ Some old)
 together k a b old_a old_b ent is at_a at_b of_a of_b =
@@ -66,7 +67,8 @@ matched_whole d first second is part =
     let a = is.of.mapped_are first part.first_source part.first_is in
     let b = is.of.mapped_are second part.second_source part.second_is in
     let targets = together d.target first second a.0 b.0 part.ent is.target a.2 b.2 part.first_of part.second_of in
-    let sources = together d.source part.first_source part.second_source a.1 b.1 part.source_ent is.source a.3 b.3 part.first_source_of
+    let sources = together d.source part.first_source part.second_source a.1 b.1 part.source_ent is.source a.3 b.3
+    part.first_source_of
     part.second_source_of in (
       a.0,
       b.0,
@@ -88,14 +90,17 @@ matched_whole d first second is part =
 -- and those of the whole whose entities are in the scope are mapped rows of the part
 pub matched_part : (d : Copied) (old_first old_second : RowId) → IsCopied d → (whole : InWhole d old_first old_second)
     → d.target.scope d.target.rel whole.ent ≡ true → d.source.scope d.source.rel whole.source_ent ≡ true
-    → (first : RowId) × (second : RowId) × (part : InPart d first second) × AreMatched d first second old_first old_second part whole
+    → (first : RowId) × (second : RowId) × (part : InPart d first second) × AreMatched d first second old_first
+    old_second part whole
 matched_part d old_first old_second is whole inside source_inside =
     let a = old_there d.target old_first whole.ent is.target whole.first_of inside in
     let b = old_there d.target old_second whole.ent is.target whole.second_of inside in
     let from_a = old_there d.source whole.first_source whole.source_ent is.source whole.first_source_of source_inside in
     let from_b = old_there d.source whole.second_source whole.source_ent is.source whole.second_source_of source_inside in
-    let targets = together_part d.target a.0 b.0 old_first old_second whole.ent is.target a.1 b.1 whole.first_of whole.second_of in
-    let sources = together_part d.source from_a.0 from_b.0 whole.first_source whole.second_source whole.source_ent is.source from_a.1
+    let targets = together_part d.target a.0 b.0 old_first old_second whole.ent is.target a.1 b.1 whole.first_of
+    whole.second_of in
+    let sources = together_part d.source from_a.0 from_b.0 whole.first_source whole.second_source whole.source_ent
+    is.source from_a.1
     from_b.1
     whole.first_source_of whole.second_source_of in (
       a.0,
@@ -127,8 +132,10 @@ pub keeps_part : (d : Copied) (attr from : ℕ) (first second old_first old_seco
     → Before (slice_index_or d.source.part_lists from []) part.first_source part.second_source
     → Before (slice_index_or d.target.part_lists attr []) first second
 keeps_part d attr from first second old_first old_second part whole is inside from_inside are keeps before =
-    before_part d.target attr first second old_first old_second is.target inside (is.target_listed attr inside) are.first_at are.second_at
-    (keeps (before_whole d.source from part.first_source part.second_source whole.first_source whole.second_source is.source from_inside
+    before_part d.target attr first second old_first old_second is.target inside (is.target_listed attr inside)
+    are.first_at are.second_at
+    (keeps (before_whole d.source from part.first_source part.second_source whole.first_source whole.second_source
+    is.source from_inside
     are.first_from are.second_from before))
 
 -- and the other way round
@@ -142,5 +149,6 @@ pub keeps_whole : (d : Copied) (attr from : ℕ) (first second old_first old_sec
     → Before (slice_index_or d.target.lists attr []) old_first old_second
 keeps_whole d attr from first second old_first old_second part whole is inside from_inside are keeps before =
     before_whole d.target attr first second old_first old_second is.target inside are.first_at are.second_at
-    (keeps (before_part d.source from part.first_source part.second_source whole.first_source whole.second_source is.source from_inside
+    (keeps (before_part d.source from part.first_source part.second_source whole.first_source whole.second_source
+    is.source from_inside
     (is.source_listed from from_inside) are.first_from are.second_from before))

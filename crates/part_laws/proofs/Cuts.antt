@@ -58,7 +58,8 @@ is_cut p rel r new is at at_new =
       entities_ascend = places.entities_ascend rel;
       rows_are = places.rows rel r at;
       entities_are = places.entities rel r at;
-      listed = λ attr below. is.shape.per_entity rel new at_new attr (omega (arith, below, as_many_attrs p rel r new is at at_new));
+      listed = λ attr below. is.shape.per_entity rel new at_new attr
+          (omega (arith, below, as_many_attrs p rel r new is at at_new));
       within = λ attr ent. is.narrowed.within rel attr ent;
       same = is.narrowed.same rel r at;
     }

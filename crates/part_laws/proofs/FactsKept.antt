@@ -40,7 +40,8 @@ last_value k attr ent old is inside at =
         ∙ slice_get-map (whole_row k.rows) list (length list - 1))
 
     go : (o : Option RowId) → last_row list ≡ o
-        → field_value k.part.rows (last_row list) attr ≡ field_value k.whole.rows (option_map (whole_row k.rows) (last_row list)) attr
+        → field_value k.part.rows (last_row list) attr ≡ field_value k.whole.rows
+        (option_map (whole_row k.rows) (last_row list)) attr
     go None e =
         ap (λ (o : Option RowId). field_value k.part.rows o attr) e
         ∙ sym (ap (λ (o : Option RowId). field_value k.whole.rows (option_map (whole_row k.rows) o) attr) e)

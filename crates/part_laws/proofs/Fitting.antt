@@ -28,7 +28,8 @@ pub record IsInside (t u : Relation) (place : Place) : Type 0 where
   pub target : place.target.0 < length t.attrs
   pub source : place.source.0 < length u.attrs
 
-pub place_inside : (s : Spec) (at : ℕ) (copy : CopyFunction) (target source : Relation) (place_at : ℕ) (place : Place) → IsSpecification s
+pub place_inside : (s : Spec) (at : ℕ) (copy : CopyFunction) (target source : Relation) (place_at : ℕ)
+    (place : Place) → IsSpecification s
     → slice_get s.copies at ≡ Some copy → slice_get s.relations copy.target.0 ≡ Some target
     → slice_get s.relations copy.source.0 ≡ Some source
     → slice_get copy.places place_at ≡ Some place → IsInside target source place
@@ -60,9 +61,16 @@ copy_there p at new is is_new =
 -- a copy function of both, and its relations of both
 abbrev pub copied_at : Parted → CopyFunction → CopyFunction → Relation → Relation → Relation → Relation → Copied
 copied_at p copy new target new_target source new_source =
-    record { copy = copy; part = new; target = cut_at p copy.target.0 target new_target; source = cut_at p copy.source.0 source new_source }
+    record {
+      copy = copy;
+      part = new;
+      target = cut_at p copy.target.0 target new_target;
+      source =
+          cut_at p copy.source.0 source new_source;
+    }
 
-pub is_copied : (p : Parted) (at : ℕ) (copy new : CopyFunction) (t new_t u new_u : Relation) → IsParted p → IsCompletion p.s.relations p.c
+pub is_copied : (p : Parted) (at : ℕ) (copy new : CopyFunction) (t new_t u new_u : Relation) → IsParted p
+    → IsCompletion p.s.relations p.c
     → slice_get p.s.copies at ≡ Some copy → slice_get p.part.copies at ≡ Some new
     → slice_get p.s.relations copy.target.0 ≡ Some t → slice_get p.part.relations copy.target.0 ≡ Some new_t
     → slice_get p.s.relations copy.source.0 ≡ Some u → slice_get p.part.relations copy.source.0 ≡ Some new_u

@@ -42,17 +42,20 @@ given_from_part p is keeps rel r at pair among ent of scoped =
     before_whole k pair.attr.0 a.0 b.0 pair.earlier pair.later cut fits.attr a.1 b.1
     (keeps rel new.0 new.1 made (cut.is_part.given_all made pair (record { attr = refl; earlier = a.1; later = b.1 }) among))
 
-rules_from_part : (p : Parted) → IsParted p → IsCompletion p.s.relations p.c → SatisfiesRules p.part.relations p.part.rules p.narrow
+rules_from_part : (p : Parted) → IsParted p → IsCompletion p.s.relations p.c → SatisfiesRules p.part.relations
+    p.part.rules p.narrow
     → SatisfiesRulesIn p.s p.scope p.c
 rules_from_part p is completion satisfied at rule is_rule r at_r rows choice scoped =
     let rel = rule.relation.0 in
     let new = part_there p rel r is at_r in
     let is_new : slice_get p.part.rules at ≡ Some rule = ap (λ (l : List Rule). slice_get l at) is.of.rules ∙ is_rule in
-    rule_whole (cut_at p rel r new.0) rule (is_cut p rel r new.0 is at_r new.1) (listed_in p.s.relations p.c rel r completion at_r)
+    rule_whole (cut_at p rel r new.0) rule (is_cut p rel r new.0 is at_r new.1)
+    (listed_in p.s.relations p.c rel r completion at_r)
     (rule_fits p.s at rule r is.whole_is is_rule at_r) (satisfied at rule is_new new.0 new.1) rows choice scoped
 
 -- the sources of rows that are in the scope are in it too
-copies_from_part : (p : Parted) → IsParted p → IsCompletion p.s.relations p.c → IsCompatibleWith p.part.relations p.part.copies p.narrow
+copies_from_part : (p : Parted) → IsParted p → IsCompletion p.s.relations p.c → IsCompatibleWith p.part.relations
+    p.part.copies p.narrow
     → IsCompatibleIn p.s p.scope p.c
 copies_from_part p is completion compatible at copy is_copy t u is_t is_u place_at place is_place first second rows scoped =
     let new = copy_part_there p at copy is is_copy in
@@ -69,13 +72,16 @@ copies_from_part p is completion compatible at copy is_copy t u is_t is_u place_
     let at_t = ap (λ (x : RelId). slice_get p.part.relations x.0) of.target ∙ new_t.1 in
     let at_u = ap (λ (x : RelId). slice_get p.part.relations x.0) of.source ∙ new_u.1 in
     let at_place = ap (λ (l : List Place). slice_get l place_at) of.places ∙ is_place in
-    keeps_whole d place.target.0 place.source.0 matched.0 matched.1 first second part rows copied inside.target inside.source matched.3
+    keeps_whole d place.target.0 place.source.0 matched.0 matched.1 first second part rows copied inside.target
+    inside.source matched.3
     (λ before.
     subst (λ (x : RelId). Before (lists_of p.narrow x.0 place.target.0) matched.0 matched.1) of.target
     (compatible at new.0 new.1 new_t.0 new_u.0 at_t at_u place_at place at_place matched.0 matched.1 part
-    (subst (λ (x : RelId). Before (lists_of p.narrow x.0 place.source.0) part.first_source part.second_source) (sym of.source) before)))
+    (subst (λ (x : RelId). Before (lists_of p.narrow x.0 place.source.0) part.first_source part.second_source)
+    (sym of.source) before)))
 
-pub kept_from_part : (p : Parted) → IsParted p → IsCompletion p.s.relations p.c → IsConsistent p.part p.narrow → IsKeptIn p.s p.scope p.c
+pub kept_from_part : (p : Parted) → IsParted p → IsCompletion p.s.relations p.c → IsConsistent p.part p.narrow
+    → IsKeptIn p.s p.scope p.c
 kept_from_part p is completion consistent = record {
   given = given_from_part p is consistent.given;
   rules = rules_from_part p is completion consistent.rules;

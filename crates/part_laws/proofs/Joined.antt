@@ -22,7 +22,14 @@ rests_join s scope n rest_n part rest c narrow rest_narrow whole_is of rest_of s
     let p : Parted = record { s = s; scope = scope; n = n; part = part; c = c; narrow = narrow } in
     let q : Parted = record { s = s; scope = beyond scope; n = rest_n; part = rest; c = c; narrow = rest_narrow } in
     let is : IsParted p = record { whole_is = whole_is; of = of; shape = in_part.completion.shape; narrowed = narrowed } in
-    let are : IsParted q = record { whole_is = whole_is; of = rest_of; shape = in_rest.completion.shape; narrowed = rest_narrowed } in
+    let are : IsParted q = record {
+      whole_is = whole_is;
+      of = rest_of;
+      shape = in_rest.completion.shape;
+      narrowed =
+          rest_narrowed;
+    } in
     let completion = completion_of_both s.relations scope c shape (ranked_from_part p is in_part.completion)
     (ranked_from_part q are in_rest.completion) in
-    consistent_of_both s scope c whole_is completion (kept_from_part p is completion in_part) (kept_from_part q are completion in_rest)
+    consistent_of_both s scope c whole_is completion (kept_from_part p is completion in_part)
+    (kept_from_part q are completion in_rest)

@@ -37,7 +37,8 @@ place_part k attr ent old_ent i old is inside is_ent at = go (slice_get list i) 
     mapped = sym (slice_get-map (whole_row k.rows) list i)
         ∙ (sym (ap (λ (l : List RowId). slice_get l i) (is.same attr inside ent old_ent is_ent)) ∙ at)
 
-    go : (o : Option RowId) → slice_get list i ≡ o → (row : RowId) × (slice_get list i ≡ Some row) × (slice_get k.rows row.0 ≡ Some old)
+    go : (o : Option RowId) → slice_get list i ≡ o → (row : RowId) × (slice_get list i ≡ Some row) ×
+        (slice_get k.rows row.0 ≡ Some old)
     go None e = absurd (none-some old (sym (ap (option_map (whole_row k.rows)) e) ∙ mapped))
     go (Some row) e =
         let below : row.0 < length k.rows = all_at (λ (x : RowId). x.0 < length k.rows) list i row (is.within attr ent) e in
@@ -57,7 +58,8 @@ listed_row k attr ent i row is at =
 
 pub ranking_part : (k : Cut) (attr ent : ℕ) (old_ent : EntId) → IsCut k → attr < length k.whole.attrs
     → slice_get k.entities ent ≡ Some old_ent
-    → IsRanking k.whole.rows old_ent.0 (list_at k.lists attr old_ent.0) → IsRanking k.part.rows ent (list_at k.part_lists attr ent)
+    → IsRanking k.whole.rows old_ent.0 (list_at k.lists attr old_ent.0) → IsRanking k.part.rows ent
+    (list_at k.part_lists attr ent)
 ranking_part k attr ent old_ent is inside is_ent ranking = record { only = only; once = once; all = all }
   where
     list : List RowId
@@ -88,7 +90,8 @@ ranking_part k attr ent old_ent is inside is_ent ranking = record { only = only;
 
 pub ranking_whole : (k : Cut) (attr ent : ℕ) (old_ent : EntId) → IsCut k → attr < length k.whole.attrs
     → slice_get k.entities ent ≡ Some old_ent
-    → IsRanking k.part.rows ent (list_at k.part_lists attr ent) → IsRanking k.whole.rows old_ent.0 (list_at k.lists attr old_ent.0)
+    → IsRanking k.part.rows ent (list_at k.part_lists attr ent) → IsRanking k.whole.rows old_ent.0
+    (list_at k.lists attr old_ent.0)
 ranking_whole k attr ent old_ent is inside is_ent ranking = record { only = only; once = once; all = all }
   where
     list : List RowId
@@ -126,7 +129,8 @@ pub list_below : {A : Type 0} (lists : List (List A)) (ent i : ℕ) (x : A) → 
 list_below {A} lists ent i x at =
     ⊎_elim
     (λ (h : ent < length lists). h)
-    (λ (h : length lists ≤ ent). absurd (none-some x (sym (ap (λ (l : List A). slice_get l i) (get_or_past lists ent [] h)) ∙ at)))
+    (λ (h : length lists ≤ ent). absurd
+    (none-some x (sym (ap (λ (l : List A). slice_get l i) (get_or_past lists ent [] h)) ∙ at)))
     (cases_lt ent (length lists))
 
 pub before_whole : (k : Cut) (attr : ℕ) (a b old_a old_b : RowId) → IsCut k → attr < length k.whole.attrs
@@ -166,7 +170,8 @@ before_of r lists earlier later are before =
     let below : before.ent < length r.entities = omega (arith, listed, are.per_entity) in
     record {
       below = below;
-      earlier_of = are.only before.ent below earlier (at_place (slice_index_or lists before.ent []) before.low earlier before.first);
+      earlier_of = are.only before.ent below earlier (at_place (slice_index_or lists before.ent []) before.low
+          earlier before.first);
       later_of = are.only before.ent below later (at_place (slice_index_or lists before.ent []) before.high later before.second);
     }
 
@@ -177,7 +182,8 @@ before_part k attr a b old_a old_b is inside are at_a at_b before =
     let of = before_of k.whole (slice_index_or k.lists attr []) old_a old_b are before in
     let scoped = scope_of k a old_a before.ent is at_a of.earlier_of in
     let found = entity_there k before.ent is of.below scoped in
-    let at = λ (place : ℕ) (old : RowId) (e : slice_get (slice_index_or (slice_index_or k.lists attr []) before.ent []) place ≡ Some old).
+    let at = λ (place : ℕ) (old : RowId) (e : slice_get (slice_index_or (slice_index_or k.lists attr []) before.ent
+    []) place ≡ Some old).
     ap (λ n. slice_get (list_at k.lists attr n) place) found.3 ∙ e in
     let x = place_part k attr found.0 found.1 before.low old_a is inside found.2 (at before.low old_a before.first) in
     let y = place_part k attr found.0 found.1 before.high old_b is inside found.2 (at before.high old_b before.second) in

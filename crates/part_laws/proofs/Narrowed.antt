@@ -19,7 +19,8 @@ use Rattle.part_laws.proofs.Fitting.{rule_fits, place_inside, copy_there, copied
 
 ranked_narrow : (p : Parted) → IsParted p → IsCompletion p.s.relations p.c → (rel : ℕ) (new : Relation)
     → slice_get p.part.relations rel ≡ Some new
-    → (attr ent : ℕ) → attr < length new.attrs → ent < length new.entities → IsRanking new.rows ent (ranking_of p.narrow rel attr ent)
+    → (attr ent : ℕ) → attr < length new.attrs → ent < length new.entities → IsRanking new.rows ent
+    (ranking_of p.narrow rel attr ent)
 ranked_narrow p is completion rel new at_new attr ent inside below =
     let r = whole_there p rel new is at_new in
     let k = cut_at p rel r.0 new in
@@ -39,7 +40,8 @@ given_narrow p is completion keeps rel new at_new pair among =
     let inside = (All-contains (IsGivenPair r.0) r.0.given old.0 cut.facts.given old.2).attr in
     subst (λ (a : AttrId). Before (lists_of p.narrow rel a.0) pair.earlier pair.later) (sym old.1.attr)
     (before_part k old.0.attr.0 pair.earlier pair.later old.0.earlier old.0.later cut inside
-    (listed_in p.s.relations p.c rel r.0 completion r.1 old.0.attr.0 inside) old.1.earlier old.1.later (keeps rel r.0 r.1 old.0 old.2))
+    (listed_in p.s.relations p.c rel r.0 completion r.1 old.0.attr.0 inside) old.1.earlier old.1.later
+    (keeps rel r.0 r.1 old.0 old.2))
 
 rules_narrow : (p : Parted) → IsParted p → IsCompletion p.s.relations p.c → SatisfiesRules p.s.relations p.s.rules p.c
     → SatisfiesRules p.part.relations p.part.rules p.narrow
@@ -47,12 +49,14 @@ rules_narrow p is completion satisfied at rule is_new new at_new =
     let is_rule : slice_get p.s.rules at ≡ Some rule = sym (ap (λ (l : List Rule). slice_get l at) is.of.rules) ∙ is_new in
     let rel = rule.relation.0 in
     let r = whole_there p rel new is at_new in
-    rule_part (cut_at p rel r.0 new) rule (is_cut p rel r.0 new is r.1 at_new) (listed_in p.s.relations p.c rel r.0 completion r.1)
+    rule_part (cut_at p rel r.0 new) rule (is_cut p rel r.0 new is r.1 at_new)
+    (listed_in p.s.relations p.c rel r.0 completion r.1)
     (rule_fits p.s at rule r.0 is.whole_is is_rule r.1) (satisfied at rule is_rule r.0 r.1)
 
 copies_narrow : (p : Parted) → IsParted p → IsCompletion p.s.relations p.c → IsCompatibleWith p.s.relations p.s.copies p.c
     → IsCompatibleWith p.part.relations p.part.copies p.narrow
-copies_narrow p is completion compatible at new is_new target source is_target is_source place_at place is_place first second rows before =
+copies_narrow p is completion compatible at new is_new target source is_target is_source place_at place is_place
+    first second rows before =
     let copy = copy_there p at new is is_new in
     let of = is.of.copies at copy.0 new copy.1 is_new in
     let at_target : slice_get p.part.relations copy.0.target.0 ≡ Some target =
@@ -68,7 +72,8 @@ copies_narrow p is completion compatible at new is_new target source is_target i
     let inside = place_inside p.s at copy.0 t.0 u.0 place_at place is.whole_is copy.1 t.1 u.1 at_place in
     let matched = matched_whole d first second copied rows in
     subst (λ (x : RelId). Before (lists_of p.narrow x.0 place.target.0) first second) (sym of.target)
-    (keeps_part d place.target.0 place.source.0 first second matched.0 matched.1 rows matched.2 copied inside.target inside.source matched.3
+    (keeps_part d place.target.0 place.source.0 first second matched.0 matched.1 rows matched.2 copied inside.target
+    inside.source matched.3
     (compatible at copy.0 copy.1 t.0 u.0 t.1 u.1 place_at place at_place matched.0 matched.1 matched.2)
     (subst (λ (x : RelId). Before (lists_of p.narrow x.0 place.source.0) rows.first_source rows.second_source) of.source before))
 

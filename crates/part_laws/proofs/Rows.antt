@@ -37,7 +37,8 @@ same_entity : (a b : EntId) → a.0 ≡ b.0 → a ≡ b
 same_entity a b e = ap (λ (n : ℕ). let x : EntId = record { 0 = n } in x) e
 
 -- rows that ascend stand once each, and entities too
-one_row : (rows : List RowId) (i j : ℕ) (x : RowId) → RowsAscend rows → slice_get rows i ≡ Some x → slice_get rows j ≡ Some x → i ≡ j
+one_row : (rows : List RowId) (i j : ℕ) (x : RowId) → RowsAscend rows → slice_get rows i ≡ Some x
+    → slice_get rows j ≡ Some x → i ≡ j
 one_row rows i j x ascend at at' =
     ⊎_elim
     (λ (low : i < j). absurd (omega (arith, ascend i j x x low at at')))
@@ -139,7 +140,8 @@ row_cut k row old is at =
       of_part = entity_of_row k.part.rows row.0 one.0 one.1;
       of_whole = entity_of_row k.whole.rows old.0 made.old made.is_old;
       value = λ attr. ap (λ (o : Option Row). value_in o attr) one.1
-          ∙ (ap (λ (vs : List Value). slice_get vs attr) made.values ∙ sym (ap (λ (o : Option Row). value_in o attr) made.is_old));
+          ∙ (ap (λ (vs : List Value). slice_get vs attr) made.values
+          ∙ sym (ap (λ (o : Option Row). value_in o attr) made.is_old));
     }
 
 -- a row of the part is there
@@ -160,7 +162,8 @@ old_there k old ent is of inside =
     (row, found.1)
 
 -- and an entity of a row of the part is in the scope
-pub scope_of : (k : Cut) (row old : RowId) (ent : ℕ) → IsCut k → slice_get k.rows row.0 ≡ Some old → entity_of k.whole.rows old.0 ≡ Some ent
+pub scope_of : (k : Cut) (row old : RowId) (ent : ℕ) → IsCut k → slice_get k.rows row.0 ≡ Some old
+    → entity_of k.whole.rows old.0 ≡ Some ent
     → k.scope k.rel ent ≡ true
 scope_of k row old ent is at of =
     let found = (is.rows_are old).0 (at_place k.rows row.0 old at) in
@@ -185,7 +188,8 @@ pub of_whole : (k : Cut) (row old : RowId) (ent : ℕ) (old_ent : EntId) → IsC
 of_whole k row old ent old_ent is at is_ent of =
     let cut = row_cut k row old is at in
     let same : cut.ent ≡ ent = same_number k.part.rows row.0 cut.ent ent cut.of_part of in
-    let one : cut.old_ent ≡ old_ent = same_Some cut.old_ent old_ent (sym cut.is_ent ∙ (ap (slice_get k.entities) same ∙ is_ent)) in
+    let one : cut.old_ent ≡ old_ent = same_Some cut.old_ent old_ent
+    (sym cut.is_ent ∙ (ap (slice_get k.entities) same ∙ is_ent)) in
     cut.of_whole ∙ ap (λ (e : EntId). Some e.0) one
 
 pub of_part : (k : Cut) (row old : RowId) (ent : ℕ) (old_ent : EntId) → IsCut k → slice_get k.rows row.0 ≡ Some old

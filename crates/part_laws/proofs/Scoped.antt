@@ -30,7 +30,8 @@ IsRankedIn relations scope c = (rel : ℕ) (r : Relation) → slice_get relation
 -- the given pairs of each entity in a scope are kept
 abbrev pub KeepsGivenIn : List Relation → Scope → Rankings → Type 0
 KeepsGivenIn relations scope c = (rel : ℕ) (r : Relation) → slice_get relations rel ≡ Some r → (p : Pair) → Contains r.given p
-    → (ent : ℕ) → entity_of r.rows p.earlier.0 ≡ Some ent → scope rel ent ≡ true → Before (lists_of c rel p.attr.0) p.earlier p.later
+    → (ent : ℕ) → entity_of r.rows p.earlier.0 ≡ Some ent → scope rel ent ≡ true → Before (lists_of c rel p.attr.0)
+    p.earlier p.later
 
 -- the rules are satisfied by the rows of each entity in a scope
 abbrev pub SatisfiesRulesIn : Spec → Scope → Rankings → Type 0
@@ -42,9 +43,11 @@ SatisfiesRulesIn s scope c = (at : ℕ) (rule : Rule) → slice_get s.rules at �
 -- the mapped rows of each entity in a scope keep the order of their sources
 abbrev pub IsCompatibleIn : Spec → Scope → Rankings → Type 0
 IsCompatibleIn s scope c = (at : ℕ) (copy : CopyFunction) → slice_get s.copies at ≡ Some copy
-    → (target source : Relation) → slice_get s.relations copy.target.0 ≡ Some target → slice_get s.relations copy.source.0 ≡ Some source
+    → (target source : Relation) → slice_get s.relations copy.target.0 ≡ Some target → slice_get s.relations
+    copy.source.0 ≡ Some source
     → (place_at : ℕ) (place : Place) → slice_get copy.places place_at ≡ Some place
-    → (first second : RowId) (rows : AreCopiedTogether copy target.rows source.rows first second) → scope copy.target.0 rows.ent ≡ true
+    → (first second : RowId) (rows : AreCopiedTogether copy target.rows source.rows first second)
+    → scope copy.target.0 rows.ent ≡ true
     → Before (lists_of c copy.source.0 place.source.0) rows.first_source rows.second_source
     → Before (lists_of c copy.target.0 place.target.0) first second
 
@@ -59,7 +62,8 @@ either true = inl refl
 either false = inr refl
 
 -- what is ranked in a scope and beyond it is ranked
-pub completion_of_both : (relations : List Relation) (scope : Scope) (c : Rankings) → HasShape relations c → IsRankedIn relations scope c
+pub completion_of_both : (relations : List Relation) (scope : Scope) (c : Rankings) → HasShape relations c
+    → IsRankedIn relations scope c
     → IsRankedIn relations (beyond scope) c → IsCompletion relations c
 completion_of_both relations scope c shape ranked others = record {
   shape = shape;
@@ -68,7 +72,8 @@ completion_of_both relations scope c shape ranked others = record {
 }
 
 -- and what is kept in a scope and beyond it is consistent
-pub consistent_of_both : (s : Spec) (scope : Scope) (c : Rankings) → IsSpecification s → IsCompletion s.relations c → IsKeptIn s scope c
+pub consistent_of_both : (s : Spec) (scope : Scope) (c : Rankings) → IsSpecification s → IsCompletion s.relations c
+    → IsKeptIn s scope c
     → IsKeptIn s (beyond scope) c → IsConsistent s c
 consistent_of_both s scope c is completion kept others = record {
   completion = completion;
@@ -83,5 +88,6 @@ consistent_of_both s scope c is completion kept others = record {
       (either (scope rule.relation.0 choice.ent));
   copies = λ at copy is_copy t u is_t is_u place_at place is_place first second rows.
       ⊎_elim (kept.copies at copy is_copy t u is_t is_u place_at place is_place first second rows)
-      (others.copies at copy is_copy t u is_t is_u place_at place is_place first second rows) (either (scope copy.target.0 rows.ent));
+      (others.copies at copy is_copy t u is_t is_u place_at place is_place first second rows)
+      (either (scope copy.target.0 rows.ent));
 }

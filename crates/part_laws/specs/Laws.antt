@@ -19,7 +19,8 @@ PartsNarrow = (s : Spec) (scope : Scope) (n : Places) (part : Spec) (c narrow : 
 -- joining: a consistent completion of the whole stays one where a part's rows are ranked as in one of the part
 abbrev pub PartsJoin : Type 0
 PartsJoin = (s : Spec) (scope : Scope) (n : Places) (part : Spec) (c other narrow : Rankings) → IsSpecification s
-    → IsPartOf s scope n part → HasShape s.relations c → IsNarrowed s.relations n c narrow → AreSameBeyond s.relations scope c other
+    → IsPartOf s scope n part → HasShape s.relations c → IsNarrowed s.relations n c narrow
+    → AreSameBeyond s.relations scope c other
     → IsConsistent part narrow → IsConsistent s other → IsConsistent s c
 
 -- joining: a completion of a part and one of the rest, each consistent, make a consistent one of the whole

@@ -34,7 +34,8 @@ RowsAscend rows = (i j : ℕ) (x y : RowId) → i < j → slice_get rows i ≡ S
 
 -- the entities ascend
 abbrev pub EntitiesAscend : List EntId → Type 0
-EntitiesAscend entities = (i j : ℕ) (x y : EntId) → i < j → slice_get entities i ≡ Some x → slice_get entities j ≡ Some y → x.0 < y.0
+EntitiesAscend entities = (i j : ℕ) (x y : EntId) → i < j → slice_get entities i ≡ Some x → slice_get entities j ≡
+    Some y → x.0 < y.0
 
 -- a row stands for an entity that the part has
 pub record IsRowIn (scope : Scope) (rel : ℕ) (table : List Row) (row : RowId) : Type 0 where
@@ -56,7 +57,8 @@ pub record ArePlacesOf (relations : List Relation) (scope : Scope) (n : Places) 
 -- a scope is closed: a mapped row and the row that it is copied from are of entities that are both in it, or both not
 abbrev pub IsClosed : Spec → Scope → Type 0
 IsClosed s scope = (k : ℕ) (copy : CopyFunction) → slice_get s.copies k ≡ Some copy
-    → (target source : Relation) → slice_get s.relations copy.target.0 ≡ Some target → slice_get s.relations copy.source.0 ≡ Some source
+    → (target source : Relation) → slice_get s.relations copy.target.0 ≡ Some target → slice_get s.relations
+    copy.source.0 ≡ Some source
     → (row from : RowId) → source_at copy row ≡ Some from
     → (ent source_ent : ℕ) → entity_of target.rows row.0 ≡ Some ent → entity_of source.rows from.0 ≡ Some source_ent
     → scope copy.target.0 ent ≡ scope copy.source.0 source_ent
@@ -85,7 +87,8 @@ pub record IsRelationPart (r : Relation) (rows : List RowId) (entities : List En
   pub each_row : (k : ℕ) (row : RowId) (one : Row) → slice_get rows k ≡ Some row → slice_get new.rows k ≡ Some one
       → IsRowPart r.rows entities row one
   pub per_entity : length new.entities ≡ length entities
-  pub each_entity : (k : ℕ) (ent : EntId) → slice_get entities k ≡ Some ent → slice_get new.entities k ≡ slice_get r.entities ent.0
+  pub each_entity : (k : ℕ) (ent : EntId) → slice_get entities k ≡ Some ent → slice_get new.entities k ≡ slice_get
+      r.entities ent.0
   pub given_are : (p : Pair) → Contains new.given p → (old : Pair) × IsPairPart rows p old × Contains r.given old
   pub given_all : (p old : Pair) → IsPairPart rows p old → Contains r.given old → Contains new.given p
 

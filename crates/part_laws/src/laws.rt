@@ -5,8 +5,8 @@ pub fn parts_narrow()
     ensures { PartsNarrow }
 {}
 
-/// Laws, joining: a consistent completion of the whole stays one where a part's rows are ranked as in one of the part; and one of a
-/// part and one of the rest make one of the whole.
+/// Laws, joining: a consistent completion of the whole stays one where a part's rows are ranked as in one of the part;
+/// and one of a part and one of the rest make one of the whole.
 pub fn parts_join()
     ensures part { PartsJoin }
     ensures rest { RestsJoin }

@@ -6,5 +6,5 @@ use Rattle.item_limits.specs.Laws.{ExceedsNone}
 
 -- a part exceeds no limit that the whole does not
 abbrev pub PartsAreWithin : Type 0
-PartsAreWithin = (s : Spec) (scope : Scope) (n : Places) (part : Spec) → IsSpecification s → IsPartOf s scope n part → ExceedsNone s
-    → ExceedsNone part
+PartsAreWithin = (s : Spec) (scope : Scope) (n : Places) (part : Spec) → IsSpecification s → IsPartOf s scope n part
+    → ExceedsNone s → ExceedsNone part

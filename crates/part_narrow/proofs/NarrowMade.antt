@@ -151,7 +151,7 @@ same_made p rel r attr k ent is at inside is_ent =
     ∙ ap (λ (l : List RowId). map (whole_row (rows_in p.n rel)) l) (sym made))
 
 pub narrows_exist : NarrowsExist
-narrows_exist s scope n part c whole_is of completion =
+narrows_exist s scope n part c of completion =
     let p : Of = record { s = s; scope = scope; n = n; part = part; c = c } in
     let is : IsOf p = record { of = of; completion = completion } in
     record {

@@ -9,16 +9,17 @@ use Rattle.clap.specs.Faults.{fault_of, is_simple_and_free}
 use Rattle.clap.specs.declared.error.Error.{Error}
 use Rattle.clap.specs.declared.error.kind.ErrorKind.TheVariants.{OutOfMemory}
 use Rattle.clap.specs.declared.parser.matches.ArgMatches.{ArgMatches}
-use Rattle.program_words.specs.Line.{line, bare_line, ask_shape, verify_shape, forced_shape, trial_shape}
+use Rattle.program_words.specs.Line.{line}
 use Rattle.program_words.specs.Words.{command_in, command_of, unless_fault}
+use Rattle.program_words.proofs.Written.{whole_line}
 
 -- clap's words on simple commands hold of `line`
 line_is_simple : is_simple line ≡ true
-unfolding line bare_line ask_shape verify_shape forced_shape trial_shape
+unfolding whole_line
 line_is_simple = refl
 
 line_is_free : is_simple_and_free line ≡ true
-unfolding line bare_line ask_shape verify_shape forced_shape trial_shape
+unfolding whole_line
 line_is_free = refl
 
 -- where the parse succeeds, what it found says the command

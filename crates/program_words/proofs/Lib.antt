@@ -1,8 +1,10 @@
 mod Numerals
+mod Written
 mod Faultless
 mod OnWords
 mod TextRows
 mod TextWalks
 mod RequiredTexts
+mod Parts
 mod Causes
 mod Ranges

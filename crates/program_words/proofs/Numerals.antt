@@ -17,14 +17,16 @@ begins [] low = absurd (omega arith)
 begins (c ∷ cs) low = omega arith
 
 -- the number that was read is the digits' own
-pub number_read : {E : Type 0} (text : List ℕ) (most n : ℕ) (r : Result ℕ E) → ParsesUnsigned 64 10 text r → r ≡ Ok n → 48 < get_or text 0 0
+pub number_read : {E : Type 0} (text : List ℕ) (most n : ℕ) (r : Result ℕ E) → ParsesUnsigned 64 10 text r → r ≡ Ok n
+    → 48 < get_or text 0 0
     → cond (nat_le n most) (Some n) None ≡ number_up_to most text
 number_read text most n r parsed is low =
     let plain = rw is at (parse_plain own 64 text r parsed (λ plus. absurd (omega arith))) in
     rw (lt-ltb 48 (get_or text 0 0) low, plain.0.0, plain.1) refl
 
 -- a text that wasn't read writes no number up to `most`
-pub nothing_read : {E : Type 0} (text : List ℕ) (most : ℕ) (r : Result ℕ E) (e : E) → ParsesUnsigned 64 10 text r → r ≡ Err e → most < 2 ^ 64
+pub nothing_read : {E : Type 0} (text : List ℕ) (most : ℕ) (r : Result ℕ E) (e : E) → ParsesUnsigned 64 10 text r
+    → r ≡ Err e → most < 2 ^ 64
     → 48 < get_or text 0 0 → None ≡ number_up_to most text
 nothing_read text most r e parsed is few low =
     rw (lt-ltb 48 (get_or text 0 0) low) (by (all_ascii_digits text) (nat_le (digits_value 10 text) most) refl refl)
@@ -52,9 +54,11 @@ one_or_more (c ∷ cs) low digits =
 
 -- a number that is read is in its range
 pub number_in_range : (most n : ℕ) (text : List ℕ) → number_up_to most text ≡ Some n → (1 ≤ n) × (n ≤ most)
-number_in_range most n text e = by (nat_lt 48 (get_or text 0 0)) (all_ascii_digits text) (nat_le (digits_value 10 text) most) refl refl refl e
+number_in_range most n text e = by (nat_lt 48 (get_or text 0 0)) (all_ascii_digits text)
+    (nat_le (digits_value 10 text) most) refl refl refl e
   where
-    by : (late digits small : Bool) → nat_lt 48 (get_or text 0 0) ≡ late → all_ascii_digits text ≡ digits → nat_le (digits_value 10 text) most ≡ small
+    by : (late digits small : Bool) → nat_lt 48 (get_or text 0 0) ≡ late → all_ascii_digits text ≡ digits
+        → nat_le (digits_value 10 text) most ≡ small
         → cond (late && digits && small) (Some (digits_value 10 text)) None ≡ Some n → (1 ≤ n) × (n ≤ most)
     by true true true l d s is =
         let same : digits_value 10 text ≡ n = cc in

@@ -8,13 +8,27 @@ use Rattle.clap.specs.Simple.{subcommand_of}
 use Rattle.clap.specs.Walk.{Row, Text, first_of}
 use Rattle.program_words.specs.Line.{line}
 use Rattle.program_words.specs.Numbers.{number_if_given, number_or, number_up_to}
-use Rattle.program_words.specs.Words.{AskFor, AskSaid, CommandSaid, ForcedOf, TrialOf, VerifyOf, ask_in, command_in, command_of, forced_in, is_set, trial_in, unless_fault, verify_in}
+use Rattle.program_words.specs.Words.{AskFor, CommandSaid, ConflictsIn, ExplainFor, ForcedOf, TrialOf, VerifyOf, ask_in, command_in, command_of, conflicts_in, explain_in, forced_in, is_set, trial_in, unit_in, unless_fault, verify_in}
 use Rattle.program_words.proofs.Numerals.{number_in_range}
+use Rattle.program_words.proofs.Parts.{of_question, of_search}
 
--- the numbers of `ask` in their ranges
-pub record AreInRange (a : AskSaid) : Type 0 where
-  pub budget : (1 ≤ a.budget) × (a.budget ≤ 10000000)
-  pub guide : IfSome a.guide (λ k. (1 ≤ k) × (k ≤ 4))
+-- the numbers of a search in their ranges
+pub record AreInRange (b : ℕ) (g : Option ℕ) : Type 0 where
+  pub budget : (1 ≤ b) × (b ≤ 10000000)
+  pub guide : IfSome g (λ k. (1 ≤ k) × (k ≤ 4))
+
+-- the numbers of `explain` in their ranges
+pub record IsExplainInRange (u : ℕ) (b : ℕ) (g : Option ℕ) : Type 0 where
+  pub unit : (1 ≤ u) × (u ≤ 4294967295)
+  pub search : AreInRange b g
+
+-- the numbers of a command in their ranges
+abbrev pub IsInRange : CommandSaid → Type 0
+IsInRange (AskFor a) = AreInRange a.budget a.guide
+IsInRange (TrialOf n) = (1 ≤ n) × (n ≤ 1000)
+IsInRange (ExplainFor e) = IsExplainInRange e.unit e.budget e.guide
+IsInRange (ConflictsIn c) = AreInRange c.budget c.guide
+IsInRange other = Unit {0}
 
 budget_in_range : (text : Option Text) (n : ℕ) → number_or 100000 10000000 text ≡ Some n → (1 ≤ n) × (n ≤ 10000000)
 budget_in_range None n e =
@@ -22,7 +36,8 @@ budget_in_range None n e =
     rw (← is) (omega arith, omega arith)
 budget_in_range (Some text) n e = number_in_range 10000000 n text e
 
-guide_in_range : (text : Option Text) (guide : Option ℕ) → number_if_given 4 text ≡ Some guide → IfSome guide (λ k. (1 ≤ k) × (k ≤ 4))
+guide_in_range : (text : Option Text) (guide : Option ℕ) → number_if_given 4 text ≡ Some guide → IfSome guide
+    (λ k. (1 ≤ k) × (k ≤ 4))
 guide_in_range text None e = tt
 guide_in_range None (Some k) e = cc
 guide_in_range (Some text) (Some k) e = by (number_up_to 4 text) refl e
@@ -31,117 +46,115 @@ guide_in_range (Some text) (Some k) e = by (number_up_to 4 text) refl e
     by None is e = cc
     by (Some n) is e = let same : n ≡ k = cc in number_in_range 4 k text (rw same at is)
 
-ask_in_range : (spec question : Option Text) (budget : Option ℕ) (guide : Option (Option ℕ)) (brief : Bool) (a : AskSaid)
-    → option_and_then (λ s. option_and_then (λ q. option_and_then (λ b. option_map (λ g. AskFor (record { spec = s; question = q; budget = b; brief = brief; guide = g })) guide) budget) question) spec ≡ Some (AskFor a)
-    → (budget ≡ Some a.budget) × (guide ≡ Some a.guide)
-ask_in_range None question budget guide brief a e = cc
-ask_in_range (Some spec) None budget guide brief a e = cc
-ask_in_range (Some spec) (Some question) None guide brief a e = cc
-ask_in_range (Some spec) (Some question) (Some budget) None brief a e = cc
-ask_in_range (Some spec) (Some question) (Some budget) (Some guide) brief a e =
-    let is : record { spec = spec; question = question; budget = budget; brief = brief; guide = guide } ≡ a = cc in
-    rw (← is) (refl, refl)
-
-verify_is_no_ask : (spec question report : Option Text) (a : AskSaid)
-    → option_and_then (λ s. option_and_then (λ q. option_map (λ r. VerifyOf (record { spec = s; question = q; report = r })) report) question) spec ≡ Some (AskFor a) → ⊥
-verify_is_no_ask None question report a e = cc
-verify_is_no_ask (Some spec) None report a e = cc
-verify_is_no_ask (Some spec) (Some question) None a e = cc
-verify_is_no_ask (Some spec) (Some question) (Some report) a e = cc
-
-forced_is_no_ask : (spec : Option Text) (a : AskSaid) → option_map (λ s. ForcedOf s) spec ≡ Some (AskFor a) → ⊥
-forced_is_no_ask None a e = cc
-forced_is_no_ask (Some spec) a e = cc
-
-trial_is_no_ask : (text : Option Text) (a : AskSaid) → option_and_then (λ t. option_map (λ n. TrialOf n) (number_up_to 1000 t)) text ≡ Some (AskFor a) → ⊥
-trial_is_no_ask None a e = cc
-trial_is_no_ask (Some text) a e = by (number_up_to 1000 text) e
+-- what is said of a budget and a guide is in range where it is for those that are
+search_in_range : (budget guide : Option Text) (said : ℕ → Option ℕ → CommandSaid)
+    → ((b : ℕ) (g : Option ℕ) → AreInRange b g → IsInRange (said b g))
+    → IfSome (of_search (number_or 100000 10000000 budget) (number_if_given 4 guide) said) IsInRange
+search_in_range budget guide said holds = by (number_or 100000 10000000 budget) (number_if_given 4 guide) refl refl
   where
-    by : (o : Option ℕ) → option_map (λ n. TrialOf n) o ≡ Some (AskFor a) → ⊥
-    by None e = cc
-    by (Some n) e = cc
+    by : (b : Option ℕ) (g : Option (Option ℕ)) → number_or 100000 10000000 budget ≡ b → number_if_given 4 guide ≡ g
+        → IfSome (of_search b g said) IsInRange
+    by None g e f = tt
+    by (Some b) None e f = tt
+    by (Some b) (Some g) e f =
+        holds b g (record { budget = budget_in_range budget b e; guide = guide_in_range guide g f })
 
-found_in_range : (name : Text) (rows : List Row) (a : AskSaid) → command_in (name, rows) ≡ Some (AskFor a) → AreInRange a
-found_in_range name rows a e = by (bytes_eq name (codes "ask")) (bytes_eq name (codes "trial")) (bytes_eq name (codes "verify")) (bytes_eq name (codes "forced")) e
+of_question_in_range : (spec question : Option Text) (said : Text → Text → Option CommandSaid)
+    → ((s q : Text) → IfSome (said s q) IsInRange) → IfSome (of_question spec question said) IsInRange
+of_question_in_range None question said holds = tt
+of_question_in_range (Some spec) None said holds = tt
+of_question_in_range (Some spec) (Some question) said holds = holds spec question
+
+unit_in_range : (text : Option Text) (said : ℕ → Option CommandSaid)
+    → ((u : ℕ) → (1 ≤ u) × (u ≤ 4294967295) → IfSome (said u) IsInRange)
+    → IfSome (option_and_then said (option_and_then unit_in text)) IsInRange
+unit_in_range None said holds = tt
+unit_in_range (Some text) said holds = by (unit_in text) refl
   where
-    by : (is_ask is_trial is_verify is_forced : Bool)
-        → cond is_ask (ask_in rows) (cond is_trial (trial_in rows) (cond is_verify (verify_in rows) (cond is_forced (forced_in rows) None))) ≡ Some (AskFor a) → AreInRange a
-    by true t v f e =
-        let numbers = ask_in_range (first_of (codes "SPEC") rows) (first_of (codes "QUESTION") rows) (number_or 100000 10000000 (first_of (codes "budget") rows))
-        (number_if_given 4 (first_of (codes "guide") rows)) (is_set (first_of (codes "brief") rows)) a e in
-        record {
-          budget = budget_in_range (first_of (codes "budget") rows) a.budget numbers.0;
-          guide = guide_in_range (first_of (codes "guide") rows) a.guide numbers.1;
-        }
-    by false true v f e = absurd (trial_is_no_ask (first_of (codes "N") rows) a e)
-    by false false true f e =
-        absurd (verify_is_no_ask (first_of (codes "SPEC") rows) (first_of (codes "QUESTION") rows) (first_of (codes "REPORT") rows) a e)
-    by false false false true e = absurd (forced_is_no_ask (first_of (codes "SPEC") rows) a e)
-    by false false false false e = cc
+    by : (o : Option ℕ) → unit_in text ≡ o → IfSome (option_and_then said o) IsInRange
+    by None is = tt
+    by (Some u) is = holds u (number_in_range 4294967295 u text is)
 
-pub said_in_range : (words : List Text) (a : AskSaid) → command_of words ≡ Some (AskFor a) → AreInRange a
-unfolding command_of
-said_in_range words a e = by (fault_of line words) (subcommand_of line words) e
+ask_in_range : (rows : List Row) → IfSome (ask_in rows) IsInRange
+ask_in_range rows =
+    of_question_in_range (first_of (codes "SPEC") rows) (first_of (codes "QUESTION") rows) _ (λ s q.
+    search_in_range (first_of (codes "budget") rows) (first_of (codes "guide") rows)
+    (λ b g. AskFor (record {
+      spec = s;
+      question = q;
+      budget = b;
+      brief = is_set (first_of (codes "brief") rows);
+      guide = g;
+    })) (λ b g h. h))
+
+explain_in_range : (rows : List Row) → IfSome (explain_in rows) IsInRange
+explain_in_range rows =
+    of_question_in_range (first_of (codes "SPEC") rows) (first_of (codes "QUESTION") rows) _ (λ s q.
+    unit_in_range (first_of (codes "N") rows) _ (λ u unit.
+    search_in_range (first_of (codes "budget") rows) (first_of (codes "guide") rows)
+    (λ b g. ExplainFor (record { spec = s; question = q; unit = u; budget = b; guide = g }))
+    (λ b g h. record { unit = unit; search = h })))
+
+conflicts_in_range : (rows : List Row) → IfSome (conflicts_in rows) IsInRange
+conflicts_in_range rows = by (first_of (codes "SPEC") rows)
   where
-    by : (kinds : Kinds) (found : Option (Text × List Row)) → unless_fault kinds (option_and_then command_in found) ≡ Some (AskFor a) → AreInRange a
-    by [] None e = cc
-    by [] (Some p) e = found_in_range p.0 p.1 a e
-    by (k ∷ ks) found e = cc
+    by : (spec : Option Text) → IfSome (option_and_then
+        (λ s. of_search (number_or 100000 10000000 (first_of (codes "budget") rows))
+        (number_if_given 4 (first_of (codes "guide") rows))
+        (λ b g. ConflictsIn (record { spec = s; budget = b; guide = g }))) spec) IsInRange
+    by None = tt
+    by (Some s) = search_in_range (first_of (codes "budget") rows) (first_of (codes "guide") rows)
+        (λ b g. ConflictsIn (record { spec = s; budget = b; guide = g })) (λ b g h. h)
 
--- ---- the size of `trial`
-
--- a command that has a size has one in its range
-abbrev IsSizeInRange : CommandSaid → Type 0
-IsSizeInRange (TrialOf n) = (1 ≤ n) × (n ≤ 1000)
-IsSizeInRange other = Unit {0}
-
-trial_sized : (text : Option Text) → IfSome (option_and_then (λ t. option_map (λ n. TrialOf n) (number_up_to 1000 t)) text) IsSizeInRange
-trial_sized None = tt
-trial_sized (Some text) = by (number_up_to 1000 text) refl
+verify_in_range : (rows : List Row) → IfSome (verify_in rows) IsInRange
+verify_in_range rows =
+    of_question_in_range (first_of (codes "SPEC") rows) (first_of (codes "QUESTION") rows) _ (λ s q.
+    by s q (first_of (codes "REPORT") rows))
   where
-    by : (o : Option ℕ) → number_up_to 1000 text ≡ o → IfSome (option_map (λ n. TrialOf n) o) IsSizeInRange
+    by : (s q : Text) (report : Option Text)
+        → IfSome (option_map (λ r. VerifyOf (record { spec = s; question = q; report = r })) report) IsInRange
+    by s q None = tt
+    by s q (Some r) = tt
+
+forced_in_range : (spec : Option Text) → IfSome (option_map (λ s. ForcedOf s) spec) IsInRange
+forced_in_range None = tt
+forced_in_range (Some spec) = tt
+
+trial_in_range : (text : Option Text) → IfSome (option_and_then (λ t. option_map (λ n. TrialOf n) (number_up_to 1000 t))
+    text) IsInRange
+trial_in_range None = tt
+trial_in_range (Some text) = by (number_up_to 1000 text) refl
+  where
+    by : (o : Option ℕ) → number_up_to 1000 text ≡ o → IfSome (option_map (λ n. TrialOf n) o) IsInRange
     by None is = tt
     by (Some n) is = number_in_range 1000 n text is
 
-ask_sized : (spec question : Option Text) (budget : Option ℕ) (guide : Option (Option ℕ)) (brief : Bool)
-    → IfSome (option_and_then (λ s. option_and_then (λ q. option_and_then (λ b. option_map (λ g. AskFor (record { spec = s; question = q; budget = b; brief = brief; guide = g })) guide) budget) question) spec) IsSizeInRange
-ask_sized None question budget guide brief = tt
-ask_sized (Some spec) None budget guide brief = tt
-ask_sized (Some spec) (Some question) None guide brief = tt
-ask_sized (Some spec) (Some question) (Some budget) None brief = tt
-ask_sized (Some spec) (Some question) (Some budget) (Some guide) brief = tt
-
-verify_sized : (spec question report : Option Text)
-    → IfSome (option_and_then (λ s. option_and_then (λ q. option_map (λ r. VerifyOf (record { spec = s; question = q; report = r })) report) question) spec) IsSizeInRange
-verify_sized None question report = tt
-verify_sized (Some spec) None report = tt
-verify_sized (Some spec) (Some question) None = tt
-verify_sized (Some spec) (Some question) (Some report) = tt
-
-forced_sized : (spec : Option Text) → IfSome (option_map (λ s. ForcedOf s) spec) IsSizeInRange
-forced_sized None = tt
-forced_sized (Some spec) = tt
-
-found_sized : (name : Text) (rows : List Row) → IfSome (command_in (name, rows)) IsSizeInRange
-found_sized name rows = by (bytes_eq name (codes "ask")) (bytes_eq name (codes "trial")) (bytes_eq name (codes "verify")) (bytes_eq name (codes "forced"))
+found_in_range : (name : Text) (rows : List Row) → IfSome (command_in (name, rows)) IsInRange
+found_in_range name rows = by (bytes_eq name (codes "ask")) (bytes_eq name (codes "trial"))
+    (bytes_eq name (codes "explain")) (bytes_eq name (codes "conflicts")) (bytes_eq name (codes "verify"))
+    (bytes_eq name (codes "forced"))
   where
-    by : (is_ask is_trial is_verify is_forced : Bool)
-        → IfSome (cond is_ask (ask_in rows) (cond is_trial (trial_in rows) (cond is_verify (verify_in rows) (cond is_forced (forced_in rows) None)))) IsSizeInRange
-    by true t v f = ask_sized (first_of (codes "SPEC") rows) (first_of (codes "QUESTION") rows) (number_or 100000 10000000 (first_of (codes "budget") rows))
-        (number_if_given 4 (first_of (codes "guide") rows)) (is_set (first_of (codes "brief") rows))
-    by false true v f = trial_sized (first_of (codes "N") rows)
-    by false false true f = verify_sized (first_of (codes "SPEC") rows) (first_of (codes "QUESTION") rows) (first_of (codes "REPORT") rows)
-    by false false false true = forced_sized (first_of (codes "SPEC") rows)
-    by false false false false = tt
+    by : (is_ask is_trial is_explain is_conflicts is_verify is_forced : Bool)
+        → IfSome (cond is_ask (ask_in rows) (cond is_trial (trial_in rows)
+        (cond is_explain (explain_in rows) (cond is_conflicts (conflicts_in rows)
+        (cond is_verify (verify_in rows) (cond is_forced (forced_in rows) None))))))
+        IsInRange
+    by true t e c v f = ask_in_range rows
+    by false true e c v f = trial_in_range (first_of (codes "N") rows)
+    by false false true c v f = explain_in_range rows
+    by false false false true v f = conflicts_in_range rows
+    by false false false false true f = verify_in_range rows
+    by false false false false false true = forced_in_range (first_of (codes "SPEC") rows)
+    by false false false false false false = tt
 
-said_sized : (words : List Text) → IfSome (command_of words) IsSizeInRange
+-- a command that words say has its numbers in their ranges
+pub said_in_range : (words : List Text) (said : CommandSaid) → command_of words ≡ Some said → IsInRange said
 unfolding command_of
-said_sized words = by (fault_of line words) (subcommand_of line words)
+said_in_range words said is = subst (λ (o : Option CommandSaid). IfSome o IsInRange) is
+    (by (fault_of line words) (subcommand_of line words))
   where
-    by : (kinds : Kinds) (found : Option (Text × List Row)) → IfSome (unless_fault kinds (option_and_then command_in found)) IsSizeInRange
+    by : (kinds : Kinds) (found : Option (Text × List Row))
+        → IfSome (unless_fault kinds (option_and_then command_in found)) IsInRange
     by [] None = tt
-    by [] (Some p) = found_sized p.0 p.1
+    by [] (Some p) = found_in_range p.0 p.1
     by (k ∷ ks) found = tt
-
-pub size_in_range : (words : List Text) (n : ℕ) → command_of words ≡ Some (TrialOf n) → (1 ≤ n) × (n ≤ 1000)
-size_in_range words n said = subst (λ (o : Option CommandSaid). IfSome o IsSizeInRange) said (said_sized words)

@@ -12,7 +12,8 @@ use Rattle.program_words.proofs.TextRows.{given_text}
 use Rattle.program_words.proofs.TextWalks.{AreValued, level_texts}
 
 -- the last checks pass only where none of their tests holds
-pub none_wanted : (help subcommand argument : Bool) → check_kinds help subcommand argument ≡ [] → (subcommand ≡ false) × (argument ≡ false)
+pub none_wanted : (help subcommand argument : Bool) → check_kinds help subcommand argument ≡ [] →
+    (subcommand ≡ false) × (argument ≡ false)
 none_wanted true subcommand argument e = cc
 none_wanted false true argument e = cc
 none_wanted false false true e = cc
@@ -31,13 +32,16 @@ not_false : (b : Bool) → not b ≡ false → b ≡ true
 not_false true e = refl
 not_false false e = cc
 
-required_given : (rules : List Rule) (rows : List Row) (id : Text) → list_any (λ a. a.required && not (is_given a.id rows)) rules ≡ false
+required_given : (rules : List Rule) (rows : List Row) (id : Text)
+    → list_any (λ a. a.required && not (is_given a.id rows)) rules ≡ false
     → IsRequired id rules → is_given id rows ≡ true
 required_given [] rows id none is = absurd is
 required_given (a ∷ rest) rows id none (inl is) =
-    let first = (or_parts (a.required && not (is_given a.id rows)) (list_any (λ a. a.required && not (is_given a.id rows)) rest) none).0 in
+    let first = (or_parts (a.required && not (is_given a.id rows))
+    (list_any (λ a. a.required && not (is_given a.id rows)) rest) none).0 in
     not_false (is_given id rows) (rw (is.0, is.1) at first)
-required_given (a ∷ rest) rows id none (inr later) = required_given rest rows id (or_parts (a.required && not (is_given a.id rows)) (list_any (λ a. a.required && not (is_given a.id rows)) rest) none).1 later
+required_given (a ∷ rest) rows id none (inr later) = required_given rest rows id
+    (or_parts (a.required && not (is_given a.id rows)) (list_any (λ a. a.required && not (is_given a.id rows)) rest) none).1 later
 
 -- the text of a required argument, in a level that goes no further down
 pub required_text : (s : Shape) (words : List Text) (id : Text) → AreValued s.rules → IsRequired id s.rules

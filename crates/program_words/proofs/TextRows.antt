@@ -15,7 +15,8 @@ abbrev pub HaveTexts : List Row → Type 0
 HaveTexts = AllByRecursion (λ r. 0 < length r.values)
 
 -- what holds of each holds of the one that is found
-pub found_holds : {X : Type 0} (P : X → Type 0) (p : X → Bool) (xs : List X) (x : X) → AllByRecursion P xs → find p xs ≡ Some x → P x
+pub found_holds : {X : Type 0} (P : X → Type 0) (p : X → Bool) (xs : List X) (x : X) → AllByRecursion P xs
+    → find p xs ≡ Some x → P x
 found_holds P p [] x h e = cc
 found_holds P p (y ∷ ys) x h e = by (p y) e (found_holds P p ys x h.1)
   where
@@ -27,12 +28,14 @@ joined : (xs ys : List Row) → HaveTexts xs → HaveTexts ys → HaveTexts (xs 
 joined [] ys f g = g
 joined (x ∷ xs) ys f g = (f.0, joined xs ys f.1 g)
 
-at_row_texts : (id : Text) (change : Row → List Row) (missing rows : List Row) → ((r : Row) → 0 < length r.values → HaveTexts (change r))
+at_row_texts : (id : Text) (change : Row → List Row) (missing rows : List Row) →
+    ((r : Row) → 0 < length r.values → HaveTexts (change r))
     → HaveTexts missing → HaveTexts rows → HaveTexts (at_row id change missing rows)
 at_row_texts id change missing [] f g h = g
 at_row_texts id change missing (r ∷ rs) f g h = by (bytes_eq r.id id) (at_row_texts id change missing rs f g h.1)
   where
-    by : (b : Bool) → HaveTexts (at_row id change missing rs) → HaveTexts (cond b (change r ++ rs) (r ∷ at_row id change missing rs))
+    by : (b : Bool) → HaveTexts (at_row id change missing rs)
+        → HaveTexts (cond b (change r ++ rs) (r ∷ at_row id change missing rs))
     by true rest = joined (change r) rs (f r h.0) h.1
     by false rest = (h.0, rest)
 
@@ -59,4 +62,5 @@ given_text id rows h given = by (find (λ r. bytes_eq r.id id) rows) refl given
     by : (o : Option Row) → find (λ r. bytes_eq r.id id) rows ≡ o → option_map_or (λ r. explicit_source r.source) o false ≡ true
         → is_some (first_of id rows) ≡ true
     by None e g = cc
-    by (Some r) e g = rw e (first_text r.values (found_holds (λ (r : Row). 0 < length r.values) (λ r. bytes_eq r.id id) rows r h e))
+    by (Some r) e g = rw e (first_text r.values (found_holds (λ (r : Row). 0 < length r.values)
+        (λ r. bytes_eq r.id id) rows r h e))

@@ -32,7 +32,8 @@ abbrev pub AreValued : List Rule → Type 0
 AreValued = AllByRecursion IsValued
 
 some_values : (a : Rule) (values : List Text) → IsValued a
-    → range_kinds (unwrap_or_range a.range).start_inclusive (most_values a) (length values) ≡ [] → 0 < length (values_or_missing a values)
+    → range_kinds (unwrap_or_range a.range).start_inclusive (most_values a) (length values) ≡ [] → 0 < length
+    (values_or_missing a values)
 some_values a [] v free = v.stands free
 some_values a (x ∷ xs) v free = omega arith
 
@@ -49,7 +50,8 @@ module _ (c : List Rule) (again : Bool) (valued : AreValued c) where
   settled_rows_texts None rows free h = h
   settled_rows_texts (Some p) rows free h = by (arg_by_id c p.0) refl free
     where
-      by : (o : Option Rule) → arg_by_id c p.0 ≡ o → option_map_or (λ a. use_fault again a p.1 rows) o [] ≡ [] → HaveTexts (used_by_id o p.1 rows)
+      by : (o : Option Rule) → arg_by_id c p.0 ≡ o → option_map_or (λ a. use_fault again a p.1 rows) o [] ≡ []
+          → HaveTexts (used_by_id o p.1 rows)
       by None e f = h
       by (Some a) e f = used_texts again a p.1 rows (found_holds IsValued _ c a valued e) f h
 
@@ -71,7 +73,8 @@ module _ (c : List Rule) (again : Bool) (valued : AreValued c) where
   flag_texts a (Some x) h v free t = t
   flag_texts a None h v free t = reacted_texts a [] h v (free refl) t
 
-  long_texts : (o : Option Rule) (v : Option Text) (h : Held) → ((a : Rule) → o ≡ Some a → IsValued a) → long_fault c again o v h ≡ []
+  long_texts : (o : Option Rule) (v : Option Text) (h : Held) → ((a : Rule) → o ≡ Some a → IsValued a)
+      → long_fault c again o v h ≡ []
       → HaveTexts h.rows → HaveTexts (long_met c o v h).0.rows
   long_texts None v h found free t = t
   long_texts (Some a) v h found free t = by (takes_values a) v free
@@ -90,38 +93,48 @@ module _ (c : List Rule) (again : Bool) (valued : AreValued c) where
   short_texts (Some a) rest h go fault found more free t = by (takes_values a) free
     where
       by : (b : Bool)
-          → cond b (option_fault c again a (attached_value rest) h) (or_else (react_fault c again a [] h) (fault (reacted c a [] h))) ≡ []
+          → cond b (option_fault c again a (attached_value rest) h)
+          (or_else (react_fault c again a [] h) (fault (reacted c a [] h))) ≡ []
           → HaveTexts (cond b (option_met c a (attached_value rest) h) (go (reacted c a [] h))).0.rows
       by true f = option_texts a (attached_value rest) h (found a refl) f t
       by false f = more (reacted c a [] h) (second_free _ _ f) (reacted_texts a [] h (found a refl) (first_free _ _ f) t)
 
-  bundle_step_texts : (o : Option ℕ) (flags : Text) (skip : ℕ) (so_far : Outcome) (h : Held) (go : Text → ℕ → Outcome → Held → Held × Outcome)
+  bundle_step_texts : (o : Option ℕ) (flags : Text) (skip : ℕ) (so_far : Outcome) (h : Held)
+      (go : Text → ℕ → Outcome → Held → Held × Outcome)
       (fault : Text → ℕ → Held → Kinds)
-      → ((flags : Text) (skip : ℕ) (so_far : Outcome) (h : Held) → fault flags skip h ≡ [] → HaveTexts h.rows → HaveTexts (go flags skip so_far h).0.rows)
-      → bundle_step_fault c again o flags skip h fault ≡ [] → HaveTexts h.rows → HaveTexts (bundle_step c o flags skip so_far h go).0.rows
+      → ((flags : Text) (skip : ℕ) (so_far : Outcome) (h : Held) → fault flags skip h ≡ [] → HaveTexts h.rows
+      → HaveTexts (go flags skip so_far h).0.rows)
+      → bundle_step_fault c again o flags skip h fault ≡ [] → HaveTexts h.rows
+      → HaveTexts (bundle_step c o flags skip so_far h go).0.rows
   bundle_step_texts None flags skip so_far h go fault more free t = t
   bundle_step_texts (Some x) flags zero so_far h go fault more free t =
       let rest = drop (length (encode_utf8 x)) flags in
-      short_texts (arg_by_short c x) rest h (go rest 0 done) (fault rest 0) (λ a e. found_holds IsValued _ c a valued e) (more rest 0 done) free t
-  bundle_step_texts (Some x) flags (suc skip) so_far h go fault more free t = more (drop (length (encode_utf8 x)) flags) skip so_far h free t
+      short_texts (arg_by_short c x) rest h (go rest 0 done) (fault rest 0)
+      (λ a e. found_holds IsValued _ c a valued e) (more rest 0 done) free t
+  bundle_step_texts (Some x) flags (suc skip) so_far h go fault more free t =
+      more (drop (length (encode_utf8 x)) flags) skip so_far h free t
 
   bundle_texts : (k : ℕ) (flags : Text) (skip : ℕ) (so_far : Outcome) (h : Held) → flags_fault c again k flags skip h ≡ []
       → HaveTexts h.rows → HaveTexts (bundle_met c k flags skip so_far h).0.rows
   unfolding bundle_met flags_fault
   bundle_texts zero flags skip so_far h free t = t
   bundle_texts (suc k) flags skip so_far h free t =
-      bundle_step_texts (slice_get (chars flags) 0) flags skip so_far h (bundle_met c k) (flags_fault c again k) (bundle_texts k) free t
+      bundle_step_texts (slice_get (chars flags) 0) flags skip so_far h (bundle_met c k) (flags_fault c again k)
+      (bundle_texts k) free t
 
-  option_word_texts : (o : Option Rule) (id word : Text) (h : Held) → HaveTexts h.rows → HaveTexts (option_word o id word h).0.rows
+  option_word_texts : (o : Option Rule) (id word : Text) (h : Held) → HaveTexts h.rows
+      → HaveTexts (option_word o id word h).0.rows
   option_word_texts None id word h t = t
   option_word_texts (Some a) id word h t = t
 
-  plain_word_texts : (waiting : Waiting) (word : Text) (h : Held) → HaveTexts h.rows → HaveTexts (plain_word c waiting word h).0.rows
+  plain_word_texts : (waiting : Waiting) (word : Text) (h : Held) → HaveTexts h.rows
+      → HaveTexts (plain_word c waiting word h).0.rows
   plain_word_texts idle word h t = t
   plain_word_texts positional word h t = t
   plain_word_texts (option id) word h t = option_word_texts (arg_by_id c id) id word h t
 
-  after_flag_texts : (waiting : Waiting) (word : Text) (h : Held) (o : Outcome) → HaveTexts h.rows → HaveTexts (after_flag c waiting word h o).0.rows
+  after_flag_texts : (waiting : Waiting) (word : Text) (h : Held) (o : Outcome) → HaveTexts h.rows
+      → HaveTexts (after_flag c waiting word h o).0.rows
   after_flag_texts waiting word h done t = t
   after_flag_texts waiting word h (waits id) t = t
   after_flag_texts waiting word h plain t = plain_word_texts waiting word h t
@@ -135,14 +148,17 @@ module _ (c : List Rule) (again : Bool) (valued : AreValued c) where
       let met = bundle_met c (length flags) flags h.skip plain (record h { skip = 0 }) in
       after_flag_texts waiting word met.0 met.1 (bundle_texts (length flags) flags h.skip plain (record h { skip = 0 }) free t)
 
-  flag_word_texts : (waiting : Waiting) (word : Text) (o : Option (Text × Option Text)) (h : Held) → flag_word_fault c again o word h ≡ []
+  flag_word_texts : (waiting : Waiting) (word : Text) (o : Option (Text × Option Text)) (h : Held)
+      → flag_word_fault c again o word h ≡ []
       → HaveTexts h.rows → HaveTexts (long_or_other c waiting word o h).0.rows
   flag_word_texts waiting word None h free t = short_word_texts waiting word (short_of word) h free t
   flag_word_texts waiting word (Some p) h free t =
       let met = long_met c (arg_by_long c p.0) p.1 h in
-      after_flag_texts waiting word met.0 met.1 (long_texts (arg_by_long c p.0) p.1 h (λ a e. found_holds IsValued _ c a valued e) free t)
+      after_flag_texts waiting word met.0 met.1
+      (long_texts (arg_by_long c p.0) p.1 h (λ a e. found_holds IsValued _ c a valued e) free t)
 
-  positional_texts : (a : Rule) (word : Text) (h : Held) → positional_fault c again a h ≡ [] → HaveTexts h.rows → HaveTexts (positional_held c a word h).rows
+  positional_texts : (a : Rule) (word : Text) (h : Held) → positional_fault c again a h ≡ [] → HaveTexts h.rows
+      → HaveTexts (positional_held c a word h).rows
   positional_texts a word h free t = by (is_pending a h.pending && takes_several a) free
     where
       by : (b : Bool) → cond b [] (settle_fault c again h) ≡ [] → HaveTexts (cond b h (settled c h)).rows
@@ -150,7 +166,8 @@ module _ (c : List Rule) (again : Bool) (valued : AreValued c) where
       by false f = settled_texts h f t
 
   to_positional_texts : (o : Option Rule) (word : Text) (w : Walk) (h : Held) (stray : Kinds)
-      → option_map_or (λ a. positional_fault c again a h) o stray ≡ [] → HaveTexts h.rows → HaveTexts (to_positional c o word w h).held.rows
+      → option_map_or (λ a. positional_fault c again a h) o stray ≡ [] → HaveTexts h.rows
+      → HaveTexts (to_positional c o word w h).held.rows
   to_positional_texts None word w h stray free t = t
   to_positional_texts (Some a) word w h stray free t = positional_texts a word h free t
 
@@ -192,7 +209,8 @@ module _ (s : Shape) (names : Names) (valued : AreValued s.rules) where
   step_texts word w h value free t =
       to_positional_texts s.rules s.args_override_self valued (arg_by_index s.rules w.position) word w h _ free t
 
-  walked_texts : (w : Walk) (word : Text) → turn_fault s names w word ≡ [] → HaveTexts w.held.rows → HaveTexts (walked s.rules names w word).held.rows
+  walked_texts : (w : Walk) (word : Text) → turn_fault s names w word ≡ [] → HaveTexts w.held.rows
+      → HaveTexts (walked s.rules names w word).held.rows
   unfolding walked
   walked_texts w word free t = by w.stopped free
     where
@@ -204,7 +222,8 @@ module _ (s : Shape) (names : Names) (valued : AreValued s.rules) where
       by (Some p) f = t
       by None f =
           let met = word_met s.rules names w.is_trailing w.waiting w.position word w.held in
-          step_texts word w met.0 met.1 (second_free _ _ f) (met_texts w.is_trailing w.waiting w.position word w.held (first_free _ _ f) t)
+          step_texts word w met.0 met.1 (second_free _ _ f) (met_texts w.is_trailing w.waiting w.position word w.held
+          (first_free _ _ f) t)
 
   walk_texts : (w : Walk) (words : List Text) → walk_fault s names w words ≡ [] → HaveTexts w.held.rows
       → HaveTexts (fold (walked s.rules names) w words).held.rows
@@ -214,7 +233,8 @@ module _ (s : Shape) (names : Names) (valued : AreValued s.rules) where
       walk_texts (walked s.rules names w word) rest (second_free _ _ free) (walked_texts w word (first_free _ _ free) t)
 
   -- at the end of a level with no fault each row has a text, and the last checks pass
-  pub level_texts : (h : Held) (words : List Text) (has_subcommand : Bool) (below : Kinds) → level_fault s names h words has_subcommand below ≡ []
+  pub level_texts : (h : Held) (words : List Text) (has_subcommand : Bool) (below : Kinds) → level_fault s names h
+      words has_subcommand below ≡ []
       → HaveTexts h.rows
       → HaveTexts (finished s.rules (walk s.rules names h words).held)
       × (check_fault s (finished s.rules (walk s.rules names h words).held) has_subcommand ≡ [])
@@ -225,7 +245,8 @@ module _ (s : Shape) (names : Names) (valued : AreValued s.rules) where
       let last = second_free _ _ late in
       let held = (walk s.rules names h words).held in
       let texts = walk_texts (walk_from h) words (first_free _ _ free) t in (
-        defaults_texts s.rules (settled s.rules held).rows (settled_texts s.rules s.args_override_self valued held (first_free _ _ late) texts),
+        defaults_texts s.rules (settled s.rules held).rows (settled_texts s.rules s.args_override_self valued held
+            (first_free _ _ late) texts),
         second_free _ _ last,
         first_free below _ after,
       )

@@ -1,7 +1,7 @@
 -- Words of examples, and what they say.
 use Rattle.std.specs.Prelude.{ℕ, Bool, List, ◌∷◌, Option, Some, codes}
 use Rattle.clap.specs.Walk.{Text}
-use Rattle.program_words.specs.Words.{AskFor, CommandSaid, command_of}
+use Rattle.program_words.specs.Words.{AskFor, CommandSaid, ConflictsIn, ExplainFor, command_of}
 
 -- the command that these words say after the program's name
 abbrev pub said : List Text → Option CommandSaid
@@ -15,3 +15,20 @@ said_after_ask options = said (codes "ask" ∷ codes "s" ∷ codes "q" ∷ optio
 abbrev pub ask_for : ℕ → Bool → Option ℕ → Option CommandSaid
 ask_for budget brief guide =
     Some (AskFor (record { spec = codes "s"; question = codes "q"; budget = budget; brief = brief; guide = guide }))
+
+-- the command that `explain s q`, this word and these options say
+abbrev pub said_after_explain : Text → List Text → Option CommandSaid
+said_after_explain unit options = said (codes "explain" ∷ codes "s" ∷ codes "q" ∷ unit ∷ options)
+
+-- `explain` for s, q and this unit, with these options
+abbrev pub explain_for : ℕ → ℕ → Option ℕ → Option CommandSaid
+explain_for unit budget guide =
+    Some (ExplainFor (record { spec = codes "s"; question = codes "q"; unit = unit; budget = budget; guide = guide }))
+
+-- the command that `conflicts s` and these words say
+abbrev pub said_after_conflicts : List Text → Option CommandSaid
+said_after_conflicts options = said (codes "conflicts" ∷ codes "s" ∷ options)
+
+-- `conflicts` in s, with these options
+abbrev pub conflicts_in_s : ℕ → Option ℕ → Option CommandSaid
+conflicts_in_s budget guide = Some (ConflictsIn (record { spec = codes "s"; budget = budget; guide = guide }))

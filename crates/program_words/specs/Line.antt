@@ -1,5 +1,5 @@
 -- The commands and their arguments, as clap's definition of what a parse reads has them.
-use Rattle.std.specs.Prelude.{true, [], ◌∷◌, Some, codes}
+use Rattle.std.specs.Prelude.{true, [], ◌∷◌, ◌++◌, Some, codes}
 use Rattle.clap.specs.Walk.{Rule, Text}
 use Rattle.clap.specs.Simple.{App, Shape, new_app, new_rule, new_shape, with_subcommand}
 use Rattle.clap.specs.declared.builder.action.ArgAction.TheVariants.{SetTrue}
@@ -16,15 +16,25 @@ option_rule id = record (new_rule id) { long = Some id }
 abbrev pub flag_rule : Text → Rule
 flag_rule id = record (new_rule id) { long = Some id; action = Some SetTrue }
 
--- the words of `ask`, without its options
-unfoldable pub ask_words_shape : Shape
-ask_words_shape = record (new_shape (codes "ask")) { rules = required_rule (codes "SPEC") ∷ required_rule (codes "QUESTION") ∷ [] }
+-- a command with one more argument, the last
+abbrev pub with_argument : Shape → Rule → Shape
+with_argument s rule = record s { rules = s.rules ++ rule ∷ [] }
 
--- ask SPEC QUESTION [--budget N] [--brief] [--guide K]
+-- a command of this name that takes SPEC QUESTION
+unfoldable pub on_question : Text → Shape
+on_question name = record (new_shape name) {
+  rules = required_rule (codes "SPEC") ∷ required_rule (codes "QUESTION") ∷ [];
+}
+
+-- a command with the options of a search behind its other arguments: [--budget B] [--guide K]
+abbrev pub with_search_options : Shape → Shape
+with_search_options s = with_argument (with_argument s (option_rule (codes "budget"))) (option_rule (codes "guide"))
+
+-- ask SPEC QUESTION [--budget N] [--guide K] [--brief]
 unfoldable pub ask_shape : Shape
 ask_shape = record (new_shape (codes "ask")) {
   rules = required_rule (codes "SPEC") ∷ required_rule (codes "QUESTION") ∷ option_rule (codes "budget")
-      ∷ flag_rule (codes "brief") ∷ option_rule (codes "guide") ∷ [];
+      ∷ option_rule (codes "guide") ∷ flag_rule (codes "brief") ∷ [];
 }
 
 -- verify SPEC QUESTION REPORT
@@ -41,6 +51,19 @@ forced_shape = record (new_shape (codes "forced")) { rules = required_rule (code
 unfoldable pub trial_shape : Shape
 trial_shape = record (new_shape (codes "trial")) { rules = required_rule (codes "N") ∷ [] }
 
+-- explain SPEC QUESTION N [--budget B] [--guide K]
+unfoldable pub explain_shape : Shape
+explain_shape = record (new_shape (codes "explain")) {
+  rules = required_rule (codes "SPEC") ∷ required_rule (codes "QUESTION") ∷ required_rule (codes "N")
+      ∷ option_rule (codes "budget") ∷ option_rule (codes "guide") ∷ [];
+}
+
+-- conflicts SPEC [--budget B] [--guide K]
+unfoldable pub conflicts_shape : Shape
+conflicts_shape = record (new_shape (codes "conflicts")) {
+  rules = required_rule (codes "SPEC") ∷ option_rule (codes "budget") ∷ option_rule (codes "guide") ∷ [];
+}
+
 -- the program with no command yet: one has to be named, and neither help nor a version is added
 unfoldable pub bare_line : App
 bare_line = record (new_app (codes "currency")) {
@@ -52,6 +75,7 @@ bare_line = record (new_app (codes "currency")) {
   };
 }
 
--- the program with its four commands
+-- the program with its six commands
 unfoldable pub line : App
-line = with_subcommand (with_subcommand (with_subcommand (with_subcommand bare_line ask_shape) verify_shape) forced_shape) trial_shape
+line = with_subcommand (with_subcommand (with_subcommand (with_subcommand (with_subcommand
+    (with_subcommand bare_line ask_shape) verify_shape) forced_shape) trial_shape) explain_shape) conflicts_shape

@@ -1,7 +1,7 @@
 -- What the code's own types say.
-use Rattle.program_words.specs.Words.{CommandSaid, AskFor, VerifyOf, ForcedOf, TrialOf}
+use Rattle.program_words.specs.Words.{CommandSaid, AskFor, VerifyOf, ForcedOf, TrialOf, ExplainFor, ConflictsIn}
 use Rattle.program_words.specs.declared.command.Command.{Command}
-use Rattle.program_words.specs.declared.command.Command.TheVariants.{Ask, Verify, Forced, Trial}
+use Rattle.program_words.specs.declared.command.Command.TheVariants.{Ask, Verify, Forced, Trial, Explain, Conflicts}
 
 -- a command, with the names of documents as bytes
 abbrev pub said_of : Command → CommandSaid
@@ -10,3 +10,6 @@ said_of (Ask a) =
 said_of (Verify v) = VerifyOf (record { spec = v.spec.now; question = v.question.now; report = v.report.now })
 said_of (Forced name) = ForcedOf name.now
 said_of (Trial size) = TrialOf size
+said_of (Explain e) =
+    ExplainFor (record { spec = e.spec.now; question = e.question.now; unit = e.unit; budget = e.budget; guide = e.guide })
+said_of (Conflicts c) = ConflictsIn (record { spec = c.spec.now; budget = c.budget; guide = c.guide })

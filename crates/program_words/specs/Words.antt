@@ -1,5 +1,5 @@
 -- The words of the program.
-use Rattle.std.specs.Prelude.{◌≡◌, ◌⊎◌, ◌&&◌, ◌||◌, ℕ, Bool, true, false, not, is_some, List, [], ◌∷◌, Option, None, if◌then◌else◌, codes, option_map, option_and_then}
+use Rattle.std.specs.Prelude.{◌≡◌, ◌⊎◌, ◌||◌, ℕ, Bool, true, false, not, is_some, List, [], ◌∷◌, Option, None, if◌then◌else◌, codes, option_map, option_and_then}
 use Rattle.std.specs.Option.{option_map_or}
 use Rattle.std.specs.Str.{bytes_eq}
 use Rattle.clap.specs.Walk.{Row, Text, first_of}
@@ -23,28 +23,49 @@ pub record VerifySaid : Type 0 where
   pub question : List ℕ
   pub report : List ℕ
 
--- a command: ask, verify, forced SPEC, or trial N
+-- explain SPEC QUESTION N, with its options: the number of the unit, the budget, and the one guide that is kept
+pub record ExplainSaid : Type 0 where
+  pub spec : List ℕ
+  pub question : List ℕ
+  pub unit : ℕ
+  pub budget : ℕ
+  pub guide : Option ℕ
+
+-- conflicts SPEC, with its options: the budget, and the one guide that is kept
+pub record ConflictsSaid : Type 0 where
+  pub spec : List ℕ
+  pub budget : ℕ
+  pub guide : Option ℕ
+
+-- a command: ask, verify, forced SPEC, trial N, explain, or conflicts
 pub data CommandSaid : Type 0 where
   AskFor : AskSaid → CommandSaid
   VerifyOf : VerifySaid → CommandSaid
   ForcedOf : List ℕ → CommandSaid
   TrialOf : ℕ → CommandSaid
+  ExplainFor : ExplainSaid → CommandSaid
+  ConflictsIn : ConflictsSaid → CommandSaid
 
 -- a flag's text says that it was given
 abbrev pub is_set : Option Text → Bool
 is_set text = option_map_or (λ t. bytes_eq t (codes "true")) text false
 
+-- the command of the budget and the guide in these rows; none where one of them is wrong
+abbrev pub searched_in : List Row → (ℕ → Option ℕ → CommandSaid) → Option CommandSaid
+searched_in rows said =
+    option_and_then (λ budget. option_map (λ guide. said budget guide) (number_if_given 4 (first_of (codes "guide") rows)))
+    (number_or 100000 10000000 (first_of (codes "budget") rows))
+
 -- `ask` with these rows; none where a number is wrong
 abbrev pub ask_in : List Row → Option CommandSaid
 ask_in rows = option_and_then (λ spec. option_and_then (λ question.
-    option_and_then (λ budget. option_map (λ guide. AskFor (record {
+    searched_in rows (λ budget guide. AskFor (record {
       spec = spec;
       question = question;
       budget = budget;
       brief = is_set (first_of (codes "brief") rows);
       guide = guide;
-    })) (number_if_given 4 (first_of (codes "guide") rows)))
-    (number_or 100000 10000000 (first_of (codes "budget") rows)))
+    })))
     (first_of (codes "QUESTION") rows)) (first_of (codes "SPEC") rows)
 
 -- `verify` with these rows
@@ -62,10 +83,35 @@ forced_in rows = option_map (λ spec. ForcedOf spec) (first_of (codes "SPEC") ro
 abbrev pub trial_in : List Row → Option CommandSaid
 trial_in rows = option_and_then (λ text. option_map (λ size. TrialOf size) (number_up_to 1000 text)) (first_of (codes "N") rows)
 
+-- the number of a unit that a text writes
+abbrev pub unit_in : Text → Option ℕ
+unit_in text = number_up_to 4294967295 text
+
+-- `explain` with these rows; none where a number is wrong
+abbrev pub explain_in : List Row → Option CommandSaid
+explain_in rows = option_and_then (λ spec. option_and_then (λ question. option_and_then (λ unit.
+    searched_in rows (λ budget guide. ExplainFor (record {
+      spec = spec;
+      question = question;
+      unit = unit;
+      budget = budget;
+      guide = guide;
+    })))
+    (option_and_then unit_in (first_of (codes "N") rows)))
+    (first_of (codes "QUESTION") rows)) (first_of (codes "SPEC") rows)
+
+-- `conflicts` with these rows; none where a number is wrong
+abbrev pub conflicts_in : List Row → Option CommandSaid
+conflicts_in rows = option_and_then (λ spec.
+    searched_in rows (λ budget guide. ConflictsIn (record { spec = spec; budget = budget; guide = guide })))
+    (first_of (codes "SPEC") rows)
+
 -- the command of this name with these rows
 abbrev pub command_in : Text × List Row → Option CommandSaid
 command_in p = if bytes_eq p.0 (codes "ask") then ask_in p.1
     else if bytes_eq p.0 (codes "trial") then trial_in p.1
+    else if bytes_eq p.0 (codes "explain") then explain_in p.1
+    else if bytes_eq p.0 (codes "conflicts") then conflicts_in p.1
     else if bytes_eq p.0 (codes "verify") then verify_in p.1
     else if bytes_eq p.0 (codes "forced") then forced_in p.1
     else None
@@ -81,19 +127,26 @@ unless_fault (kind ∷ kinds) said = None
 unfoldable pub command_of : List (List ℕ) → Option CommandSaid
 command_of words = unless_fault (fault_of line words) (option_and_then command_in (subcommand_of line words))
 
--- a number that `ask` is given is wrong
-abbrev pub is_ask_wrong : List Row → Bool
-is_ask_wrong rows = not (is_some (number_or 100000 10000000 (first_of (codes "budget") rows)))
+-- the budget or the guide that a search is given is wrong
+abbrev pub is_search_wrong : List Row → Bool
+is_search_wrong rows = not (is_some (number_or 100000 10000000 (first_of (codes "budget") rows)))
     || not (is_some (number_if_given 4 (first_of (codes "guide") rows)))
 
 -- the number that `trial` is given is wrong
 abbrev pub is_trial_wrong : List Row → Bool
 is_trial_wrong rows = option_map_or (λ text. not (is_some (number_up_to 1000 text))) (first_of (codes "N") rows) false
 
+-- a number that `explain` is given is wrong
+abbrev pub is_explain_wrong : List Row → Bool
+is_explain_wrong rows = option_map_or (λ text. not (is_some (unit_in text))) (first_of (codes "N") rows) false
+    || is_search_wrong rows
+
 -- a number that this command is given is wrong
 abbrev pub has_wrong_number : Text × List Row → Bool
-has_wrong_number p = if bytes_eq p.0 (codes "ask") then is_ask_wrong p.1
+has_wrong_number p = if bytes_eq p.0 (codes "ask") then is_search_wrong p.1
     else if bytes_eq p.0 (codes "trial") then is_trial_wrong p.1
+    else if bytes_eq p.0 (codes "explain") then is_explain_wrong p.1
+    else if bytes_eq p.0 (codes "conflicts") then is_search_wrong p.1
     else false
 
 -- clap sees a fault in the words, or a number in them is wrong

@@ -7,6 +7,8 @@ pub enum Command<'a> {
     Forced(&'a str),
     /// `trial N`: the four questions about a generated specification of so many entities, 1 to 1000.
     Trial(u64),
+    Explain(Explain<'a>),
+    Conflicts(Conflicts<'a>),
 }
 
 /// `ask SPEC QUESTION [--budget N] [--brief] [--guide K]`.
@@ -28,4 +30,27 @@ pub struct Verify<'a> {
     pub spec: &'a str,
     pub question: &'a str,
     pub report: &'a str,
+}
+
+/// `explain SPEC QUESTION N [--budget B] [--guide K]`.
+#[derive(Clone, Copy)]
+pub struct Explain<'a> {
+    pub spec: &'a str,
+    pub question: &'a str,
+    /// The number of the unit, from 1 on.
+    pub unit: u32,
+    /// How many clauses may be learned in each search: 1 to 10,000,000.
+    pub budget: u64,
+    /// The one guide that is kept, 1 to 4; where there is none, all are.
+    pub guide: Option<u64>,
+}
+
+/// `conflicts SPEC [--budget B] [--guide K]`.
+#[derive(Clone, Copy)]
+pub struct Conflicts<'a> {
+    pub spec: &'a str,
+    /// How many clauses may be learned in each search: 1 to 10,000,000.
+    pub budget: u64,
+    /// The one guide that is kept, 1 to 4; where there is none, all are.
+    pub guide: Option<u64>,
 }

@@ -1,6 +1,6 @@
 ghost use Rattle.std.specs.Prelude.{◌≡◌, ◌≤◌, IfSome, ℕ, List, [], ◌∷◌, None, Some, codes, false, true};
-ghost use Rattle.program_words.specs.Examples.{ask_for, said, said_after_ask};
-ghost use Rattle.program_words.specs.Words.{AskFor, AskSaid, ForcedOf, IsRefused, TrialOf, VerifyOf, command_of};
+ghost use Rattle.program_words.specs.Examples.{ask_for, conflicts_in_s, explain_for, said, said_after_ask, said_after_conflicts, said_after_explain};
+ghost use Rattle.program_words.specs.Words.{AskFor, AskSaid, ConflictsIn, ConflictsSaid, ExplainFor, ExplainSaid, ForcedOf, IsRefused, TrialOf, VerifyOf, command_of};
 
 /// Examples of words: what they say, and which are refused.
 pub fn words_are_read()
@@ -16,7 +16,7 @@ pub fn words_are_read()
     ensures trial_most { said (codes "trial" ∷ codes "1000" ∷ []) ≡ Some (TrialOf 1000) }
     ensures no_name { command_of [] ≡ None }
     ensures no_word { said [] ≡ None }
-    ensures unknown { said (codes "explain" ∷ codes "s" ∷ codes "q" ∷ codes "1" ∷ []) ≡ None }
+    ensures unknown { said (codes "why" ∷ codes "s" ∷ codes "q" ∷ codes "1" ∷ []) ≡ None }
     ensures help { said (codes "help" ∷ []) ≡ None }
     ensures help_option { said (codes "--help" ∷ []) ≡ None }
     ensures short_help { said (codes "-h" ∷ []) ≡ None }
@@ -43,6 +43,33 @@ pub fn words_are_read()
     ensures brief_twice { said_after_ask (codes "--brief" ∷ codes "--brief" ∷ []) ≡ None }
     ensures guide_zero { said_after_ask (codes "--guide" ∷ codes "0" ∷ []) ≡ None }
     ensures guide_past { said_after_ask (codes "--guide" ∷ codes "5" ∷ []) ≡ None }
+    ensures explain { said_after_explain (codes "1") [] ≡ explain_for 1 100000 None }
+    ensures explain_options { said_after_explain (codes "12")
+        (codes "--budget" ∷ codes "1" ∷ codes "--guide" ∷ codes "4" ∷ [])
+        ≡ explain_for 12 1 (Some 4) }
+    ensures explain_first { said (codes "explain" ∷ codes "--guide=1" ∷ codes "s" ∷ codes "q"
+        ∷ codes "--budget=5" ∷ codes "7" ∷ [])
+        ≡ explain_for 7 5 (Some 1) }
+    ensures unit_most { said_after_explain (codes "4294967295") [] ≡ explain_for 4294967295 100000 None }
+    ensures unit_past { said_after_explain (codes "4294967296") [] ≡ None }
+    ensures unit_zero { said_after_explain (codes "0") [] ≡ None }
+    ensures unit_letter { said_after_explain (codes "x") [] ≡ None }
+    ensures unit_zeros { said_after_explain (codes "07") [] ≡ None }
+    ensures unit_plus { said_after_explain (codes "+7") [] ≡ None }
+    ensures no_unit { said (codes "explain" ∷ codes "s" ∷ codes "q" ∷ []) ≡ None }
+    ensures two_units { said_after_explain (codes "1") (codes "2" ∷ []) ≡ None }
+    ensures explain_brief { said_after_explain (codes "1") (codes "--brief" ∷ []) ≡ None }
+    ensures explain_budget_zero { said_after_explain (codes "1") (codes "--budget" ∷ codes "0" ∷ []) ≡ None }
+    ensures explain_guide_past { said_after_explain (codes "1") (codes "--guide" ∷ codes "5" ∷ []) ≡ None }
+    ensures conflicts { said_after_conflicts [] ≡ conflicts_in_s 100000 None }
+    ensures conflicts_options { said_after_conflicts
+        (codes "--budget" ∷ codes "10000000" ∷ codes "--guide" ∷ codes "1" ∷ [])
+        ≡ conflicts_in_s 10000000 (Some 1) }
+    ensures no_conflicts { said (codes "conflicts" ∷ []) ≡ None }
+    ensures conflicts_excess { said_after_conflicts (codes "q" ∷ []) ≡ None }
+    ensures conflicts_brief { said_after_conflicts (codes "--brief" ∷ []) ≡ None }
+    ensures conflicts_budget_past { said_after_conflicts (codes "--budget" ∷ codes "10000001" ∷ []) ≡ None }
+    ensures conflicts_guide_zero { said_after_conflicts (codes "--guide" ∷ codes "0" ∷ []) ≡ None }
 {}
 
 /// Words say no command exactly where `clap` sees a fault in them or a number is wrong: no text that has to be there is
@@ -52,10 +79,22 @@ pub fn refusals_have_causes()
     ensures refused { (words : List (List ℕ)) → IsRefused words → command_of words ≡ None }
 {}
 
-/// The numbers that words say are in their ranges: of `ask` a budget of 1 to 10,000,000 and, where one guide is kept, its
-/// number of 1 to 4; of `trial` a size of 1 to 1000.
+/// The numbers that words say are in their ranges: of `ask`, `explain` and `conflicts` a budget of 1 to 10,000,000 and,
+/// where one guide is kept, its number of 1 to 4; of `trial` a size of 1 to 1000; of `explain` a unit of 1 to 2^32 - 1.
 pub fn numbers_are_in_range()
-    ensures budget { (words : List (List ℕ)) (a : AskSaid) → command_of words ≡ Some (AskFor a) → (1 ≤ a.budget) × (a.budget ≤ 10000000) }
-    ensures guide { (words : List (List ℕ)) (a : AskSaid) → command_of words ≡ Some (AskFor a) → IfSome a.guide (λ k. (1 ≤ k) × (k ≤ 4)) }
+    ensures budget { (words : List (List ℕ)) (a : AskSaid) → command_of words ≡ Some (AskFor a) → (1 ≤ a.budget) ×
+        (a.budget ≤ 10000000) }
+    ensures guide { (words : List (List ℕ)) (a : AskSaid) → command_of words ≡ Some (AskFor a) → IfSome a.guide
+        (λ k. (1 ≤ k) × (k ≤ 4)) }
     ensures size { (words : List (List ℕ)) (n : ℕ) → command_of words ≡ Some (TrialOf n) → (1 ≤ n) × (n ≤ 1000) }
+    ensures unit { (words : List (List ℕ)) (e : ExplainSaid) → command_of words ≡ Some (ExplainFor e) → (1 ≤ e.unit) ×
+        (e.unit ≤ 4294967295) }
+    ensures explain_budget { (words : List (List ℕ)) (e : ExplainSaid) → command_of words ≡ Some (ExplainFor e) →
+        (1 ≤ e.budget) × (e.budget ≤ 10000000) }
+    ensures explain_guide { (words : List (List ℕ)) (e : ExplainSaid) → command_of words ≡ Some (ExplainFor e) →
+        IfSome e.guide (λ k. (1 ≤ k) × (k ≤ 4)) }
+    ensures conflicts_budget { (words : List (List ℕ)) (c : ConflictsSaid) → command_of words ≡ Some (ConflictsIn c) →
+        (1 ≤ c.budget) × (c.budget ≤ 10000000) }
+    ensures conflicts_guide { (words : List (List ℕ)) (c : ConflictsSaid) → command_of words ≡ Some (ConflictsIn c) →
+        IfSome c.guide (λ k. (1 ≤ k) × (k ≤ 4)) }
 {}

@@ -1,7 +1,8 @@
 ghost use Rattle.std.specs.Prelude.{◌≡◌, IfOk, false};
 ghost use Rattle.clap.specs.Words.{app_of, rule_of, shape_of, with_subcommand};
+ghost use Rattle.clap.specs.Simple.{Shape, new_shape};
 ghost use Rattle.clap.specs.declared.builder.command.Command.TheViews.{out-Command};
-ghost use Rattle.program_words.specs.Line.{ask_shape, ask_words_shape, bare_line, flag_rule, forced_shape, line, option_rule, required_rule, trial_shape, verify_shape};
+ghost use Rattle.program_words.specs.Line.{ask_shape, bare_line, conflicts_shape, explain_shape, flag_rule, forced_shape, line, on_question, option_rule, required_rule, trial_shape, verify_shape, with_argument, with_search_options};
 
 use clap::{Arg, ArgAction, Command};
 use std::alloc::{AllocError, Global};
@@ -30,37 +31,59 @@ fn flag<'a>(alloc: Global, name: &'a str) -> Arg<'a>
     Arg::new(alloc, name).long(name).action(ArgAction::SetTrue)
 }
 
-/// `ask` with its words, and no options yet.
-#[tactic(auto, unfolding(crate::specs::Line::ask_words_shape))]
-fn ask_words<'a>(alloc: Global) -> Result<Command<'a>, AllocError>
-    ensures shape { IfOk result (λ c. shape_of c ≡ ask_words_shape) }
-    ensures local { IfOk result (λ c. (out-Command c).has_globals ≡ false) }
+/// A command of this name with no arguments yet.
+fn bare<'a>(alloc: Global, name: &'a str) -> Command<'a>
+    ensures shape { shape_of result ≡ new_shape name.entry.now }
+    ensures local { (out-Command result).has_globals ≡ false }
 {
-    Command::new(alloc, "ask")
-        .arg(required(alloc, "SPEC"))?
-        .arg(required(alloc, "QUESTION"))
+    Command::new(alloc, name)
 }
 
-#[tactic(auto, unfolding(crate::specs::Line::ask_words_shape, crate::specs::Line::ask_shape))]
+/// A command with one more argument, the last.
+fn with_argument<'a>(command: Command<'a>, argument: Arg<'a>) -> Result<Command<'a>, AllocError>
+    requires command { (out-Command command).has_globals ≡ false }
+    requires argument { argument.global ≡ false }
+    ensures shape { IfOk result (λ c. shape_of c ≡ with_argument (shape_of command.entry) (rule_of argument.entry)) }
+    ensures local { IfOk result (λ c. (out-Command c).has_globals ≡ false) }
+{
+    command.arg(argument)
+}
+
+/// A command of this name that takes SPEC QUESTION.
+#[tactic(auto, unfolding(crate::specs::Line::on_question))]
+fn on_question<'a>(alloc: Global, name: &'a str) -> Result<Command<'a>, AllocError>
+    ensures shape { IfOk result (λ c. shape_of c ≡ on_question name.entry.now) }
+    ensures local { IfOk result (λ c. (out-Command c).has_globals ≡ false) }
+{
+    let command = with_argument(bare(alloc, name), required(alloc, "SPEC"))?;
+    with_argument(command, required(alloc, "QUESTION"))
+}
+
+/// A command with the options of a search behind its other arguments.
+fn with_search_options<'a>(alloc: Global, command: Command<'a>) -> Result<Command<'a>, AllocError>
+    requires { (out-Command command).has_globals ≡ false }
+    ensures shape { IfOk result (λ c. shape_of c ≡ with_search_options (shape_of command.entry)) }
+    ensures local { IfOk result (λ c. (out-Command c).has_globals ≡ false) }
+{
+    let command = with_argument(command, option(alloc, "budget"))?;
+    with_argument(command, option(alloc, "guide"))
+}
+
+#[tactic(auto, unfolding(crate::specs::Line::on_question, crate::specs::Line::ask_shape))]
 fn ask<'a>(alloc: Global) -> Result<Command<'a>, AllocError>
     ensures shape { IfOk result (λ c. shape_of c ≡ ask_shape) }
     ensures local { IfOk result (λ c. (out-Command c).has_globals ≡ false) }
 {
-    ask_words(alloc)?
-        .arg(option(alloc, "budget"))?
-        .arg(flag(alloc, "brief"))?
-        .arg(option(alloc, "guide"))
+    let command = with_search_options(alloc, on_question(alloc, "ask")?)?;
+    with_argument(command, flag(alloc, "brief"))
 }
 
-#[tactic(auto, unfolding(crate::specs::Line::verify_shape))]
+#[tactic(auto, unfolding(crate::specs::Line::on_question, crate::specs::Line::verify_shape))]
 fn verify<'a>(alloc: Global) -> Result<Command<'a>, AllocError>
     ensures shape { IfOk result (λ c. shape_of c ≡ verify_shape) }
     ensures local { IfOk result (λ c. (out-Command c).has_globals ≡ false) }
 {
-    Command::new(alloc, "verify")
-        .arg(required(alloc, "SPEC"))?
-        .arg(required(alloc, "QUESTION"))?
-        .arg(required(alloc, "REPORT"))
+    with_argument(on_question(alloc, "verify")?, required(alloc, "REPORT"))
 }
 
 #[tactic(auto, unfolding(crate::specs::Line::forced_shape))]
@@ -68,7 +91,7 @@ fn forced<'a>(alloc: Global) -> Result<Command<'a>, AllocError>
     ensures shape { IfOk result (λ c. shape_of c ≡ forced_shape) }
     ensures local { IfOk result (λ c. (out-Command c).has_globals ≡ false) }
 {
-    Command::new(alloc, "forced").arg(required(alloc, "SPEC"))
+    with_argument(bare(alloc, "forced"), required(alloc, "SPEC"))
 }
 
 #[tactic(auto, unfolding(crate::specs::Line::trial_shape))]
@@ -76,7 +99,25 @@ fn trial<'a>(alloc: Global) -> Result<Command<'a>, AllocError>
     ensures shape { IfOk result (λ c. shape_of c ≡ trial_shape) }
     ensures local { IfOk result (λ c. (out-Command c).has_globals ≡ false) }
 {
-    Command::new(alloc, "trial").arg(required(alloc, "N"))
+    with_argument(bare(alloc, "trial"), required(alloc, "N"))
+}
+
+#[tactic(auto, unfolding(crate::specs::Line::on_question, crate::specs::Line::explain_shape))]
+fn explain<'a>(alloc: Global) -> Result<Command<'a>, AllocError>
+    ensures shape { IfOk result (λ c. shape_of c ≡ explain_shape) }
+    ensures local { IfOk result (λ c. (out-Command c).has_globals ≡ false) }
+{
+    let command = with_argument(on_question(alloc, "explain")?, required(alloc, "N"))?;
+    with_search_options(alloc, command)
+}
+
+#[tactic(auto, unfolding(crate::specs::Line::conflicts_shape))]
+fn conflicts<'a>(alloc: Global) -> Result<Command<'a>, AllocError>
+    ensures shape { IfOk result (λ c. shape_of c ≡ conflicts_shape) }
+    ensures local { IfOk result (λ c. (out-Command c).has_globals ≡ false) }
+{
+    let command = with_argument(bare(alloc, "conflicts"), required(alloc, "SPEC"))?;
+    with_search_options(alloc, command)
 }
 
 /// The program with no command yet. Subcommands take its settings on help and version.
@@ -91,22 +132,33 @@ fn bare_line<'a>(alloc: Global) -> Command<'a>
         .subcommand_required(true)
 }
 
-fn with_subcommand<'a>(
-    command: Command<'a>,
-    subcommand: Command<'a>,
-) -> Result<Command<'a>, AllocError>
+fn added<'a>(command: Command<'a>, subcommand: Command<'a>) -> Result<Command<'a>, AllocError>
     requires { (out-Command subcommand).has_globals ≡ false }
     ensures { IfOk result (λ c. app_of c ≡ with_subcommand (app_of command.entry) (shape_of subcommand.entry)) }
 {
     command.subcommand(subcommand)
 }
 
-/// The program with its four commands.
+/// The command with this subcommand, where it could be made.
+fn with_subcommand<'a>(
+    command: Command<'a>,
+    subcommand: Result<Command<'a>, AllocError>,
+) -> Result<Command<'a>, AllocError>
+    requires { IfOk subcommand (λ s. (out-Command s).has_globals ≡ false) }
+    ensures { (shape : Shape) → IfOk subcommand.entry (λ s. shape_of s ≡ shape)
+        → IfOk result (λ c. app_of c ≡ with_subcommand (app_of command.entry) shape) }
+{
+    added(command, subcommand?)
+}
+
+/// The program with its six commands.
 pub(crate) fn line<'a>(alloc: Global) -> Result<Command<'a>, AllocError>
     ensures { IfOk result (λ c. app_of c ≡ line) }
 {
-    let with_ask = with_subcommand(bare_line(alloc), ask(alloc)?)?;
-    let with_verify = with_subcommand(with_ask, verify(alloc)?)?;
-    let with_forced = with_subcommand(with_verify, forced(alloc)?)?;
-    with_subcommand(with_forced, trial(alloc)?)
+    let with_ask = with_subcommand(bare_line(alloc), ask(alloc))?;
+    let with_verify = with_subcommand(with_ask, verify(alloc))?;
+    let with_forced = with_subcommand(with_verify, forced(alloc))?;
+    let with_trial = with_subcommand(with_forced, trial(alloc))?;
+    let with_explain = with_subcommand(with_trial, explain(alloc))?;
+    with_subcommand(with_explain, conflicts(alloc))
 }

@@ -1,5 +1,6 @@
-ghost use Rattle.std.specs.Prelude.{◌≡◌, None, Some, if◌then◌else◌, nat_le, option_map};
+ghost use Rattle.std.specs.Prelude.{◌≡◌, None, Some, if◌then◌else◌, nat_le, option_and_then, option_map};
 ghost use Rattle.program_words.specs.Numbers.{number_if_given, number_or, number_up_to};
+ghost use Rattle.program_words.specs.Words.{unit_in};
 
 /// The number from 1 to `most` that the text writes in decimal digits, with neither a sign nor a zero in front.
 pub(crate) fn number_up_to(text: &str, most: u64) -> Option<u64>
@@ -41,5 +42,18 @@ pub(crate) fn number_if_given(most: u64, text: Option<&str>) -> Option<Option<u6
             None => None,
         },
         None => Some(None),
+    }
+}
+
+/// The number of a unit. `None` where it isn't given, and where it is wrong.
+pub(crate) fn unit_in(text: Option<&str>) -> Option<u32>
+    ensures { result ≡ option_and_then unit_in (option_map (λ s. s.now) text.entry) }
+{
+    match text {
+        Some(text) => match number_up_to(text, 4_294_967_295) {
+            Some(number) => Some(number as u32),
+            None => None,
+        },
+        None => None,
     }
 }

@@ -1,10 +1,11 @@
 ghost use Rattle.std.specs.Prelude.{◌≡◌, codes, option_and_then, option_map};
+ghost use Rattle.program_words.specs.Numbers.{number_if_given, number_or};
 ghost use Rattle.clap.specs.Words.{found_of, first_of, rows_of, subcommand_rows_of};
 ghost use Rattle.program_words.specs.Said.{said_of};
-ghost use Rattle.program_words.specs.Words.{ask_in, command_in, forced_in, is_set, trial_in, verify_in};
+ghost use Rattle.program_words.specs.Words.{ask_in, command_in, conflicts_in, explain_in, forced_in, is_set, trial_in, verify_in};
 
-use crate::number::{number_if_given, number_or, number_up_to};
-use crate::{Ask, Command, Verify};
+use crate::number::{number_if_given, number_or, number_up_to, unit_in};
+use crate::{Ask, Command, Conflicts, Explain, Verify};
 use clap::ArgMatches;
 
 /// The first text of an argument.
@@ -23,13 +24,27 @@ fn is_set(text: Option<&str>) -> bool
     }
 }
 
+/// How many clauses may be learned. `None` where that is given and wrong.
+fn budget_in(given: &ArgMatches<'_>) -> Option<u64>
+    ensures { result ≡ number_or 100000 10000000 (first_of (codes "budget") (rows_of (found_of given.now))) }
+{
+    number_or(100_000, 10_000_000, text_of(given, "budget"))
+}
+
+/// The one guide that is kept, where one is. `None` where it is given and wrong.
+fn guide_in(given: &ArgMatches<'_>) -> Option<Option<u64>>
+    ensures { result ≡ number_if_given 4 (first_of (codes "guide") (rows_of (found_of given.now))) }
+{
+    number_if_given(4, text_of(given, "guide"))
+}
+
 fn ask_in<'a>(given: &ArgMatches<'a>) -> Option<Command<'a>>
     ensures { option_map said_of result ≡ ask_in (rows_of (found_of given.now)) }
 {
     let spec = text_of(given, "SPEC")?;
     let question = text_of(given, "QUESTION")?;
-    let budget = number_or(100_000, 10_000_000, text_of(given, "budget"))?;
-    let guide = number_if_given(4, text_of(given, "guide"))?;
+    let budget = budget_in(given)?;
+    let guide = guide_in(given)?;
     let brief = is_set(text_of(given, "brief"));
     Some(Command::Ask(Ask {
         spec,
@@ -67,6 +82,36 @@ fn trial_in<'a>(given: &ArgMatches<'a>) -> Option<Command<'a>>
     Some(Command::Trial(size))
 }
 
+fn explain_in<'a>(given: &ArgMatches<'a>) -> Option<Command<'a>>
+    ensures { option_map said_of result ≡ explain_in (rows_of (found_of given.now)) }
+{
+    let spec = text_of(given, "SPEC")?;
+    let question = text_of(given, "QUESTION")?;
+    let unit = unit_in(text_of(given, "N"))?;
+    let budget = budget_in(given)?;
+    let guide = guide_in(given)?;
+    Some(Command::Explain(Explain {
+        spec,
+        question,
+        unit,
+        budget,
+        guide,
+    }))
+}
+
+fn conflicts_in<'a>(given: &ArgMatches<'a>) -> Option<Command<'a>>
+    ensures { option_map said_of result ≡ conflicts_in (rows_of (found_of given.now)) }
+{
+    let spec = text_of(given, "SPEC")?;
+    let budget = budget_in(given)?;
+    let guide = guide_in(given)?;
+    Some(Command::Conflicts(Conflicts {
+        spec,
+        budget,
+        guide,
+    }))
+}
+
 /// The command that was found, with what was given to it.
 pub(crate) fn command_in<'a>(matches: &ArgMatches<'a>) -> Option<Command<'a>>
     ensures { option_map said_of result ≡ option_and_then command_in (subcommand_rows_of matches.now) }
@@ -75,6 +120,8 @@ pub(crate) fn command_in<'a>(matches: &ArgMatches<'a>) -> Option<Command<'a>>
     match name {
         "ask" => ask_in(given),
         "trial" => trial_in(given),
+        "explain" => explain_in(given),
+        "conflicts" => conflicts_in(given),
         "verify" => verify_in(given),
         "forced" => forced_in(given),
         _ => None,

@@ -66,14 +66,16 @@ none_some f [] x none there = elim there [ ]
 none_some f (y ∷ ys) x none (inl is) = ap f is ∙ (or_none (f y) (first_some f ys) none).0
 none_some f (y ∷ ys) x none (inr there) = none_some f ys x (or_none (f y) (first_some f ys) none).1 there
 
-pub some_in : {A B : Type 0} (f : A → Option B) (xs : List A) (b : B) → first_some f xs ≡ Some b → (x : A) × IsIn x xs × (f x ≡ Some b)
+pub some_in : {A B : Type 0} (f : A → Option B) (xs : List A) (b : B) → first_some f xs ≡ Some b →
+    (x : A) × IsIn x xs × (f x ≡ Some b)
 some_in f [] b is = absurd (cc)
 some_in f (y ∷ ys) b is = elim (or_some (f y) (first_some f ys) b is) [
   | inl here ↦ (y, inl refl, here)
   | inr later ↦ (let rest = some_in f ys b later in (rest.0, inr rest.1, rest.2))
 ]
 
-pub none_at : {A B : Type 0} (f : ℕ → A → Option B) (k : ℕ) (xs : List A) (i : ℕ) (x : A) → first_at f k xs ≡ None → slice_get xs i ≡ Some x
+pub none_at : {A B : Type 0} (f : ℕ → A → Option B) (k : ℕ) (xs : List A) (i : ℕ) (x : A) → first_at f k xs ≡ None
+    → slice_get xs i ≡ Some x
     → f (k + i) x ≡ None
 none_at f k [] i x none is = absurd (cc)
 none_at f k (y ∷ ys) zero x none is =
@@ -97,7 +99,8 @@ some_at f k (y ∷ ys) b is = elim (or_some (f k y) (first_at f (k + 1) ys) b is
 ]
 
 -- the same of lists that are counted from 0
-pub none_from : {A B : Type 0} (f : ℕ → A → Option B) (xs : List A) (i : ℕ) (x : A) → first_at f 0 xs ≡ None → slice_get xs i ≡ Some x → f i x ≡ None
+pub none_from : {A B : Type 0} (f : ℕ → A → Option B) (xs : List A) (i : ℕ) (x : A) → first_at f 0 xs ≡ None
+    → slice_get xs i ≡ Some x → f i x ≡ None
 none_from f xs i x none is = let at : i ≡ 0 + i = omega arith in ap (λ n. f n x) at ∙ none_at f 0 xs i x none is
 
 pub some_from : {A B : Type 0} (f : ℕ → A → Option B) (xs : List A) (b : B) → first_at f 0 xs ≡ Some b
@@ -138,9 +141,11 @@ pub each_is : {A B : Type 0} (P : B → Type 0) (f : A → Result B BindFault) (
 each_is P f [] ys is each = let made : [] ≡ ys = cc in subst (All P) made (All-nil P)
 each_is P f (x ∷ xs) ys is each =
     let a = first_ok f x xs ys is in
-    subst (All P) a.4 (All-cons P a.0 a.1 (each x a.0 (inl refl) a.2) (each_is P f xs a.1 a.3 (λ z y there. each z y (inr there))))
+    subst (All P) a.4 (All-cons P a.0 a.1 (each x a.0 (inl refl) a.2)
+    (each_is P f xs a.1 a.3 (λ z y there. each z y (inr there))))
 
-pub as_many : {A B : Type 0} (f : A → Result B BindFault) (xs : List A) (ys : List B) → all_of f xs ≡ Ok ys → length ys ≡ length xs
+pub as_many : {A B : Type 0} (f : A → Result B BindFault) (xs : List A) (ys : List B) → all_of f xs ≡ Ok ys
+    → length ys ≡ length xs
 as_many f [] ys is = let made : [] ≡ ys = cc in ap length (sym made)
 as_many f (x ∷ xs) ys is = let a = first_ok f x xs ys is in ap length (sym a.4) ∙ ap suc (as_many f xs a.1 a.3)
 
@@ -152,7 +157,8 @@ one_ok f (z ∷ zs) ys x is (inl here) = let a = first_ok f z zs ys is in (a.0, 
 one_ok f (z ∷ zs) ys x is (inr there) = let a = first_ok f z zs ys is in one_ok f zs a.1 x a.3 there
 
 -- what an item is made of, and what it gives
-pub made_of : {A B : Type 0} (f : A → Result B BindFault) (xs : List A) (ys : List B) (i : ℕ) (y : B) → all_of f xs ≡ Ok ys → slice_get ys i ≡ Some y
+pub made_of : {A B : Type 0} (f : A → Result B BindFault) (xs : List A) (ys : List B) (i : ℕ) (y : B)
+    → all_of f xs ≡ Ok ys → slice_get ys i ≡ Some y
     → (x : A) × (slice_get xs i ≡ Some x) × (f x ≡ Ok y)
 made_of f [] ys i y is at = let made : [] ≡ ys = cc in absurd (none (subst (λ zs. slice_get zs i ≡ Some y) (sym made) at))
   where
@@ -168,7 +174,8 @@ made_of f (x ∷ xs) ys (suc i) y is at =
     let here : slice_get (a.0 ∷ a.1) (suc i) ≡ Some y = ap (λ l. slice_get l (suc i)) a.4 ∙ at in
     made_of f xs a.1 i y a.3 here
 
-pub gives : {A B : Type 0} (f : A → Result B BindFault) (xs : List A) (ys : List B) (i : ℕ) (x : A) → all_of f xs ≡ Ok ys → slice_get xs i ≡ Some x
+pub gives : {A B : Type 0} (f : A → Result B BindFault) (xs : List A) (ys : List B) (i : ℕ) (x : A)
+    → all_of f xs ≡ Ok ys → slice_get xs i ≡ Some x
     → (y : B) × (slice_get ys i ≡ Some y) × (f x ≡ Ok y)
 gives f [] ys i x is at = absurd (cc)
 gives f (z ∷ zs) ys zero x is at =

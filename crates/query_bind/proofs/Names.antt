@@ -36,7 +36,8 @@ stands_at names name k is =
 pub place_within : (names : List (List ℕ)) (name : List ℕ) (k : ℕ) → place_of names name ≡ Some k → k < length names
 place_within names name k is = (position-Some (bytes_eq name) names k name is).0
 
-position_none : {X : Type 0} (p : X → Bool) (xs : List X) → position p xs ≡ None → (k : ℕ) (d : X) → k < length xs → p (get_or xs k d) ≡ false
+position_none : {X : Type 0} (p : X → Bool) (xs : List X) → position p xs ≡ None → (k : ℕ) (d : X) → k < length xs
+    → p (get_or xs k d) ≡ false
 position_none p xs none k d lt = fails_before_first p xs k d (past (cases_lt (position_or_len p xs) (length xs)))
   where
     past : (position_or_len p xs < length xs) ⊎ (length xs ≤ position_or_len p xs) → k < position_or_len p xs
@@ -44,7 +45,8 @@ position_none p xs none k d lt = fails_before_first p xs k d (past (cases_lt (po
     past (inr above) = omega arith
 
 -- a name that stands somewhere has a place
-pub present : (names : List (List ℕ)) (name : List ℕ) (at : ℕ) → slice_get names at ≡ Some name → (k : ℕ) × (place_of names name ≡ Some k)
+pub present : (names : List (List ℕ)) (name : List ℕ) (at : ℕ) → slice_get names at ≡ Some name →
+    (k : ℕ) × (place_of names name ≡ Some k)
 present names name at is_at = by_cases (place_of names name) refl
   where
     by_cases : (o : Option ℕ) → place_of names name ≡ o → (k : ℕ) × (place_of names name ≡ Some k)
@@ -56,7 +58,8 @@ present names name at is_at = by_cases (place_of names name) refl
         absurd (true≢false (sym passes ∙ fails))
 
 -- the place of a name that stands once
-pub its_place : (names : List (List ℕ)) (name : List ℕ) (at : ℕ) → OnlyOnce names → slice_get names at ≡ Some name → place_of names name ≡ Some at
+pub its_place : (names : List (List ℕ)) (name : List ℕ) (at : ℕ) → OnlyOnce names → slice_get names at ≡ Some name
+    → place_of names name ≡ Some at
 its_place names name at once is_at =
     let found = present names name at is_at in
     let same : found.0 ≡ at = once found.0 at name (stands_at names name found.0 found.1) is_at in
@@ -69,12 +72,17 @@ last_or_before : {A : Type 0} (xs : List A) (x : A) (i : ℕ) (y : A) → slice_
 last_or_before [] x zero y at = inr (refl, cc)
 last_or_before [] x (suc i) y at = inl at
 last_or_before (z ∷ zs) x zero y at = inl at
-last_or_before (z ∷ zs) x (suc i) y at = elim (last_or_before zs x i y at) [ inl here ↦ inl here | inr last ↦ inr (ap suc last.0, last.1) ]
+last_or_before (z ∷ zs) x (suc i) y at = elim (last_or_before zs x i y at) [
+  | inl here ↦ inl here
+  | inr last ↦ inr
+      (ap suc last.0, last.1)
+]
 
 once_more : (xs : List (List ℕ)) (x : List ℕ) → OnlyOnce xs → ((i : ℕ) → slice_get xs i ≡ Some x → ⊥) → OnlyOnce (xs ++ x ∷ [])
 once_more xs x once new i j y at_i at_j = cases (last_or_before xs x i y at_i) (last_or_before xs x j y at_j)
   where
-    cases : (slice_get xs i ≡ Some y) ⊎ ((i ≡ length xs) × (x ≡ y)) → (slice_get xs j ≡ Some y) ⊎ ((j ≡ length xs) × (x ≡ y)) → i ≡ j
+    cases : (slice_get xs i ≡ Some y) ⊎ ((i ≡ length xs) × (x ≡ y)) → (slice_get xs j ≡ Some y) ⊎
+        ((j ≡ length xs) × (x ≡ y)) → i ≡ j
     cases (inl a) (inl b) = once i j y a b
     cases (inl a) (inr b) = absurd (new i (a ∙ ap Some (sym b.1)))
     cases (inr a) (inl b) = absurd (new j (b ∙ ap Some (sym a.1)))
@@ -138,7 +146,8 @@ from_name names name x = by (place_of names name)
     by (Some k) there = inl there
     by None there = in_push names name x there
 
-from_place : (names : List (List ℕ)) (p : PlaceTree) (ps : List PlaceTree) (x : List ℕ) → IsIn x (with_place names p) → IsIn x names ⊎ StandsAt (p ∷ ps) x
+from_place : (names : List (List ℕ)) (p : PlaceTree) (ps : List PlaceTree) (x : List ℕ) → IsIn x (with_place names p)
+    → IsIn x names ⊎ StandsAt (p ∷ ps) x
 from_place names (place.Var named) ps x there = elim (from_name names named.name x there) [
   | inl before ↦ inl before
   | inr is ↦ inr (record { at = 0; named = named; is_place = refl; is_name = sym is })
@@ -146,21 +155,24 @@ from_place names (place.Var named) ps x there = elim (from_name names named.name
 from_place names (place.Any line) ps x there = inl there
 from_place names (place.Constant constant) ps x there = inl there
 
-from_places : (names : List (List ℕ)) (ps : List PlaceTree) (x : List ℕ) → IsIn x (fold with_place names ps) → IsIn x names ⊎ StandsAt ps x
+from_places : (names : List (List ℕ)) (ps : List PlaceTree) (x : List ℕ) → IsIn x (fold with_place names ps)
+    → IsIn x names ⊎ StandsAt ps x
 from_places names [] x there = inl there
 from_places names (p ∷ ps) x there = elim (from_places (with_place names p) ps x there) [
   | inl before ↦ from_place names p ps x before
   | inr later ↦ inr (further p ps x later)
 ]
 
-from_part : (names : List (List ℕ)) (p : PartTree) (ps : List PartTree) (x : List ℕ) → IsIn x (with_part names p) → IsIn x names ⊎ StandsAmong (p ∷ ps) x
+from_part : (names : List (List ℕ)) (p : PartTree) (ps : List PartTree) (x : List ℕ) → IsIn x (with_part names p)
+    → IsIn x names ⊎ StandsAmong (p ∷ ps) x
 from_part names (part.Atom atom) ps x there = elim (from_places names atom.places x there) [
   | inl before ↦ inl before
   | inr stands ↦ inr (record { atom = atom; among = inl refl; stands = stands })
 ]
 from_part names (part.Test test) ps x there = inl there
 
-from_parts : (names : List (List ℕ)) (ps : List PartTree) (x : List ℕ) → IsIn x (fold with_part names ps) → IsIn x names ⊎ StandsAmong ps x
+from_parts : (names : List (List ℕ)) (ps : List PartTree) (x : List ℕ) → IsIn x (fold with_part names ps)
+    → IsIn x names ⊎ StandsAmong ps x
 from_parts names [] x there = inl there
 from_parts names (p ∷ ps) x there = elim (from_parts (with_part names p) ps x there) [
   | inl before ↦ from_part names p ps x before
@@ -169,7 +181,8 @@ from_parts names (p ∷ ps) x there = elim (from_parts (with_part names p) ps x 
 
 -- a variable that has a number stands in an atom
 pub var_stands : (d : DisjunctTree) (name : List ℕ) (v : ℕ) → slice_get (vars_of d) v ≡ Some name → StandsAmong (all_parts d) name
-var_stands d name v at = elim (from_parts [] (all_parts d) name (in_from_get (vars_of d) v name at)) [ inl none ↦ absurd none | inr stands ↦ stands ]
+var_stands d name v at = elim (from_parts [] (all_parts d) name (in_from_get (vars_of d) v name at))
+    [ inl none ↦ absurd none | inr stands ↦ stands ]
 
 -- ---- names of a head
 
@@ -186,7 +199,8 @@ has_place : (names : List (List ℕ)) (name : List ℕ) (k : ℕ) → slice_get 
 has_place names name k at = ap is_some (present names name k at).1
 
 -- a name stands among those with one more where it stood among them, or is the one
-named_more : (names : List (List ℕ)) (name q : List ℕ) → is_some (place_of (with_name names name) q) ≡ (is_some (place_of names q) || bytes_eq q name)
+named_more : (names : List (List ℕ)) (name q : List ℕ) → is_some (place_of (with_name names name) q) ≡
+    (is_some (place_of names q) || bytes_eq q name)
 named_more names name q = by (place_of names name) refl (place_of names q) refl (bytes_eq q name) refl
   where
     by : (o : Option ℕ) → place_of names name ≡ o → (p : Option ℕ) → place_of names q ≡ p → (b : Bool) → bytes_eq q name ≡ b
@@ -194,7 +208,8 @@ named_more names name q = by (place_of names name) refl (place_of names q) refl 
     by (Some k) known (Some j) at b same = ap is_some at
     by (Some k) known None at true same = absurd (none-some _ (sym at ∙ ap (place_of names) (same_bytes q name same) ∙ known))
     by (Some k) known None at false same = ap is_some at
-    by None known (Some j) at b same = has_place (names ++ name ∷ []) q j (in_front names (name ∷ []) j q (stands_at names q j at))
+    by None known (Some j) at b same = has_place (names ++ name ∷ []) q j
+        (in_front names (name ∷ []) j q (stands_at names q j at))
     by None known None at true same =
         has_place (names ++ name ∷ []) q (length names) (at_last names name ∙ ap Some (sym (same_bytes q name same)))
     by None known None at false same = nowhere (place_of (names ++ name ∷ []) q) refl
@@ -206,17 +221,21 @@ named_more names name q = by (place_of names name) refl (place_of names q) refl 
           | inr last ↦ absurd (true≢false (sym (own_bytes q name (sym last.1)) ∙ same))
         ]
 
-pub head_more : (names new : List (List ℕ)) (head : List Named) (i : ℕ) (named : Named) (name : List ℕ) → new ≡ with_name names named.name → i < length head
+pub head_more : (names new : List (List ℕ)) (head : List Named) (i : ℕ) (named : Named) (name : List ℕ)
+    → new ≡ with_name names named.name → i < length head
     → named ≡ get_or head i named
-    → (is_some (place_of names name) || list_any (λ h. bytes_eq name h.name) (drop i head)) ≡ list_any (λ h. bytes_eq name h.name) head
-    → (is_some (place_of new name) || list_any (λ h. bytes_eq name h.name) (drop (i + 1) head)) ≡ list_any (λ h. bytes_eq name h.name) head
+    → (is_some (place_of names name) || list_any (λ h. bytes_eq name h.name) (drop i head)) ≡ list_any
+    (λ h. bytes_eq name h.name) head
+    → (is_some (place_of new name) || list_any (λ h. bytes_eq name h.name) (drop (i + 1) head)) ≡ list_any
+    (λ h. bytes_eq name h.name) head
 head_more names new head i named name are lt item so =
     let test = λ (h : Named). bytes_eq name h.name in
     let rest = list_any test (drop (i + 1) head) in
     let step : list_any test (drop i head) ≡ (bytes_eq name named.name || rest) =
     at_drop_more (list_any test) head i named lt ∙ ap (λ (h : Named). bytes_eq name h.name || rest) (sym item) in
     ap (λ ns. is_some (place_of ns name) || rest) are ∙ ap (λ b. b || rest) (named_more names named.name name)
-    ∙ nested (is_some (place_of names name)) (bytes_eq name named.name) rest ∙ ap (λ b. is_some (place_of names name) || b) (sym step) ∙ so
+    ∙ nested (is_some (place_of names name)) (bytes_eq name named.name) rest ∙ ap (λ b. is_some (place_of names name)
+    || b) (sym step) ∙ so
   where
     nested : (a b c : Bool) → ((a || b) || c) ≡ (a || (b || c))
     nested true b c = refl

@@ -28,7 +28,8 @@ use Rattle.query_bind.proofs.Names.{own_bytes}
 -- ---- heads
 
 -- the numbers of the head have these kinds
-numbers_fit : (vars : List (List ℕ)) (kinds : List Kind) (f : Named → Kind) (hs : List Named) (numbers : List ℕ) → all_of (var_named vars) hs ≡ Ok numbers
+numbers_fit : (vars : List (List ℕ)) (kinds : List Kind) (f : Named → Kind) (hs : List Named) (numbers : List ℕ)
+    → all_of (var_named vars) hs ≡ Ok numbers
     → ((h : Named) (v : ℕ) → IsIn h hs → var_named vars h ≡ Ok v → slice_get kinds v ≡ Some (f h))
     → map (slice_get kinds) numbers ≡ map (λ kind. Some kind) (map f hs)
 numbers_fit vars kinds f [] numbers is each = let none : [] ≡ numbers = cc in ap (map (slice_get kinds)) (sym none)
@@ -43,10 +44,12 @@ head_kind names relations d h = or_text (kind_in names relations d h.name)
 
 -- a disjunct whose variables of the head have the kinds that another gives them
 record AgreesWith (names : List (List ℕ)) (relations : List Relation) (head : List Named) (first d : DisjunctTree) : Type 0 where
-  pub same : (h : Named) (v : ℕ) → IsIn h head → var_named (vars_of d) h ≡ Ok v → slice_get (kinds_in names relations d) v ≡ Some (head_kind names relations first h)
+  pub same : (h : Named) (v : ℕ) → IsIn h head → var_named (vars_of d) h ≡ Ok v
+      → slice_get (kinds_in names relations d) v ≡ Some (head_kind names relations first h)
 
 -- the first agrees with itself
-agrees_first : (names : List (List ℕ)) (relations : List Relation) (head : List Named) (d : DisjunctTree) (before : List ℕ → Option Kind) (made : Disjunct)
+agrees_first : (names : List (List ℕ)) (relations : List Relation) (head : List Named) (d : DisjunctTree)
+    (before : List ℕ → Option Kind) (made : Disjunct)
     → IsMade names relations head d before made → AgreesWith names relations head d d
 unfolding head_kind
 agrees_first names relations head d before made m = record {
@@ -57,20 +60,25 @@ agrees_first names relations head d before made m = record {
 }
 
 -- a later one agrees with the first
-agrees_later : (names : List (List ℕ)) (relations : List Relation) (head : List Named) (first d : DisjunctTree) (front : List DisjunctTree)
+agrees_later : (names : List (List ℕ)) (relations : List Relation) (head : List Named) (first d : DisjunctTree)
+    (front : List DisjunctTree)
     (before : List ℕ → Option Kind) (made_first made : Disjunct) → IsMade names relations head first before made_first
-    → IsMade names relations head d (kind_before names relations head (first ∷ front)) made → AgreesWith names relations head first d
+    → IsMade names relations head d (kind_before names relations head (first ∷ front)) made
+    → AgreesWith names relations head first d
 unfolding head_kind
 agrees_later names relations head first d front before made_first made one m = record {
   same = λ h v there is.
       let at = number_of (vars_of d) h v is in
       let k = var_fits names relations head d (kind_before names relations head (first ∷ front)) made h.name v m at in
       let number = one_ok (var_named (vars_of first)) head made_first.head h one.numbers there in
-      let l = var_fits names relations head first before made_first h.name number.0 one (number_of (vars_of first) h number.0 number.1) in
-      let in_head : list_any (λ g. bytes_eq h.name g.name) head ≡ true = any_in (λ g. bytes_eq h.name g.name) head h there (own_bytes h.name h.name refl) in
+      let l = var_fits names relations head first before made_first h.name number.0 one
+      (number_of (vars_of first) h number.0 number.1) in
+      let in_head : list_any (λ g. bytes_eq h.name g.name) head ≡ true = any_in (λ g. bytes_eq h.name g.name) head h
+      there (own_bytes h.name h.name refl) in
       let rest = first_some (λ e. kind_in names relations e h.name) front in
       let was : kind_before names relations head (first ∷ front) h.name ≡ Some l.0 =
-      ap (λ b. if b then or_first (kind_in names relations first h.name) rest else None) in_head ∙ ap (λ o. or_first o rest) l.1 in
+      ap (λ b. if b then or_first (kind_in names relations first h.name) rest else None) in_head
+      ∙ ap (λ o. or_first o rest) l.1 in
       let same : l.0 ≡ k.0 = k.2 l.0 was in
       kind_at names relations d h.name v k.0 at k.1 ∙ ap Some (sym same) ∙ ap (λ o. Some (or_text o)) (sym l.1);
 }
@@ -78,13 +86,16 @@ agrees_later names relations head first d front before made_first made one m = r
 -- ---- disjuncts
 
 -- a disjunct that is small enough
-fits_small : (names : List (List ℕ)) (relations : List Relation) (head : List Named) (first d : DisjunctTree) (before : List ℕ → Option Kind) (made : Disjunct)
+fits_small : (names : List (List ℕ)) (relations : List Relation) (head : List Named) (first d : DisjunctTree)
+    (before : List ℕ → Option Kind) (made : Disjunct)
     → IsMade names relations head d before made → AgreesWith names relations head first d → is_large d ≡ false
     → IsDisjunctOn relations (map (head_kind names relations first) head) made
 fits_small names relations head first d before made m agrees small =
-    let a = or_parts (nat_lt 7 (count_by is_atom d.parts)) (nat_lt 16 (count_by is_test d.parts) || nat_lt 32 (length (vars_of d))) small in
+    let a = or_parts (nat_lt 7 (count_by is_atom d.parts)) (nat_lt 16 (count_by is_test d.parts) || nat_lt 32
+    (length (vars_of d))) small in
     let b = or_parts (nat_lt 16 (count_by is_test d.parts)) (nat_lt 32 (length (vars_of d))) a.1 in
-    let more : count_by is_atom (all_parts d) ≡ 1 + count_by is_atom d.parts = sum_by-cons (λ p. if is_atom p then 1 else 0) (part.Atom d.first) d.parts in
+    let more : count_by is_atom (all_parts d) ≡ 1 + count_by is_atom d.parts = sum_by-cons
+    (λ p. if is_atom p then 1 else 0) (part.Atom d.first) d.parts in
     let few_atoms = ltb-false 7 (count_by is_atom d.parts) a.0 in
     let few_tests = ltb-false 16 (count_by is_test d.parts) b.0 in
     let few_vars = ltb-false 32 (length (vars_of d)) b.1 in
@@ -96,18 +107,22 @@ fits_small names relations head first d before made m agrees small =
       per_var = many ∙ sym m.vars;
       atoms = atoms_fit names relations head d before made m;
       tests = tests_fit names relations head d before made m;
-      head = numbers_fit (vars_of d) (kinds_in names relations d) (head_kind names relations first) head made.head m.numbers agrees.same;
+      head = numbers_fit (vars_of d) (kinds_in names relations d) (head_kind names relations first) head made.head
+          m.numbers agrees.same;
     }
   where
     many : length (kinds_in names relations d) ≡ length (vars_of d)
     many = length-map (vars_of d) (λ (name : List ℕ). or_text (kind_in names relations d name))
 
 -- a disjunct is agreed after those before it
-agreed_later : (names : List (List ℕ)) (relations : List Relation) (head : List Named) (before ds : List DisjunctTree) (d : DisjunctTree)
-    → mismatch_after names relations head before ds ≡ None → IsIn d ds → (front : List DisjunctTree) × (mismatch_in names relations head (before ++ front) d ≡ None)
+agreed_later : (names : List (List ℕ)) (relations : List Relation) (head : List Named)
+    (before ds : List DisjunctTree) (d : DisjunctTree)
+    → mismatch_after names relations head before ds ≡ None → IsIn d ds → (front : List DisjunctTree) ×
+    (mismatch_in names relations head (before ++ front) d ≡ None)
 agreed_later names relations head before [] d none there = elim there [ ]
 agreed_later names relations head before (e ∷ ds) d none there =
-    let both = neither (mismatch_in names relations head before e) (mismatch_after names relations head (before ++ e ∷ []) ds) none in
+    let both = neither (mismatch_in names relations head before e)
+    (mismatch_after names relations head (before ++ e ∷ []) ds) none in
     elim there [
       | inl here ↦ ([], ap₂ (mismatch_in names relations head) (append-nil before) here ∙ both.0)
       | inr later ↦ (
@@ -121,16 +136,20 @@ record IsFit (relations : List Relation) (heads : List Kind) (made : Disjunct) :
   pub is_disjunct : IsDisjunct made
   pub on : IsDisjunctOn relations heads made
 
-first_fits : (names : List (List ℕ)) (relations : List Relation) (head : List Named) (d : DisjunctTree) (before : List ℕ → Option Kind) (made : Disjunct)
-    → IsMade names relations head d before made → is_large d ≡ false → IsFit relations (map (head_kind names relations d) head) made
+first_fits : (names : List (List ℕ)) (relations : List Relation) (head : List Named) (d : DisjunctTree)
+    (before : List ℕ → Option Kind) (made : Disjunct)
+    → IsMade names relations head d before made → is_large d ≡ false → IsFit relations
+    (map (head_kind names relations d) head) made
 first_fits names relations head d before made m small = record {
   is_disjunct = is_disjunct names relations head d before made m;
   on = fits_small names relations head d d before made m (agrees_first names relations head d before made m) small;
 }
 
-later_fits : (names : List (List ℕ)) (relations : List Relation) (head : List Named) (first d : DisjunctTree) (ds : List DisjunctTree) (made_first made : Disjunct)
+later_fits : (names : List (List ℕ)) (relations : List Relation) (head : List Named) (first d : DisjunctTree)
+    (ds : List DisjunctTree) (made_first made : Disjunct)
     → IsMade names relations head first (kind_before names relations head []) made_first → names ≡ map (λ r. r.name) relations
-    → mismatch_after names relations head (first ∷ []) ds ≡ None → IsIn d ds → disjunct_of names head d ≡ Ok made → is_large d ≡ false
+    → mismatch_after names relations head (first ∷ []) ds ≡ None → IsIn d ds → disjunct_of names head d ≡ Ok made
+    → is_large d ≡ false
     → IsFit relations (map (head_kind names relations first) head) made
 later_fits names relations head first d ds made_first made one are none there is small =
     let found = agreed_later names relations head (first ∷ []) ds d none there in
@@ -144,8 +163,10 @@ later_fits names relations head first d ds made_first made one are none there is
 
 -- ---- the query
 
-on_all : (names : List (List ℕ)) (relations : List Relation) (head : List Named) (ds : List DisjunctTree) (disjuncts : List Disjunct)
-    → names ≡ map (λ r. r.name) relations → mismatch_after names relations head [] ds ≡ None → list_any is_large ds ≡ false → length ds ≤ 16
+on_all : (names : List (List ℕ)) (relations : List Relation) (head : List Named) (ds : List DisjunctTree)
+    (disjuncts : List Disjunct)
+    → names ≡ map (λ r. r.name) relations → mismatch_after names relations head [] ds ≡ None → list_any is_large ds ≡
+    false → length ds ≤ 16
     → all_of (disjunct_of names head) ds ≡ Ok disjuncts → IsQueryOn relations (query_of disjuncts)
 on_all names relations head [] disjuncts are none small few is =
     let same : [] ≡ disjuncts = cc in
@@ -157,25 +178,31 @@ on_all names relations head (d ∷ ds) disjuncts are none small few is =
     let before = kind_before names relations head [] in
     let m = is_made names relations head d before one.0 are (record { none = both.0 }) one.2 in
     let heads = map (head_kind names relations d) head in
-    let each : (e : DisjunctTree) (made : Disjunct) → IsIn e (d ∷ ds) → disjunct_of names head e ≡ Ok made → IsFit relations heads made =
+    let each : (e : DisjunctTree) (made : Disjunct) → IsIn e (d ∷ ds) → disjunct_of names head e ≡ Ok made
+    → IsFit relations heads made =
     λ e made there at. elim there [
       | inl here ↦ (
           let same_made : one.0 ≡ made = ok_same one.0 made (sym one.2 ∙ ap (disjunct_of names head) (sym here) ∙ at) in
-          subst (IsFit relations heads) same_made (first_fits names relations head d before one.0 m (not_any is_large (d ∷ ds) d small (inl refl)))
+          subst (IsFit relations heads) same_made (first_fits names relations head d before one.0 m
+          (not_any is_large (d ∷ ds) d small (inl refl)))
           )
-      | inr later ↦ later_fits names relations head d e ds one.0 made m are both.1 later at (not_any is_large (d ∷ ds) e small (inr later))
+      | inr later ↦ later_fits names relations head d e ds one.0 made m are both.1 later at
+          (not_any is_large (d ∷ ds) e small (inr later))
     ] in
     record {
-      is_query = each_is IsDisjunct (disjunct_of names head) (d ∷ ds) disjuncts is (λ e made there at. (each e made there at).is_disjunct);
+      is_query = each_is IsDisjunct (disjunct_of names head) (d ∷ ds) disjuncts is
+          (λ e made there at. (each e made there at).is_disjunct);
       few = omega (arith, few, as_many (disjunct_of names head) (d ∷ ds) disjuncts is);
       heads = heads;
-      disjuncts = each_is (IsDisjunctOn relations heads) (disjunct_of names head) (d ∷ ds) disjuncts is (λ e made there at. (each e made there at).on);
+      disjuncts = each_is (IsDisjunctOn relations heads) (disjunct_of names head) (d ∷ ds) disjuncts is
+          (λ e made there at. (each e made there at).on);
     }
   where
     ok_same : (a b : Disjunct) → ◌≡◌ {A = Result Disjunct BindFault} (Ok a) (Ok b) → a ≡ b
     ok_same a b is = cc
 
-pub query_fits : (names : List (List ℕ)) (relations : List Relation) (tree : QueryTree) (q : Query) → names ≡ map (λ r. r.name) relations
+pub query_fits : (names : List (List ℕ)) (relations : List Relation) (tree : QueryTree) (q : Query) → names ≡ map
+    (λ r. r.name) relations
     → queried_on names relations tree ≡ Ok q → IsQueryOn relations q
 unfolding queried_on
 query_fits names relations tree q are is =

@@ -128,15 +128,18 @@ clash line a b = if differ a b then Some (Refused record { code = Mismatch; docu
 -- `before` those of the head's by earlier disjuncts
 abbrev pub place_mismatch : (List ℕ → Option Kind) → (List ℕ → Option Kind) → Relation → ℕ → PlaceTree → Option BindFault
 place_mismatch own before r k (place.Var named) =
-    or_else (clash named.line (own named.name) (slice_get (place_kinds r) k)) (clash named.line (before named.name) (slice_get (place_kinds r) k))
+    or_else (clash named.line (own named.name) (slice_get (place_kinds r) k))
+    (clash named.line (before named.name) (slice_get (place_kinds r) k))
 place_mismatch own before r k (place.Any line) = None
-place_mismatch own before r k (place.Constant constant) = clash constant.line (Some (kind_of constant.value)) (slice_get (place_kinds r) k)
+place_mismatch own before r k (place.Constant constant) = clash constant.line (Some (kind_of constant.value))
+    (slice_get (place_kinds r) k)
 
 -- the refusal of an atom that has not one place more than its relation has attributes, or of the first of its places
 abbrev pub atom_mismatch : (List ℕ → Option Kind) → (List ℕ → Option Kind) → Option Relation → AtomTree → Option BindFault
 atom_mismatch own before None atom = None
 atom_mismatch own before (Some r) atom =
-    if length atom.places == length r.attrs + 1 then first_at (place_mismatch own before r) 0 atom.places else Some (refused_at Mismatch atom.relation)
+    if length atom.places == length r.attrs + 1 then first_at (place_mismatch own before r) 0 atom.places else Some
+    (refused_at Mismatch atom.relation)
 
 -- the kind of a side of a comparison, and the line of its token
 abbrev pub side_kind : (List ℕ → Option Kind) → TestTermTree → Option Kind
@@ -147,12 +150,16 @@ abbrev pub side_line : TestTermTree → ℕ
 side_line (side.Var named) = named.line
 side_line (side.Constant constant) = constant.line
 
-abbrev pub part_mismatch : List (List ℕ) → List Relation → (List ℕ → Option Kind) → (List ℕ → Option Kind) → PartTree → Option BindFault
-part_mismatch names relations own before (part.Atom atom) = atom_mismatch own before (relation_of names relations atom.relation) atom
-part_mismatch names relations own before (part.Test test) = clash (side_line test.left) (side_kind own test.left) (side_kind own test.right)
+abbrev pub part_mismatch : List (List ℕ) → List Relation → (List ℕ → Option Kind) → (List ℕ → Option Kind) → PartTree
+    → Option BindFault
+part_mismatch names relations own before (part.Atom atom) = atom_mismatch own before
+    (relation_of names relations atom.relation) atom
+part_mismatch names relations own before (part.Test test) = clash (side_line test.left) (side_kind own test.left)
+    (side_kind own test.right)
 
 -- the refusal of the first part of a disjunct that is of two kinds
-abbrev pub mismatch_by : List (List ℕ) → List Relation → (List ℕ → Option Kind) → (List ℕ → Option Kind) → DisjunctTree → Option BindFault
+abbrev pub mismatch_by : List (List ℕ) → List Relation → (List ℕ → Option Kind) → (List ℕ → Option Kind)
+    → DisjunctTree → Option BindFault
 mismatch_by names relations own before d = first_of (part_mismatch names relations own before) (all_parts d)
 
 abbrev pub mismatch_in : List (List ℕ) → List Relation → List Named → List DisjunctTree → DisjunctTree → Option BindFault
@@ -228,18 +235,21 @@ side_of vars (side.Constant constant) = Ok (compared.Constant constant.value)
 -- the comparison that a tree says
 abbrev pub test_of : List (List ℕ) → TestTree → Result Test BindFault
 test_of vars test =
-    and_then (side_of vars test.left) (λ left. and_then (side_of vars test.right) (λ right. Ok record { left = left; cmp = test.cmp; right = right }))
+    and_then (side_of vars test.left) (λ left. and_then (side_of vars test.right)
+    (λ right. Ok record { left = left; cmp = test.cmp; right = right }))
 
 -- the atoms, and the comparisons, that parts say
 abbrev pub atoms_of : List (List ℕ) → List (List ℕ) → List PartTree → Result (List Atom) BindFault
 atoms_of names vars [] = Ok []
-atoms_of names vars (part.Atom atom ∷ parts) = and_then (atom_of names vars atom) (λ a. and_then (atoms_of names vars parts) (λ more. Ok (a ∷ more)))
+atoms_of names vars (part.Atom atom ∷ parts) = and_then (atom_of names vars atom)
+    (λ a. and_then (atoms_of names vars parts) (λ more. Ok (a ∷ more)))
 atoms_of names vars (part.Test test ∷ parts) = atoms_of names vars parts
 
 abbrev pub tests_of : List (List ℕ) → List PartTree → Result (List Test) BindFault
 tests_of vars [] = Ok []
 tests_of vars (part.Atom atom ∷ parts) = tests_of vars parts
-tests_of vars (part.Test test ∷ parts) = and_then (test_of vars test) (λ t. and_then (tests_of vars parts) (λ more. Ok (t ∷ more)))
+tests_of vars (part.Test test ∷ parts) = and_then (test_of vars test)
+    (λ t. and_then (tests_of vars parts) (λ more. Ok (t ∷ more)))
 
 -- the disjunct that a tree says, of these variables
 abbrev pub disjunct_on : List (List ℕ) → List (List ℕ) → List Named → DisjunctTree → Result Disjunct BindFault

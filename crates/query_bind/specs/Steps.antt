@@ -28,7 +28,8 @@ kind_among head noted name = if is_some (place_of head name) then kind_for noted
 
 -- the refusal of the first part of disjuncts that is of two kinds, from what names stand in the head and what kinds names have
 -- by earlier disjuncts
-abbrev pub mismatch_from : List (List ℕ) → List Relation → (List ℕ → Bool) → (List ℕ → Option Kind) → List DisjunctTree → Option BindFault
+abbrev pub mismatch_from : List (List ℕ) → List Relation → (List ℕ → Bool) → (List ℕ → Option Kind)
+    → List DisjunctTree → Option BindFault
 mismatch_from names relations in_head before [] = None
 mismatch_from names relations in_head before (d ∷ ds) =
     or_else (mismatch_by names relations (kind_in names relations d) (λ name. if in_head name then before name else None) d)

@@ -133,7 +133,8 @@ fn note_place(
 
 /// The names of a head.
 pub fn head_names(alloc: Global, head: &[Named]) -> Result<NameIndex, NoMemory>
-    ensures { IfOk result (λ names. (name : List ℕ) → is_some (place_of names name) ≡ list_any (λ h. bytes_eq name h.name) head.now) }
+    ensures { IfOk result (λ names. (name : List ℕ) → is_some (place_of names name) ≡ list_any
+        (λ h. bytes_eq name h.name) head.now) }
 {
     let mut names = NameIndex::new(alloc);
     for named in head {

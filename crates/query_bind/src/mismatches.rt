@@ -54,7 +54,8 @@ fn mismatch_from(
     before: &mut NotedKinds,
     disjuncts: &[DisjunctTree],
 ) -> Result<Option<BindFault>, NoMemory>
-    ensures { IfOk result (λ fault. fault ≡ mismatch_from names.now relations.now (λ name. is_some (place_of head.now name)) (kind_for before.old) disjuncts.now) }
+    ensures { IfOk result (λ fault. fault ≡ mismatch_from names.now relations.now
+        (λ name. is_some (place_of head.now name)) (kind_for before.old) disjuncts.now) }
 {
     for disjunct in disjuncts {
         match mismatch_then(alloc, names, relations, head, before, disjunct)? {
@@ -74,9 +75,11 @@ fn mismatch_then(
     before: &mut NotedKinds,
     disjunct: &DisjunctTree,
 ) -> Result<Option<BindFault>, NoMemory>
-    ensures fault { IfOk result (λ fault. fault ≡ mismatch_by names.now relations.now (kind_in names.now relations.now disjunct.now)
+    ensures fault { IfOk result (λ fault. fault ≡ mismatch_by names.now relations.now
+        (kind_in names.now relations.now disjunct.now)
         (kind_among head.now before.old) disjunct.now) }
-    ensures noted { IfOk result (λ fault. fault ≡ None → Notes before.old before.new (kind_in names.now relations.now disjunct.now)) }
+    ensures noted { IfOk result (λ fault. fault ≡ None → Notes before.old before.new
+        (kind_in names.now relations.now disjunct.now)) }
 {
     match mismatch_of(alloc, names, relations, head, before, disjunct)? {
         Some(fault) => Ok(Some(fault)),

@@ -74,7 +74,8 @@ IsBelow a b = slice_cmp value_cmp a b ≡ Less
 
 -- each tuple is below those after it
 abbrev pub AreAscending : List (List Value) → Type 0
-AreAscending tuples = (i j : ℕ) (a b : List Value) → i < j → slice_get tuples i ≡ Some a → slice_get tuples j ≡ Some b → IsBelow a b
+AreAscending tuples = (i j : ℕ) (a b : List Value) → i < j → slice_get tuples i ≡ Some a → slice_get tuples j ≡ Some
+    b → IsBelow a b
 
 -- exactly the answers, ascending
 pub record AreAnswers (q : Query) (instance : List (List (List Value))) (tuples : List (List Value)) : Type 0 where

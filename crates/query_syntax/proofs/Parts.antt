@@ -96,7 +96,8 @@ term_named t = term_of (is_variable_token t) (variable t) (constant t)
 
 -- a word that is a name and a term too is one that the second token decides
 word_decides : (is_var : Bool) (v : Option Named) (i : Option ℤ) (line : ℕ) (x : TestTermTree) (opens : Bool)
-    → term_of is_var v (option_map (value_on_line line) (option_map int_value i)) ≡ Some x → (not is_var && is_none i) || opens ≡ opens
+    → term_of is_var v (option_map (value_on_line line) (option_map int_value i)) ≡ Some x →
+    (not is_var && is_none i) || opens ≡ opens
 word_decides true v i line x opens e = refl
 word_decides false v (Some z) line x opens e = refl
 word_decides false v None line x opens e = absurd (cc)
@@ -104,7 +105,8 @@ word_decides false v None line x opens e = absurd (cc)
 -- a word that is a name and no term begins an atom
 word_begins : (is_var reserved : Bool) (text : Option (List ℕ)) (i : Option ℤ) (line : ℕ) (n : Named) (opens : Bool)
     → option_map (on_line line) (cond reserved None text) ≡ Some n
-    → term_of is_var (option_map (on_line line) (cond is_var text None)) (option_map (value_on_line line) (option_map int_value i)) ≡ None
+    → term_of is_var (option_map (on_line line) (cond is_var text None))
+    (option_map (value_on_line line) (option_map int_value i)) ≡ None
     → (not is_var && is_none i) || opens ≡ true
 word_begins false reserved text None line n opens e f = refl
 word_begins false reserved text (Some z) line n opens e f = absurd (cc)
@@ -113,7 +115,8 @@ word_begins true false None i line n opens e f = absurd (cc)
 word_begins true false (Some bytes) i line n opens e f = absurd (cc)
 
 -- a word that is text and not reserved is a name
-text_told : (line : ℕ) (reserved utf8 : Bool) (bytes : List ℕ) → reserved ≡ false → utf8 ≡ true → option_map (on_line line) (cond reserved None (cond utf8 (Some bytes) None)) ≡ None → ⊥
+text_told : (line : ℕ) (reserved utf8 : Bool) (bytes : List ℕ) → reserved ≡ false → utf8 ≡ true → option_map
+    (on_line line) (cond reserved None (cond utf8 (Some bytes) None)) ≡ None → ⊥
 text_told line false true bytes e f g = cc
 text_told line true utf8 bytes e f g = cc
 text_told line false false bytes e f g = cc
@@ -129,21 +132,25 @@ number_named : (line : ℕ) (text : List ℕ) (i : Option ℤ) (v : Option Named
     → option_map (on_line line) (cond (is_reserved text) None (as_text text)) ≡ None
     → term_of false v (option_map (value_on_line line) (option_map int_value i)) ≡ Some x → ⊥
 number_named line text None v x e f g = absurd (cc)
-number_named line text (Some z) v x e f g = text_told line (is_reserved text) (is_utf8 text) text (int_not_reserved text z e) (int_is_text text z e) f
+number_named line text (Some z) v x e f g = text_told line (is_reserved text) (is_utf8 text) text
+    (int_not_reserved text z e) (int_is_text text z e) f
 
 -- a word that is a term is a name
 word_named : (line : ℕ) (text : List ℕ) (x : TestTermTree) (is_var : Bool) → is_variable text ≡ is_var
     → option_map (on_line line) (cond (is_reserved text) None (as_text text)) ≡ None
-    → term_of is_var (option_map (on_line line) (cond is_var (as_text text) None)) (option_map (value_on_line line) (option_map int_value (int_of text))) ≡ Some x → ⊥
+    → term_of is_var (option_map (on_line line) (cond is_var (as_text text) None))
+    (option_map (value_on_line line) (option_map int_value (int_of text))) ≡ Some x → ⊥
 word_named line text x true v e f =
-    text_told line (is_reserved text) (is_utf8 text) text (variable_not_reserved text v) (variable_text line (is_utf8 text) text (option_map (value_on_line line) (option_map int_value (int_of text))) x f) e
+    text_told line (is_reserved text) (is_utf8 text) text (variable_not_reserved text v)
+    (variable_text line (is_utf8 text) text (option_map (value_on_line line) (option_map int_value (int_of text))) x f) e
 word_named line text x false v e f = number_named line text (int_of text) None x refl e f
 
 -- ---- what the first two tokens say
 
 decided_by : (k : TokenKind) (text : List ℕ) (line : ℕ) (n : Named) (x : TestTermTree) (opens : Bool)
     → option_map (on_line line) (name_in k text) ≡ Some n
-    → term_of (same_kind k Word && is_variable text) (option_map (on_line line) (variable_in k text)) (option_map (value_on_line line) (value_in k text)) ≡ Some x
+    → term_of (same_kind k Word && is_variable text) (option_map (on_line line) (variable_in k text))
+    (option_map (value_on_line line) (value_in k text)) ≡ Some x
     → begins_atom k (not (same_kind k Word && is_variable text) && is_none (int_of text)) opens ≡ opens
 decided_by Word text line n x opens e f = word_decides (is_variable text) _ (int_of text) line x opens f
 decided_by Negative text line n x opens e f = absurd (cc)
@@ -152,7 +159,8 @@ decided_by Symbol text line n x opens e f = absurd (cc)
 decided_by Fault text line n x opens e f = absurd (cc)
 
 -- a name that is a term too: an atom is ahead where a parenthesis opens
-decided : (t : Lexeme) (ts : List Lexeme) (n : Named) (x : TestTermTree) → named t ≡ Some n → term_named t ≡ Some x → is_atom_ahead (t ∷ ts) ≡ starts is_open ts
+decided : (t : Lexeme) (ts : List Lexeme) (n : Named) (x : TestTermTree) → named t ≡ Some n → term_named t ≡ Some x
+    → is_atom_ahead (t ∷ ts) ≡ starts is_open ts
 decided t ts n x e f = decided_by t.kind t.text t.line n x (starts is_open ts) e f
 
 -- a string that is a name is a constant
@@ -169,9 +177,11 @@ constant_told line (Some bytes) x e f = cc
 
 begun_by : (k : TokenKind) (text : List ℕ) (line : ℕ) (n : Named) (opens : Bool)
     → option_map (on_line line) (name_in k text) ≡ Some n
-    → term_of (same_kind k Word && is_variable text) (option_map (on_line line) (variable_in k text)) (option_map (value_on_line line) (value_in k text)) ≡ None
+    → term_of (same_kind k Word && is_variable text) (option_map (on_line line) (variable_in k text))
+    (option_map (value_on_line line) (value_in k text)) ≡ None
     → begins_atom k (not (same_kind k Word && is_variable text) && is_none (int_of text)) opens ≡ true
-begun_by Word text line n opens e f = word_begins (is_variable text) (is_reserved text) (as_text text) (int_of text) line n opens e f
+begun_by Word text line n opens e f = word_begins (is_variable text) (is_reserved text) (as_text text) (int_of text)
+    line n opens e f
 begun_by Negative text line n opens e f = absurd (cc)
 begun_by Text text line n opens e f = absurd (string_told line (string_in Text text) n e f)
 begun_by Symbol text line n opens e f = absurd (cc)
@@ -183,7 +193,8 @@ begun t ts n e f = begun_by t.kind t.text t.line n (starts is_open ts) e f
 
 left_by : (k : TokenKind) (text : List ℕ) (line : ℕ) (x : TestTermTree) (opens : Bool)
     → option_map (on_line line) (name_in k text) ≡ None
-    → term_of (same_kind k Word && is_variable text) (option_map (on_line line) (variable_in k text)) (option_map (value_on_line line) (value_in k text)) ≡ Some x
+    → term_of (same_kind k Word && is_variable text) (option_map (on_line line) (variable_in k text))
+    (option_map (value_on_line line) (value_in k text)) ≡ Some x
     → begins_atom k (not (same_kind k Word && is_variable text) && is_none (int_of text)) opens ≡ false
 left_by Word text line x opens e f = absurd (word_named line text x (is_variable text) refl e f)
 left_by Negative text line x opens e f = refl
@@ -192,7 +203,8 @@ left_by Symbol text line x opens e f = refl
 left_by Fault text line x opens e f = refl
 
 -- a term that is no name: no atom is ahead
-left : (t : Lexeme) (ts : List Lexeme) (x : TestTermTree) → named t ≡ None → term_named t ≡ Some x → is_atom_ahead (t ∷ ts) ≡ false
+left : (t : Lexeme) (ts : List Lexeme) (x : TestTermTree) → named t ≡ None → term_named t ≡ Some x → is_atom_ahead
+    (t ∷ ts) ≡ false
 left t ts x e f = left_by t.kind t.text t.line x (starts is_open ts) e f
 
 -- ---- a part, by its first token
@@ -262,7 +274,8 @@ abbrev by_term : Option TestTermTree → Lexeme → List Lexeme → Outcome Part
 by_term o t ts = changed (λ x. part.Test x) (and_then (answer o (t ∷ ts) ts) test_after)
 
 term_answers : (is_var : Bool) (v : Option Named) (c : Option Const) (t : Lexeme) (ts : List Lexeme)
-    → cond is_var (changed (λ v. term.Var v) (answer v (t ∷ ts) ts)) (changed (λ c. term.Constant c) (answer c (t ∷ ts) ts)) ≡ answer (term_of is_var v c) (t ∷ ts) ts
+    → cond is_var (changed (λ v. term.Var v) (answer v (t ∷ ts) ts))
+    (changed (λ c. term.Constant c) (answer c (t ∷ ts) ts)) ≡ answer (term_of is_var v c) (t ∷ ts) ts
 term_answers true None c t ts = refl
 term_answers true (Some v) c t ts = refl
 term_answers false v None t ts = refl
@@ -274,7 +287,8 @@ unfolding term_at variable_term_at constant_term_at
 term_is_named [] = refl
 term_is_named (t ∷ ts) = term_answers (is_variable_token t) (variable t) (constant t) t ts
 
-chosen_by_first : {A : Type 0} (test : Lexeme → Bool) (p q : Parser A) (tokens : List Lexeme) → cond (starts test tokens) (p tokens) (q tokens) ≡ choose test p q tokens
+chosen_by_first : {A : Type 0} (test : Lexeme → Bool) (p q : Parser A) (tokens : List Lexeme)
+    → cond (starts test tokens) (p tokens) (q tokens) ≡ choose test p q tokens
 chosen_by_first test p q [] = refl
 chosen_by_first test p q (t ∷ ts) = refl
 
@@ -284,7 +298,8 @@ same_both false x = refl
 
 by_both : (o : Option Named) (p : Option TestTermTree) (t : Lexeme) (ts : List Lexeme) → named t ≡ o → term_named t ≡ p
     → cond (is_atom_ahead (t ∷ ts)) (by_name o t ts) (by_term p t ts) ≡ and_then (answer (head_of o p) (t ∷ ts) ts) part_after
-by_both (Some n) (Some x) t ts e f = ap (λ (b : Bool). cond b (atom_part n ts) (test_part x ts)) (decided t ts n x e f) ∙ chosen_by_first is_open (atom_part n) (test_part x) ts
+by_both (Some n) (Some x) t ts e f = ap (λ (b : Bool). cond b (atom_part n ts) (test_part x ts))
+    (decided t ts n x e f) ∙ chosen_by_first is_open (atom_part n) (test_part x) ts
 by_both (Some n) None t ts e f = ap (λ (b : Bool). cond b (atom_part n ts) (by_term None t ts)) (begun t ts n e f)
 by_both None (Some x) t ts e f = ap (λ (b : Bool). cond b (by_name None t ts) (test_part x ts)) (left t ts x e f)
 by_both None None t ts e f = same_both (is_atom_ahead (t ∷ ts)) (Err (refuse (t ∷ ts)))
@@ -294,5 +309,6 @@ pub part_is_headed : (tokens : List Lexeme) → part_at tokens ≡ continued (on
 unfolding part_at atom_at test_at
 part_is_headed [] = ap (λ (o : Outcome TestTermTree). changed (λ x. part.Test x) (and_then o test_after)) (term_is_named [])
 part_is_headed (t ∷ ts) =
-    ap (λ (o : Outcome TestTermTree). cond (is_atom_ahead (t ∷ ts)) (by_name (named t) t ts) (changed (λ x. part.Test x) (and_then o test_after))) (term_is_named (t ∷ ts))
+    ap (λ (o : Outcome TestTermTree). cond (is_atom_ahead (t ∷ ts)) (by_name (named t) t ts)
+    (changed (λ x. part.Test x) (and_then o test_after))) (term_is_named (t ∷ ts))
     ∙ by_both (named t) (term_named t) t ts refl refl

@@ -71,11 +71,13 @@ any_is_no_variable t e =
     ap (λ (k : TokenKind). same_kind k Word && is_variable t.text) f.kind_is ∙ ap is_variable f.text_is
 
 -- and no number
-constant_by : (k : TokenKind) (text : List ℕ) (line : ℕ) (c : Const) → option_map (value_on_line line) (value_in k text) ≡ Some c → same_kind k Word && bytes_eq text (codes "_") ≡ false
+constant_by : (k : TokenKind) (text : List ℕ) (line : ℕ) (c : Const) → option_map (value_on_line line)
+    (value_in k text) ≡ Some c → same_kind k Word && bytes_eq text (codes "_") ≡ false
 unfolding int_of
 constant_by Word text line c e = by (int_of text) refl e
   where
-    by : (i : Option ℤ) → int_of text ≡ i → option_map (value_on_line line) (option_map int_value i) ≡ Some c → bytes_eq text (codes "_") ≡ false
+    by : (i : Option ℤ) → int_of text ≡ i → option_map (value_on_line line) (option_map int_value i) ≡ Some c
+        → bytes_eq text (codes "_") ≡ false
     by None f g = absurd (cc)
     by (Some z) f g = no_int text (codes "_") z refl f
 constant_by Negative text line c e = refl
@@ -87,24 +89,30 @@ constant_not_any : (t : Lexeme) (c : Const) → constant t ≡ Some c → is_wor
 constant_not_any t c e = constant_by t.kind t.text t.line c e
 
 begins_variable_place : Begins is_variable_token true VariablePlace
-begins_variable_place = begins_image (λ (v : Named). place.Var v) SpellsVariable is_variable_token true (first_says is_variable_token true variable_is)
+begins_variable_place = begins_image (λ (v : Named). place.Var v) SpellsVariable is_variable_token true
+    (first_says is_variable_token true variable_is)
 
-begins_any_place : (test : Lexeme → Bool) (b : Bool) → ((t : Lexeme) → is_word (codes "_") t ≡ true → test t ≡ b) → Begins test b AnyPlace
-begins_any_place test b goes = begins_image (λ (line : ℕ). place.Any line) (Says any_line) test b (first_says test b (λ t line e. goes t (says_any t line e)))
+begins_any_place : (test : Lexeme → Bool) (b : Bool) → ((t : Lexeme) → is_word (codes "_") t ≡ true → test t ≡ b)
+    → Begins test b AnyPlace
+begins_any_place test b goes = begins_image (λ (line : ℕ). place.Any line) (Says any_line) test b
+    (first_says test b (λ t line e. goes t (says_any t line e)))
 
-begins_constant_place : (test : Lexeme → Bool) (b : Bool) → ((t : Lexeme) (c : Const) → constant t ≡ Some c → test t ≡ b) → Begins test b ConstantPlace
+begins_constant_place : (test : Lexeme → Bool) (b : Bool) → ((t : Lexeme) (c : Const) → constant t ≡ Some c
+    → test t ≡ b) → Begins test b ConstantPlace
 begins_constant_place test b goes = begins_image (λ (c : Const). place.Constant c) SpellsConst test b (first_says test b goes)
 
 begins_other_place : Begins is_variable_token false (Either AnyPlace ConstantPlace)
 begins_other_place p tokens (inl h) = begins_any_place is_variable_token false any_is_no_variable p tokens h
 begins_other_place p tokens (inr h) = begins_constant_place is_variable_token false constant_is_no_variable p tokens h
 
-place_spelled : (p : PlaceTree) (tokens : List Lexeme) → Either VariablePlace (Either AnyPlace ConstantPlace) p tokens → SpellsPlace p tokens
+place_spelled : (p : PlaceTree) (tokens : List Lexeme) → Either VariablePlace (Either AnyPlace ConstantPlace) p
+    tokens → SpellsPlace p tokens
 place_spelled p tokens (inl h) = subst (λ (p : PlaceTree). SpellsPlace p tokens) h.is h.spelled
 place_spelled p tokens (inr (inl h)) = subst (λ (p : PlaceTree). SpellsPlace p tokens) h.is h.spelled
 place_spelled p tokens (inr (inr h)) = subst (λ (p : PlaceTree). SpellsPlace p tokens) h.is h.spelled
 
-spelled_place : (p : PlaceTree) (tokens : List Lexeme) → SpellsPlace p tokens → Either VariablePlace (Either AnyPlace ConstantPlace) p tokens
+spelled_place : (p : PlaceTree) (tokens : List Lexeme) → SpellsPlace p tokens → Either VariablePlace
+    (Either AnyPlace ConstantPlace) p tokens
 spelled_place (place.Var v) tokens h = inl (record { tree = v; is = refl; spelled = h })
 spelled_place (place.Any line) tokens h = inr (inl (record { tree = line; is = refl; spelled = h }))
 spelled_place (place.Constant c) tokens h = inr (inr (record { tree = c; is = refl; spelled = h }))
@@ -114,7 +122,8 @@ unfolding place_at
 reads_place = reads_same
     (reads_choose reads_variable_place
     (reads_choose (reads_mapped reads_any_line (λ (line : ℕ). place.Any line) always (λ line t. refl)) reads_constant_place
-    (is_word (codes "_")) (begins_any_place (is_word (codes "_")) true (λ t e. e)) (begins_constant_place (is_word (codes "_")) false constant_not_any))
+    (is_word (codes "_")) (begins_any_place (is_word (codes "_")) true (λ t e. e))
+    (begins_constant_place (is_word (codes "_")) false constant_not_any))
     is_variable_token begins_variable_place begins_other_place)
     place_spelled spelled_place
 
@@ -134,17 +143,31 @@ reads_atom_after : (n : Named) → IsReader (AtomAfter n) always (atom_after n)
 unfolding atom_after
 reads_atom_after n =
     reads_mapped
-    (after_symbol (codes "(") (before_symbol (codes ")") (listed_symbol (codes ",") reads_place) (λ places t e. ap not (apart Symbol (codes ")") Symbol (codes ",") refl t e))))
+    (after_symbol (codes "(") (before_symbol (codes ")") (listed_symbol (codes ",") reads_place)
+    (λ places t e. ap not (apart Symbol (codes ")") Symbol (codes ",") refl t e))))
     (atom_of n) always (λ places t. refl)
 
 atom_spelled : (a : AtomTree) (tokens : List Lexeme) → Continues SpellsName AtomAfter a tokens → SpellsAtom a tokens
 atom_spelled a tokens h = subst (λ (a : AtomTree). SpellsAtom a tokens) h.spelled.second.is
-    (record { front = h.spelled.front; rest = h.spelled.rest; split = h.spelled.split; first = h.spelled.first; second = h.spelled.second.spelled })
+    (record {
+      front = h.spelled.front;
+      rest = h.spelled.rest;
+      split = h.spelled.split;
+      first = h.spelled.first;
+      second = h.spelled.second.spelled;
+    })
 
 spelled_atom : (a : AtomTree) (tokens : List Lexeme) → SpellsAtom a tokens → Continues SpellsName AtomAfter a tokens
 spelled_atom a tokens h = record {
   tree = a.relation;
-  spelled = record { front = h.front; rest = h.rest; split = h.split; first = h.first; second = record { tree = a.places; is = refl; spelled = h.second } };
+  spelled = record {
+    front = h.front;
+    rest = h.rest;
+    split = h.split;
+    first = h.first;
+    second =
+        record { tree = a.places; is = refl; spelled = h.second };
+  };
 }
 
 reads_atom : IsReader SpellsAtom always atom_at
@@ -153,13 +176,15 @@ reads_atom = reads_same (reads_continued reads_name reads_atom_after) atom_spell
 
 -- ---- tests
 
-variable_named : (is_var : Bool) (o : Option Named) (c : Option Const) (v : Named) → cond is_var (option_map (λ v. term.Var v) o) (option_map (λ c. term.Constant c) c) ≡ Some (term.Var v) → o ≡ Some v
+variable_named : (is_var : Bool) (o : Option Named) (c : Option Const) (v : Named) → cond is_var
+    (option_map (λ v. term.Var v) o) (option_map (λ c. term.Constant c) c) ≡ Some (term.Var v) → o ≡ Some v
 variable_named true (Some u) c v e = cc
 variable_named true None c v e = absurd (cc)
 variable_named false o (Some c) v e = absurd (cc)
 variable_named false o None v e = absurd (cc)
 
-constant_named : (is_var : Bool) (o : Option Named) (c : Option Const) (d : Const) → cond is_var (option_map (λ v. term.Var v) o) (option_map (λ c. term.Constant c) c) ≡ Some (term.Constant d) → c ≡ Some d
+constant_named : (is_var : Bool) (o : Option Named) (c : Option Const) (d : Const) → cond is_var
+    (option_map (λ v. term.Var v) o) (option_map (λ c. term.Constant c) c) ≡ Some (term.Constant d) → c ≡ Some d
 constant_named true (Some u) c d e = absurd (cc)
 constant_named true None c d e = absurd (cc)
 constant_named false o (Some c) d e = cc
@@ -168,21 +193,33 @@ constant_named false o None d e = absurd (cc)
 -- a term is spelled by what its token says
 term_spelled : (x : TestTermTree) (tokens : List Lexeme) → Says term_named x tokens → SpellsTestTerm x tokens
 term_spelled (term.Var v) tokens h =
-    record { token = h.token; alone = h.alone; said = variable_named (is_variable_token h.token) (variable h.token) (constant h.token) v h.said }
+    record {
+      token = h.token;
+      alone = h.alone;
+      said = variable_named (is_variable_token h.token) (variable h.token)
+          (constant h.token) v h.said;
+    }
 term_spelled (term.Constant c) tokens h =
-    record { token = h.token; alone = h.alone; said = constant_named (is_variable_token h.token) (variable h.token) (constant h.token) c h.said }
+    record {
+      token = h.token;
+      alone = h.alone;
+      said = constant_named (is_variable_token h.token) (variable h.token)
+          (constant h.token) c h.said;
+    }
 
 spelled_term : (x : TestTermTree) (tokens : List Lexeme) → SpellsTestTerm x tokens → Says term_named x tokens
 spelled_term (term.Var v) tokens h = record {
   token = h.token;
   alone = h.alone;
-  said = ap (λ (b : Bool). cond b (option_map (λ v. term.Var v) (variable h.token)) (option_map (λ c. term.Constant c) (constant h.token))) (variable_is h.token v h.said)
+  said = ap (λ (b : Bool). cond b (option_map (λ v. term.Var v) (variable h.token))
+      (option_map (λ c. term.Constant c) (constant h.token))) (variable_is h.token v h.said)
       ∙ ap (λ (o : Option Named). option_map (λ v. term.Var v) o) h.said;
 }
 spelled_term (term.Constant c) tokens h = record {
   token = h.token;
   alone = h.alone;
-  said = ap (λ (b : Bool). cond b (option_map (λ v. term.Var v) (variable h.token)) (option_map (λ c. term.Constant c) (constant h.token))) (constant_is_no_variable h.token c h.said)
+  said = ap (λ (b : Bool). cond b (option_map (λ v. term.Var v) (variable h.token))
+      (option_map (λ c. term.Constant c) (constant h.token))) (constant_is_no_variable h.token c h.said)
       ∙ ap (λ (o : Option Const). option_map (λ c. term.Constant c) o) h.said;
 }
 
@@ -197,7 +234,8 @@ first_chosen true x y e = refl
 first_chosen false x y e = absurd (cc)
 
 reads_cmp : IsReader (Says cmp_named) always (one cmp_named)
-reads_cmp = reads_one cmp_named (a_fixed Symbol (codes "=")) Eq (first_chosen (is_symbol (codes "=") (a_fixed Symbol (codes "="))) (Some Eq) _ (a_fixed_is Symbol (codes "=")))
+reads_cmp = reads_one cmp_named (a_fixed Symbol (codes "=")) Eq
+    (first_chosen (is_symbol (codes "=") (a_fixed Symbol (codes "="))) (Some Eq) _ (a_fixed_is Symbol (codes "=")))
 
 abbrev test_of : TestTermTree → Cmp × TestTermTree → TestTree
 test_of left x = record { left = left; cmp = x.0; right = x.1 }
@@ -231,7 +269,8 @@ reads_test_part : (x : TestTermTree) → IsReader (TestPart x) always (test_part
 reads_test_part x = reads_mapped (reads_test_after x) (λ (t : TestTree). part.Test t) always (λ t u. refl)
 
 begins_atom_part : (n : Named) → Begins is_open true (AtomPart n)
-begins_atom_part n p tokens h = begins_fixed SpellsPlaces Symbol (codes "(") is_open true (λ t e. e) h.spelled.tree tokens h.spelled.spelled
+begins_atom_part n p tokens h = begins_fixed SpellsPlaces Symbol (codes "(") is_open true (λ t e. e) h.spelled.tree
+    tokens h.spelled.spelled
 
 none_chosen : (a b c d e f : Bool) (x y z u v w : Cmp) → a ≡ false → b ≡ false → c ≡ false → d ≡ false → e ≡ false → f ≡ false
     → cond a (Some x) (cond b (Some y) (cond c (Some z) (cond d (Some u) (cond e (Some v) (cond f (Some w) None))))) ≡ None
@@ -244,7 +283,8 @@ cmp_not_open t c e = by (is_open t) refl
     by : (b : Bool) → is_open t ≡ b → b ≡ false
     by false f = refl
     by true f = absurd (
-        let none : cmp_named t ≡ None = none_chosen (is_symbol (codes "=") t) (is_symbol (codes "!=") t) (is_symbol (codes "<") t) (is_symbol (codes "<=") t) (is_symbol (codes ">") t) (is_symbol (codes ">=") t)
+        let none : cmp_named t ≡ None = none_chosen (is_symbol (codes "=") t) (is_symbol (codes "!=") t)
+        (is_symbol (codes "<") t) (is_symbol (codes "<=") t) (is_symbol (codes ">") t) (is_symbol (codes ">=") t)
         _ _ _ _ _ _
         (apart Symbol (codes "(") Symbol (codes "=") refl t f) (apart Symbol (codes "(") Symbol (codes "!=") refl t f)
         (apart Symbol (codes "(") Symbol (codes "<") refl t f) (apart Symbol (codes "(") Symbol (codes "<=") refl t f)
@@ -252,16 +292,21 @@ cmp_not_open t c e = by (is_open t) refl
         let both : None ≡ Some c = sym none ∙ e in cc)
 
 begins_test_part : (x : TestTermTree) → Begins is_open false (TestPart x)
-begins_test_part x p tokens h = first_then is_open false (first_says is_open false cmp_not_open h.spelled.tree.0) h.spelled.spelled
+begins_test_part x p tokens h = first_then is_open false (first_says is_open false cmp_not_open h.spelled.tree.0)
+    h.spelled.spelled
 
 reads_part_after : (h : PartHead) → IsReader (PartAfter h) always (part_after h)
-reads_part_after (NameOrTerm n x) = reads_choose (reads_atom_part n) (reads_test_part x) is_open (begins_atom_part n) (begins_test_part x)
+reads_part_after (NameOrTerm n x) = reads_choose (reads_atom_part n) (reads_test_part x) is_open (begins_atom_part n)
+    (begins_test_part x)
 reads_part_after (NameAlone n) = reads_atom_part n
 reads_part_after (TermAlone x) = reads_test_part x
 
-reads_head_by : (t : Lexeme) (n : Named) (o : Option TestTermTree) → named t ≡ Some n → term_named t ≡ o → IsReader (Says part_head) always (one part_head)
-reads_head_by t n (Some x) e f = reads_one part_head t (NameOrTerm n x) (ap (λ (p : Option Named). head_of p (term_named t)) e ∙ ap (head_of (Some n)) f)
-reads_head_by t n None e f = reads_one part_head t (NameAlone n) (ap (λ (p : Option Named). head_of p (term_named t)) e ∙ ap (head_of (Some n)) f)
+reads_head_by : (t : Lexeme) (n : Named) (o : Option TestTermTree) → named t ≡ Some n → term_named t ≡ o
+    → IsReader (Says part_head) always (one part_head)
+reads_head_by t n (Some x) e f = reads_one part_head t (NameOrTerm n x)
+    (ap (λ (p : Option Named). head_of p (term_named t)) e ∙ ap (head_of (Some n)) f)
+reads_head_by t n None e f = reads_one part_head t (NameAlone n) (ap (λ (p : Option Named). head_of p (term_named t))
+    e ∙ ap (head_of (Some n)) f)
 
 reads_head : IsReader (Says part_head) always (one part_head)
 reads_head =
@@ -274,22 +319,34 @@ atom_from n p tokens h = subst (λ (p : PartTree). SpellsPart p tokens) h.second
   spelled = record { front = h.front; rest = h.rest; split = h.split; first = h.first; second = h.second.spelled };
 }))
 
-test_spelled : (x : TestTermTree) (t : TestTree) (tokens : List Lexeme) → (SpellsTestTerm x ⋅ TestAfter x t) tokens → SpellsTest t tokens
+test_spelled : (x : TestTermTree) (t : TestTree) (tokens : List Lexeme) → (SpellsTestTerm x ⋅ TestAfter x t) tokens
+    → SpellsTest t tokens
 test_spelled x t tokens h = subst (λ (t : TestTree). SpellsTest t tokens) h.second.is
     (record { front = h.front; rest = h.rest; split = h.split; first = h.first; second = h.second.spelled })
 
-test_from : (x : TestTermTree) (p : PartTree) (tokens : List Lexeme) → (Says term_named x ⋅ TestPart x p) tokens → SpellsPart p tokens
+test_from : (x : TestTermTree) (p : PartTree) (tokens : List Lexeme) → (Says term_named x ⋅ TestPart x p) tokens
+    → SpellsPart p tokens
 test_from x p tokens h = subst (λ (p : PartTree). SpellsPart p tokens) h.second.is (test_spelled x h.second.tree tokens
-    (record { front = h.front; rest = h.rest; split = h.split; first = term_spelled x h.front h.first; second = h.second.spelled }))
+    (record {
+      front = h.front;
+      rest = h.rest;
+      split = h.split;
+      first = term_spelled x h.front h.first;
+      second =
+          h.second.spelled;
+    }))
 
 -- the first token of a part, as a name and as a term
-as_name : (h : PartHead) (n : Named) (tokens : List Lexeme) (s : Says part_head h tokens) → (named s.token ≡ Some n) → SpellsName n tokens
+as_name : (h : PartHead) (n : Named) (tokens : List Lexeme) (s : Says part_head h tokens) → (named s.token ≡ Some n)
+    → SpellsName n tokens
 as_name h n tokens s e = record { token = s.token; alone = s.alone; said = e }
 
-as_term : (h : PartHead) (x : TestTermTree) (tokens : List Lexeme) (s : Says part_head h tokens) → (term_named s.token ≡ Some x) → Says term_named x tokens
+as_term : (h : PartHead) (x : TestTermTree) (tokens : List Lexeme) (s : Says part_head h tokens) →
+    (term_named s.token ≡ Some x) → Says term_named x tokens
 as_term h x tokens s e = record { token = s.token; alone = s.alone; said = e }
 
-from_head : (head : PartHead) (p : PartTree) (tokens : List Lexeme) → (Says part_head head ⋅ PartAfter head p) tokens → SpellsPart p tokens
+from_head : (head : PartHead) (p : PartTree) (tokens : List Lexeme) → (Says part_head head ⋅ PartAfter head p) tokens
+    → SpellsPart p tokens
 from_head (NameOrTerm n x) p tokens h = elim h.second [
   | inl a ↦ atom_from n p tokens (record {
     front = h.front;
@@ -324,7 +381,8 @@ from_head (TermAlone x) p tokens h = test_from x p tokens (record {
 part_spelled : (p : PartTree) (tokens : List Lexeme) → Continues (Says part_head) PartAfter p tokens → SpellsPart p tokens
 part_spelled p tokens h = from_head h.tree p tokens h.spelled
 
-head_from_name : (n : Named) (p : PartTree) (tokens : List Lexeme) (h : (SpellsName n ⋅ AtomPart n p) tokens) (o : Option TestTermTree) → term_named h.first.token ≡ o
+head_from_name : (n : Named) (p : PartTree) (tokens : List Lexeme) (h : (SpellsName n ⋅ AtomPart n p) tokens)
+    (o : Option TestTermTree) → term_named h.first.token ≡ o
     → Continues (Says part_head) PartAfter p tokens
 head_from_name n p tokens h (Some x) e = record {
   tree = NameOrTerm n x;
@@ -332,7 +390,12 @@ head_from_name n p tokens h (Some x) e = record {
     front = h.front;
     rest = h.rest;
     split = h.split;
-    first = record { token = h.first.token; alone = h.first.alone; said = ap (λ (q : Option Named). head_of q (term_named h.first.token)) h.first.said ∙ ap (head_of (Some n)) e };
+    first = record {
+      token = h.first.token;
+      alone = h.first.alone;
+      said =
+          ap (λ (q : Option Named). head_of q (term_named h.first.token)) h.first.said ∙ ap (head_of (Some n)) e;
+    };
     second = inl h.second;
   };
 }
@@ -342,12 +405,18 @@ head_from_name n p tokens h None e = record {
     front = h.front;
     rest = h.rest;
     split = h.split;
-    first = record { token = h.first.token; alone = h.first.alone; said = ap (λ (q : Option Named). head_of q (term_named h.first.token)) h.first.said ∙ ap (head_of (Some n)) e };
+    first = record {
+      token = h.first.token;
+      alone = h.first.alone;
+      said =
+          ap (λ (q : Option Named). head_of q (term_named h.first.token)) h.first.said ∙ ap (head_of (Some n)) e;
+    };
     second = h.second;
   };
 }
 
-head_from_term : (x : TestTermTree) (p : PartTree) (tokens : List Lexeme) (h : (Says term_named x ⋅ TestPart x p) tokens) (o : Option Named) → named h.first.token ≡ o
+head_from_term : (x : TestTermTree) (p : PartTree) (tokens : List Lexeme)
+    (h : (Says term_named x ⋅ TestPart x p) tokens) (o : Option Named) → named h.first.token ≡ o
     → Continues (Says part_head) PartAfter p tokens
 head_from_term x p tokens h (Some n) e = record {
   tree = NameOrTerm n x;
@@ -355,7 +424,12 @@ head_from_term x p tokens h (Some n) e = record {
     front = h.front;
     rest = h.rest;
     split = h.split;
-    first = record { token = h.first.token; alone = h.first.alone; said = ap (λ (q : Option Named). head_of q (term_named h.first.token)) e ∙ ap (head_of (Some n)) h.first.said };
+    first = record {
+      token = h.first.token;
+      alone = h.first.alone;
+      said =
+          ap (λ (q : Option Named). head_of q (term_named h.first.token)) e ∙ ap (head_of (Some n)) h.first.said;
+    };
     second = inr h.second;
   };
 }
@@ -365,7 +439,12 @@ head_from_term x p tokens h None e = record {
     front = h.front;
     rest = h.rest;
     split = h.split;
-    first = record { token = h.first.token; alone = h.first.alone; said = ap (λ (q : Option Named). head_of q (term_named h.first.token)) e ∙ ap (head_of None) h.first.said };
+    first = record {
+      token = h.first.token;
+      alone = h.first.alone;
+      said =
+          ap (λ (q : Option Named). head_of q (term_named h.first.token)) e ∙ ap (head_of None) h.first.said;
+    };
     second = h.second;
   };
 }
@@ -416,7 +495,8 @@ reads_disjunct : IsReader SpellsDisjunct ends_disjunct disjunct_at
 unfolding disjunct_at
 reads_disjunct = reads_made
     (reads_two reads_atom (reads_many_plain reads_further_part (is_word (codes "and")) begins_further_part))
-    disjunct_of ends_disjunct (λ x t. refl) (λ x tokens h. h) (λ d tokens h. record { tree = (d.first, d.parts); is = refl; spelled = h })
+    disjunct_of ends_disjunct (λ x t. refl) (λ x tokens h. h)
+    (λ d tokens h. record { tree = (d.first, d.parts); is = refl; spelled = h })
 
 -- ---- the variables of the answers
 
@@ -428,7 +508,8 @@ abbrev ends_head : List Named → Lexeme → Bool
 ends_head [] t = not (is_variable_token t)
 ends_head (v ∷ vs) t = not (is_symbol (codes ",") t)
 
-same_end : (o : Option (List Named)) (tokens : List Lexeme) (t : Lexeme) → Maybe Vars o tokens → ends_head (all_of o) t ≡ maybe_ends (λ vs t. not (is_symbol (codes ",") t)) is_variable_token o t
+same_end : (o : Option (List Named)) (tokens : List Lexeme) (t : Lexeme) → Maybe Vars o tokens → ends_head (all_of o)
+    t ≡ maybe_ends (λ vs t. not (is_symbol (codes ",") t)) is_variable_token o t
 same_end None tokens t h = refl
 same_end (Some []) tokens t h = absurd h
 same_end (Some (v ∷ vs)) tokens t h = refl
@@ -449,7 +530,8 @@ spelled_head (v ∷ vs) tokens h = record { tree = Some (v ∷ vs); is = refl; s
 reads_vars : IsReader SpellsHead ends_head head_at
 unfolding head_at
 reads_vars = reads_made
-    (reads_until {stop' = λ o. ends_head (all_of o)} (reads_maybe (listed_symbol (codes ",") reads_variable) is_variable_token begins_vars) same_end)
+    (reads_until {stop' = λ o. ends_head (all_of o)} (reads_maybe (listed_symbol (codes ",") reads_variable)
+    is_variable_token begins_vars) same_end)
     all_of ends_head (λ o t. refl) head_spelled spelled_head
 
 symbol_is_no_variable : (text : List ℕ) (t : Lexeme) → is_symbol text t ≡ true → is_variable_token t ≡ false
@@ -468,11 +550,13 @@ Disjuncts = Listed (IsWord (codes "or")) SpellsDisjunct
 abbrev pub ends_query : {A : Type 0} → A → Lexeme → Bool
 ends_query a t = not (is_word (codes "and") t) && not (is_word (codes "or") t)
 
-same_last : (d : DisjunctTree) (ds : List DisjunctTree) (t : Lexeme) → ends_query (d ∷ ds) t ≡ ends ends_disjunct (is_word (codes "or")) (d ∷ ds) t
+same_last : (d : DisjunctTree) (ds : List DisjunctTree) (t : Lexeme) → ends_query (d ∷ ds) t ≡ ends ends_disjunct
+    (is_word (codes "or")) (d ∷ ds) t
 same_last d [] t = refl
 same_last d (e ∷ ds) t = same_last e ds t
 
-same_query_end : (ds : List DisjunctTree) (tokens : List Lexeme) (t : Lexeme) → Disjuncts ds tokens → ends_query ds t ≡ ends ends_disjunct (is_word (codes "or")) ds t
+same_query_end : (ds : List DisjunctTree) (tokens : List Lexeme) (t : Lexeme) → Disjuncts ds tokens
+    → ends_query ds t ≡ ends ends_disjunct (is_word (codes "or")) ds t
 same_query_end [] tokens t h = absurd h
 same_query_end (d ∷ ds) tokens t h = same_last d ds t
 
@@ -495,7 +579,8 @@ Condition ds = IsWord (codes "where") ⋅ Disjuncts ds
 abbrev Body : QueryParts → Language
 Body x = SpellsHead x.0 ⋅ IsSymbol (codes ")") ⋅ Condition x.1
 
-reads_body : IsReader Body ends_query (both head_at (after (is_symbol (codes ")")) (after (is_word (codes "where")) (listed (is_word (codes "or")) disjunct_at))))
+reads_body : IsReader Body ends_query
+    (both head_at (after (is_symbol (codes ")")) (after (is_word (codes "where")) (listed (is_word (codes "or")) disjunct_at))))
 reads_body = reads_then reads_vars (after_symbol (codes ")") (after_word (codes "where") reads_disjuncts)) (is_symbol (codes ")"))
     (begins_fixed Condition Symbol (codes ")") (is_symbol (codes ")")) true (λ t e. e)) head_ends
 
@@ -503,7 +588,8 @@ reads_body = reads_then reads_vars (after_symbol (codes ")") (after_word (codes 
 pub reads_query : IsReader SpellsQuery ends_query query_at
 unfolding query_at
 reads_query = reads_made (after_word (codes "answers") (after_symbol (codes "(") reads_body))
-    query_of ends_query (λ x t. refl) (λ x tokens h. h) (λ q tokens h. record { tree = (q.head, q.disjuncts); is = refl; spelled = h })
+    query_of ends_query (λ x t. refl) (λ x tokens h. h)
+    (λ q tokens h. record { tree = (q.head, q.disjuncts); is = refl; spelled = h })
 
 both_hold : (a b : Bool) → a ≡ true → b ≡ true → a && b ≡ true
 both_hold true b e f = f
@@ -518,5 +604,7 @@ query_ends text a t e =
     (ap (λ (k : TokenKind). not (same_kind k Word && bytes_eq t.text (codes "or"))) f.kind_is)
 
 -- a query begins with the word `answers`
-pub begins_query : (test : Lexeme → Bool) (b : Bool) → ((t : Lexeme) → is_word (codes "answers") t ≡ true → test t ≡ b) → Begins test b SpellsQuery
-begins_query test b goes = begins_fixed (λ (q : QueryTree). IsSymbol (codes "(") ⋅ Body (q.head, q.disjuncts)) Word (codes "answers") test b goes
+pub begins_query : (test : Lexeme → Bool) (b : Bool) → ((t : Lexeme) → is_word (codes "answers") t ≡ true
+    → test t ≡ b) → Begins test b SpellsQuery
+begins_query test b goes = begins_fixed (λ (q : QueryTree). IsSymbol (codes "(") ⋅ Body (q.head, q.disjuncts)) Word
+    (codes "answers") test b goes

@@ -28,7 +28,8 @@ SpellsPlace (place.Constant c) = SpellsConst c
 
 -- atom = name "(" place { "," place } ")"
 abbrev pub SpellsAtom : AtomTree → Language
-SpellsAtom a = SpellsName a.relation ⋅ IsSymbol (codes "(") ⋅ Listed (IsSymbol (codes ",")) SpellsPlace a.places ⋅ IsSymbol (codes ")")
+SpellsAtom a = SpellsName a.relation ⋅ IsSymbol (codes "(") ⋅ Listed (IsSymbol (codes ",")) SpellsPlace a.places ⋅
+    IsSymbol (codes ")")
 
 -- testterm = variable | constant
 abbrev pub SpellsTestTerm : TestTermTree → Language

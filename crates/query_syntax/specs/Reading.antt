@@ -32,7 +32,8 @@ constant_place_at = mapped (λ c. place.Constant c) (one constant)
 
 -- a place, by its token
 unfoldable pub place_at : Parser PlaceTree
-place_at = choose is_variable_token variable_place_at (choose (is_word (codes "_")) (mapped (λ line. place.Any line) (one any_line)) constant_place_at)
+place_at = choose is_variable_token variable_place_at
+    (choose (is_word (codes "_")) (mapped (λ line. place.Any line) (one any_line)) constant_place_at)
 
 -- an atom of a relation, from the parenthesis on
 unfoldable pub atom_after : Named → Parser AtomTree
@@ -90,7 +91,8 @@ is_atom_ahead (t ∷ ts) = begins_atom t.kind (is_no_term t) (starts is_open ts)
 
 -- a part: an atom or a test, by the first two tokens
 unfoldable pub part_at : Parser PartTree
-part_at tokens = if is_atom_ahead tokens then mapped (λ a. part.Atom a) atom_at tokens else mapped (λ t. part.Test t) test_at tokens
+part_at tokens = if is_atom_ahead tokens then mapped (λ a. part.Atom a) atom_at tokens else mapped (λ t. part.Test t)
+    test_at tokens
 
 -- ---- queries
 

@@ -47,24 +47,35 @@ pub record HeadFits (relations : List Relation) (h : Head) (t : AskedTree) : Typ
   pub attr : AttrFits r h.attr t
 
 -- the relation of a name
-relation_fits : (relations : List Relation) (names : List (List ℕ)) (name : List ℕ) (rel : ℕ) → names ≡ map (λ r. r.name) relations → place_of names name ≡ Some rel
+relation_fits : (relations : List Relation) (names : List (List ℕ)) (name : List ℕ) (rel : ℕ) → names ≡ map
+    (λ r. r.name) relations → place_of names name ≡ Some rel
     → (r : Relation) × (slice_get relations rel ≡ Some r)
 relation_fits relations names name rel are at =
-    item_at relations rel (omega (arith, pairs.place_within names name rel at, ap length are, length-map relations (λ (r : Relation). r.name)))
+    item_at relations rel (omega (
+      arith,
+      pairs.place_within names name rel at,
+      ap length are,
+      length-map relations
+          (λ (r : Relation). r.name),
+    ))
 
 pub head_fits : (relations : List Relation) (t : AskedTree) (h : Head) → head_of relations t ≡ Ok h → HeadFits relations h t
 head_fits relations (Table relation document) h is = by (relation_named relations relation) refl is
   where
-    by : (found : Result ℕ BindFault) → relation_named relations relation ≡ found → and_then found (λ rel. Ok record { rel = rel; attr = None }) ≡ Ok h
+    by : (found : Result ℕ BindFault) → relation_named relations relation ≡ found → and_then found
+        (λ rel. Ok record { rel = rel; attr = None }) ≡ Ok h
         → HeadFits relations h (Table relation document)
     by (Err e) at now = absurd (cc)
     by (Ok rel) at now =
-        let there = relation_fits relations (map (λ (r : Relation). r.name) relations) relation.name rel refl (pairs.found_place _ _ rel at) in
+        let there = relation_fits relations (map (λ (r : Relation). r.name) relations) relation.name rel refl
+        (pairs.found_place _ _ rel at) in
         let same : ◌≡◌ {A = Head} (record { rel = rel; attr = None }) h = cc in
-        subst (λ (head : Head). HeadFits relations head (Table relation document)) same (record { r = there.0; there = there.1; attr = tt })
+        subst (λ (head : Head). HeadFits relations head (Table relation document)) same
+        (record { r = there.0; there = there.1; attr = tt })
 head_fits relations (Ordering o) h is = by (relation_named relations o.relation) refl is
   where
-    within : (rel : ℕ) (r : Relation) → slice_get relations rel ≡ Some r → (found : Result ℕ BindFault) → attr_named relations rel o.attr ≡ found
+    within : (rel : ℕ) (r : Relation) → slice_get relations rel ≡ Some r → (found : Result ℕ BindFault)
+        → attr_named relations rel o.attr ≡ found
         → and_then found (λ attr. Ok record { rel = rel; attr = Some attr }) ≡ Ok h → HeadFits relations h (Ordering o)
     within rel r there (Err e) at now = absurd (cc)
     within rel r there (Ok attr) at now =
@@ -77,14 +88,17 @@ head_fits relations (Ordering o) h is = by (relation_named relations o.relation)
         subst (λ (head : Head). HeadFits relations head (Ordering o)) same (record { r = r; there = there; attr = fits })
 
     by : (found : Result ℕ BindFault) → relation_named relations o.relation ≡ found
-        → and_then found (λ rel. and_then (attr_named relations rel o.attr) (λ attr. Ok record { rel = rel; attr = Some attr })) ≡ Ok h → HeadFits relations h (Ordering o)
+        → and_then found (λ rel. and_then (attr_named relations rel o.attr)
+        (λ attr. Ok record { rel = rel; attr = Some attr })) ≡ Ok h → HeadFits relations h (Ordering o)
     by (Err e) at now = absurd (cc)
     by (Ok rel) at now =
-        let there = relation_fits relations (map (λ (r : Relation). r.name) relations) o.relation.name rel refl (pairs.found_place _ _ rel at) in
+        let there = relation_fits relations (map (λ (r : Relation). r.name) relations) o.relation.name rel refl
+        (pairs.found_place _ _ rel at) in
         within rel there.0 there.1 (attr_named relations rel o.attr) refl now
 
 -- all heads are
-heads_fit : {A : Type 0} (relations : List Relation) (trees : List AskedTree) (heads : List Head) (xs : List A) → all_of (head_of relations) trees ≡ Ok heads
+heads_fit : {A : Type 0} (relations : List Relation) (trees : List AskedTree) (heads : List Head) (xs : List A)
+    → all_of (head_of relations) trees ≡ Ok heads
     → All (λ p. HeadFits relations p.0 p.1) (parts_with heads trees xs)
 heads_fit relations trees [] xs is = All-nil _
 heads_fit relations [] (h ∷ heads) xs is = All-nil _
@@ -93,7 +107,8 @@ heads_fit {A} relations (t ∷ trees) (h ∷ heads) (x ∷ xs) is =
     let found = pairs.first_ok (head_of relations) t trees (h ∷ heads) is in
     let one : found.0 ≡ h = cc in
     let others : all_of (head_of relations) trees ≡ Ok heads = cc in
-    All-cons (λ (p : Head × AskedTree × A). HeadFits relations p.0 p.1) (h, t, x) (parts_with heads trees xs) (head_fits relations t h (found.2 ∙ ap Ok one)) (heads_fit relations trees heads xs others)
+    All-cons (λ (p : Head × AskedTree × A). HeadFits relations p.0 p.1) (h, t, x) (parts_with heads trees xs)
+    (head_fits relations t h (found.2 ∙ ap Ok one)) (heads_fit relations trees heads xs others)
 
 -- ---- records
 
@@ -102,14 +117,19 @@ pub record RecordsFit (relations : List Relation) (h : Head) (t : AskedTree) (re
   pub attrs : All (λ n. n.attr.0 < length head.r.attrs) records
 
 -- the names of attributes and rows
-attrs_count : (s : Spec) (rel : ℕ) (r : Relation) → slice_get s.relations rel ≡ Some r → length (attrs_known (slice_get (all_names_of s).each rel)) ≡ length r.attrs
-attrs_count s rel r there = ap length (same_attrs s rel) ∙ ap (λ (one : Option Relation). length (attrs_of one)) there ∙ length-map r.attrs (λ (a : Attr). a.name)
+attrs_count : (s : Spec) (rel : ℕ) (r : Relation) → slice_get s.relations rel ≡ Some r
+    → length (attrs_known (slice_get (all_names_of s).each rel)) ≡ length r.attrs
+attrs_count s rel r there = ap length (same_attrs s rel) ∙ ap (λ (one : Option Relation). length (attrs_of one))
+    there ∙ length-map r.attrs (λ (a : Attr). a.name)
 
-rows_count : (s : Spec) (rel : ℕ) (r : Relation) → slice_get s.relations rel ≡ Some r → length (rows_known (slice_get (all_names_of s).each rel)) ≡ length r.rows
+rows_count : (s : Spec) (rel : ℕ) (r : Relation) → slice_get s.relations rel ≡ Some r
+    → length (rows_known (slice_get (all_names_of s).each rel)) ≡ length r.rows
 rows_count s rel r there =
-    ap length (same_rows s rel) ∙ length-map (rows_of (slice_get s.relations rel)) (λ (row : Row). row.name) ∙ ap (λ (one : Option Relation). length (rows_of one)) there
+    ap length (same_rows s rel) ∙ length-map (rows_of (slice_get s.relations rel)) (λ (row : Row). row.name)
+    ∙ ap (λ (one : Option Relation). length (rows_of one)) there
 
-records_fit : (s : Spec) (h : Head) (t : AskedTree) (tuples : List (List Value)) (records : List PairRecord) → HeadFits s.relations h t
+records_fit : (s : Spec) (h : Head) (t : AskedTree) (tuples : List (List Value)) (records : List PairRecord)
+    → HeadFits s.relations h t
     → records_named (all_names_of s) (h, t, tuples) ≡ Ok records → RecordsFit s.relations h t records
 records_fit s h (Ordering o) tuples records fits is =
     let none : records ≡ [] = cc in
@@ -118,9 +138,14 @@ records_fit s h (Ordering o) tuples records fits is =
 records_fit s h (Table relation document) tuples records fits is =
     let names : List (List ℕ) = attrs_known (slice_get (all_names_of s).each h.rel) in
     let within : All (λ n. n.attr.0 < length names) records =
-    each_answer (λ (n : ℕ × List Value). Unit {0}) (λ (n : PairRecord). n.attr.0 < length names) (table.record_in document.name names)
+    each_answer (λ (n : ℕ × List Value). Unit {0}) (λ (n : PairRecord). n.attr.0 < length names)
+    (table.record_in document.name names)
     (λ n r any. record_within document.name names n r) (enumerate_from 0 tuples) records (λ k d below. tt) is in
-    record { head = fits; attrs = subst (λ count. All (λ (n : PairRecord). n.attr.0 < count) records) (attrs_count s h.rel fits.r fits.there) within }
+    record {
+      head = fits;
+      attrs = subst (λ count. All (λ (n : PairRecord). n.attr.0 < count) records)
+          (attrs_count s h.rel fits.r fits.there) within;
+    }
 
 -- ---- pairs
 
@@ -128,7 +153,8 @@ pub record PairsFit (relations : List Relation) (h : Head) (t : AskedTree) (ps :
   pub head : HeadFits relations h t
   pub within : All (IsWithin (length head.r.attrs) (length head.r.rows)) ps
 
-pairs_fit : (s : Spec) (h : Head) (t : AskedTree) (records : List PairRecord) (ps : List Pair) → RecordsFit s.relations h t records
+pairs_fit : (s : Spec) (h : Head) (t : AskedTree) (records : List PairRecord) (ps : List Pair)
+    → RecordsFit s.relations h t records
     → pairs_named (all_names_of s) (h, t, records) ≡ Ok ps → PairsFit s.relations h t ps
 pairs_fit s h (Ordering o) records ps fits is =
     let names : List (List ℕ) = rows_known (slice_get (all_names_of s).each h.rel) in
@@ -136,21 +162,33 @@ pairs_fit s h (Ordering o) records ps fits is =
     let low : attr_of h.attr < length fits.head.r.attrs = fits.head.attr in
     record {
       head = fits.head;
-      within = each_answer (λ (n : NamedPair). Unit {0}) (IsWithin (length fits.head.r.attrs) (length fits.head.r.rows)) (text.pair_named names (attr_of h.attr))
+      within = each_answer (λ (n : NamedPair). Unit {0})
+          (IsWithin (length fits.head.r.attrs) (length fits.head.r.rows)) (text.pair_named names (attr_of h.attr))
           (λ n p any at. let it = pairs.pair_named-within names (attr_of h.attr) n p at in
-          record { attr = omega (arith, low, it.attr_is); earlier = omega (arith, count, it.earlier); later = omega (arith, count, it.later) })
+          record {
+            attr = omega (arith, low, it.attr_is);
+            earlier = omega (arith, count, it.earlier);
+            later =
+                omega (arith, count, it.later);
+          })
           o.pairs ps (λ k d below. tt) is;
     }
 pairs_fit s h (Table relation document) records ps fits is =
     let names : List (List ℕ) = rows_known (slice_get (all_names_of s).each h.rel) in
     let within : All (IsWithin (length fits.head.r.attrs) (length names)) ps =
-    each_answer (λ (n : PairRecord). n.attr.0 < length fits.head.r.attrs) (IsWithin (length fits.head.r.attrs) (length names)) (table.pair_in document.name names)
+    each_answer (λ (n : PairRecord). n.attr.0 < length fits.head.r.attrs)
+    (IsWithin (length fits.head.r.attrs) (length names)) (table.pair_in document.name names)
     (λ n p. pair_within document.name names (length fits.head.r.attrs) n p) records ps fits.attrs is in
-    record { head = fits.head; within = subst (λ count. All (IsWithin (length fits.head.r.attrs) count) ps) (rows_count s h.rel fits.head.r fits.head.there) within }
+    record {
+      head = fits.head;
+      within = subst (λ count. All (IsWithin (length fits.head.r.attrs) count) ps)
+          (rows_count s h.rel fits.head.r fits.head.there) within;
+    }
 
 -- ---- pairs that are checked
 
-each_given : (r : Relation) (rows : List Row) (ps : List Pair) → rows ≡ r.rows → All (IsWithin (length r.attrs) (length r.rows)) ps
+each_given : (r : Relation) (rows : List Row) (ps : List Pair) → rows ≡ r.rows
+    → All (IsWithin (length r.attrs) (length r.rows)) ps
     → position (λ p. not (text.is_of_one_entity rows p)) ps ≡ None → All (IsGivenPair r) ps
 each_given r rows ps are within none k d below =
     let it : IsWithin (length r.attrs) (length r.rows) (get_or ps k d) = within k d below in
@@ -163,7 +201,8 @@ pub record GivenFit (relations : List Relation) (h : Head) (t : AskedTree) (ps :
 
 checked_fit : (relations : List Relation) (h : Head) (t : AskedTree) (ps checked : List Pair) → PairsFit relations h t ps
     → checked_named relations (h, t, ps) ≡ Ok checked → GivenFit relations h t checked
-checked_fit relations h (Ordering o) ps checked fits is = by (position (λ p. not (text.is_of_one_entity (rows_of (slice_get relations h.rel)) p)) ps) refl is
+checked_fit relations h (Ordering o) ps checked fits is =
+    by (position (λ p. not (text.is_of_one_entity (rows_of (slice_get relations h.rel)) p)) ps) refl is
   where
     by : (wrong : Option ℕ) → position (λ p. not (text.is_of_one_entity (rows_of (slice_get relations h.rel)) p)) ps ≡ wrong
         → text.unless_wrong o.pairs ps wrong ≡ Ok checked → GivenFit relations h (Ordering o) checked
@@ -172,7 +211,8 @@ checked_fit relations h (Ordering o) ps checked fits is = by (position (λ p. no
         let same : ps ≡ checked = cc in
         let given = each_given fits.head.r (rows_of (slice_get relations h.rel)) ps (ap rows_of fits.head.there) fits.within at in
         record { head = fits.head; given = subst (All (IsGivenPair fits.head.r)) same given }
-checked_fit relations h (Table relation document) ps checked fits is = by (position (λ p. not (text.is_of_one_entity (rows_of (slice_get relations h.rel)) p)) ps) refl is
+checked_fit relations h (Table relation document) ps checked fits is =
+    by (position (λ p. not (text.is_of_one_entity (rows_of (slice_get relations h.rel)) p)) ps) refl is
   where
     by : (wrong : Option ℕ) → position (λ p. not (text.is_of_one_entity (rows_of (slice_get relations h.rel)) p)) ps ≡ wrong
         → table.unless_wrong document.name ps wrong ≡ Ok checked → GivenFit relations h (Table relation document) checked
@@ -184,14 +224,17 @@ checked_fit relations h (Table relation document) ps checked fits is = by (posit
 
 -- ---- what is asked about
 
-asked_fit : (relations : List Relation) (h : Head) (t : AskedTree) (ps : List Pair) → GivenFit relations h t ps → All (IsAskedPair relations) (asked_pairs h.rel ps)
+asked_fit : (relations : List Relation) (h : Head) (t : AskedTree) (ps : List Pair) → GivenFit relations h t ps
+    → All (IsAskedPair relations) (asked_pairs h.rel ps)
 asked_fit relations h t ps fits =
     All-map (IsAskedPair relations) (λ (p : Pair). let it : Asked = record { rel = record { 0 = h.rel }; pair = p } in it) ps
     (All-weaker (IsGivenPair fits.head.r) (λ (p : Pair). IsAskedPair relations (record { rel = record { 0 = h.rel }; pair = p }))
     (λ p given. record { relation = fits.head.r; is_relation = fits.head.there; pair = given }) ps fits.given)
 
-lists_fit : (relations : List Relation) (heads : List Head) (trees : List AskedTree) (lists : List (List Pair)) → length trees ≡ length heads
-    → All (λ p. GivenFit relations p.0 p.1 p.2) (parts_with heads trees lists) → All (IsAskedPair relations) (all_asked (asked_each heads lists))
+lists_fit : (relations : List Relation) (heads : List Head) (trees : List AskedTree) (lists : List (List Pair))
+    → length trees ≡ length heads
+    → All (λ p. GivenFit relations p.0 p.1 p.2) (parts_with heads trees lists) → All (IsAskedPair relations)
+    (all_asked (asked_each heads lists))
 lists_fit relations [] trees lists as_many all = All-nil _
 lists_fit relations (h ∷ heads) trees [] as_many all = All-nil _
 lists_fit relations (h ∷ heads) [] (ps ∷ lists) as_many all = absurd (omega arith)
@@ -204,34 +247,45 @@ lists_fit relations (h ∷ heads) (t ∷ trees) (ps ∷ lists) as_many all =
 -- ---- a group
 
 pub group_fits : (s : Spec) (heads : List Head) (trees : List AskedTree) (tables : List (List (List Value))) (more : List Asked)
-    → all_of (head_of s.relations) trees ≡ Ok heads → length tables ≡ length trees → asked_in s.relations heads trees tables ≡ Ok more → All (IsAskedPair s.relations) more
-group_fits s heads trees tables more found tables_many is = by_records (all_of (records_named (all_names_of s)) (parts_with heads trees tables)) refl
+    → all_of (head_of s.relations) trees ≡ Ok heads → length tables ≡ length trees → asked_in s.relations heads trees
+    tables ≡ Ok more → All (IsAskedPair s.relations) more
+group_fits s heads trees tables more found tables_many is = by_records (all_of (records_named (all_names_of s))
+    (parts_with heads trees tables)) refl
   where
     trees_many : length trees ≡ length heads
     trees_many = sym (pairs.all_of-length (head_of s.relations) trees heads found)
 
     by_checked : (ps : List (List Pair)) → All (λ p. PairsFit s.relations p.0 p.1 p.2) (parts_with heads trees ps)
-        → (checked : Result (List (List Pair)) BindFault) → all_of (checked_named s.relations) (parts_with heads trees ps) ≡ checked
+        → (checked : Result (List (List Pair)) BindFault) → all_of (checked_named s.relations)
+        (parts_with heads trees ps) ≡ checked
         → and_then checked (λ lists. Ok (all_asked (asked_each heads lists))) ≡ Ok more → All (IsAskedPair s.relations) more
     by_checked ps fit (Err e) at now = absurd (cc)
     by_checked ps fit (Ok lists) at now =
         let same : all_asked (asked_each heads lists) ≡ more = cc in
         subst (All (IsAskedPair s.relations)) same (lists_fit s.relations heads trees lists trees_many
-        (each_part (λ p. PairsFit s.relations p.0 p.1 p.2) (λ p. GivenFit s.relations p.0 p.1 p.2) (checked_named s.relations) (checked_fit s.relations) heads trees ps lists fit at))
+        (each_part (λ p. PairsFit s.relations p.0 p.1 p.2) (λ p. GivenFit s.relations p.0 p.1 p.2)
+        (checked_named s.relations) (checked_fit s.relations) heads trees ps lists fit at))
 
-    by_pairs : (records : List (List PairRecord)) → all_of (records_named (all_names_of s)) (parts_with heads trees tables) ≡ Ok records
-        → (ps : Result (List (List Pair)) BindFault) → all_of (pairs_named (all_names_of s)) (parts_with heads trees records) ≡ ps → All (IsAskedPair s.relations) more
+    by_pairs : (records : List (List PairRecord)) → all_of (records_named (all_names_of s))
+        (parts_with heads trees tables) ≡ Ok records
+        → (ps : Result (List (List Pair)) BindFault) → all_of (pairs_named (all_names_of s))
+        (parts_with heads trees records) ≡ ps → All (IsAskedPair s.relations) more
     by_pairs records read (Err e) at =
         let no = sym (pairs_refused s heads trees tables records e read at) ∙ is in absurd (cc)
     by_pairs records read (Ok ps) at =
-        let records_many = answers_length (records_named (all_names_of s)) heads trees tables records trees_many (tables_many ∙ trees_many) read in
+        let records_many = answers_length (records_named (all_names_of s)) heads trees tables records trees_many
+        (tables_many ∙ trees_many) read in
         let pairs_many = answers_length (pairs_named (all_names_of s)) heads trees records ps trees_many records_many at in
         by_checked ps
-        (each_part (λ p. RecordsFit s.relations p.0 p.1 p.2) (λ p. PairsFit s.relations p.0 p.1 p.2) (pairs_named (all_names_of s)) (pairs_fit s) heads trees records ps
-        (each_part (λ p. HeadFits s.relations p.0 p.1) (λ p. RecordsFit s.relations p.0 p.1 p.2) (records_named (all_names_of s)) (records_fit s) heads trees tables records (heads_fit s.relations trees heads tables found) read) at)
+        (each_part (λ p. RecordsFit s.relations p.0 p.1 p.2) (λ p. PairsFit s.relations p.0 p.1 p.2)
+        (pairs_named (all_names_of s)) (pairs_fit s) heads trees records ps
+        (each_part (λ p. HeadFits s.relations p.0 p.1) (λ p. RecordsFit s.relations p.0 p.1 p.2)
+        (records_named (all_names_of s)) (records_fit s) heads trees tables records
+        (heads_fit s.relations trees heads tables found) read) at)
         (all_of (checked_named s.relations) (parts_with heads trees ps)) refl
         (sym (pairs_found s heads trees tables records ps (records_many ∙ sym pairs_many) read at) ∙ is)
 
-    by_records : (records : Result (List (List PairRecord)) BindFault) → all_of (records_named (all_names_of s)) (parts_with heads trees tables) ≡ records → All (IsAskedPair s.relations) more
+    by_records : (records : Result (List (List PairRecord)) BindFault) → all_of (records_named (all_names_of s))
+        (parts_with heads trees tables) ≡ records → All (IsAskedPair s.relations) more
     by_records (Err e) at = let no = sym (records_refused s heads trees tables e at) ∙ is in absurd (cc)
     by_records (Ok records) at = by_pairs records at (all_of (pairs_named (all_names_of s)) (parts_with heads trees records)) refl

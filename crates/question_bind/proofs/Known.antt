@@ -27,9 +27,11 @@ few_names names s are known = record {
     each = length-map s.relations names_of ∙ sym (length-map s.relations (λ (r : Relation). r.name));
     few = omega (arith, known.few, length-map s.relations (λ (r : Relation). r.name));
     attrs = All-map (λ (n : RelationNames). length n.attrs < 2 ^ 32) names_of s.relations
-        (All-weaker IsRelation (λ (r : Relation). length (names_of r).attrs < 2 ^ 32) (λ r is. omega (arith, is.few_attrs, length-map r.attrs (λ (a : Attr). a.name))) s.relations known.each);
+        (All-weaker IsRelation (λ (r : Relation). length (names_of r).attrs < 2 ^ 32)
+        (λ r is. omega (arith, is.few_attrs, length-map r.attrs (λ (a : Attr). a.name))) s.relations known.each);
     rows = All-map (λ (n : RelationNames). length n.rows < 2 ^ 32) names_of s.relations
-        (All-weaker IsRelation (λ (r : Relation). length (names_of r).rows < 2 ^ 32) (λ r is. omega (arith, is.few_rows, length-map r.rows (λ (row : Row). row.name))) s.relations known.each);
+        (All-weaker IsRelation (λ (r : Relation). length (names_of r).rows < 2 ^ 32)
+        (λ r is. omega (arith, is.few_rows, length-map r.rows (λ (row : Row). row.name))) s.relations known.each);
   });
 }
 
@@ -46,14 +48,17 @@ rows_map (Some r) = refl
 pub same_attrs : (s : Spec) (rel : ℕ) → attrs_known (slice_get (all_names_of s).each rel) ≡ attrs_of (slice_get s.relations rel)
 same_attrs s rel = ap attrs_known (slice_get-map names_of s.relations rel) ∙ attrs_map (slice_get s.relations rel)
 
-pub same_rows : (s : Spec) (rel : ℕ) → rows_known (slice_get (all_names_of s).each rel) ≡ map (λ (row : Row). row.name) (rows_of (slice_get s.relations rel))
+pub same_rows : (s : Spec) (rel : ℕ) → rows_known (slice_get (all_names_of s).each rel) ≡ map
+    (λ (row : Row). row.name) (rows_of (slice_get s.relations rel))
 same_rows s rel = ap rows_known (slice_get-map names_of s.relations rel) ∙ rows_map (slice_get s.relations rel)
 
 -- the rows of a relation that is read at its place
-pub rows_read : (relations read : List Relation) (rel : ℕ) (r : Relation) (rows : List Row) → read ≡ relations → rel < length relations → r ≡ get_or read rel r
+pub rows_read : (relations read : List Relation) (rel : ℕ) (r : Relation) (rows : List Row) → read ≡ relations
+    → rel < length relations → r ≡ get_or read rel r
     → rows ≡ (get_or read rel r).rows → rows ≡ rows_of (slice_get relations rel)
 rows_read relations read rel r rows are lt is are_rows =
-    let there : slice_get relations rel ≡ Some r = slice_get_read relations (length relations) rel r refl lt (is ∙ ap (λ rs. get_or rs rel r) are) in
+    let there : slice_get relations rel ≡ Some r = slice_get_read relations (length relations) rel r refl lt
+    (is ∙ ap (λ rs. get_or rs rel r) are) in
     are_rows ∙ ap (λ (s : Relation). s.rows) (sym is) ∙ ap rows_of (sym there)
 
 -- ---- heads
@@ -61,17 +66,22 @@ rows_read relations read rel r rows are lt is are_rows =
 head_same : (s : Spec) (t : AskedTree) → head_named (all_names_of s) t ≡ head_of s.relations t
 head_same s (Ordering o) =
     then_same (named_in (all_names_of s).relations o.relation)
-    (λ rel. and_then (named_in (attrs_known (slice_get (all_names_of s).each rel)) o.attr) (λ attr. Ok record { rel = rel; attr = Some attr }))
+    (λ rel. and_then (named_in (attrs_known (slice_get (all_names_of s).each rel)) o.attr)
+    (λ attr. Ok record { rel = rel; attr = Some attr }))
     (λ rel. and_then (named_in (attrs_of (slice_get s.relations rel)) o.attr) (λ attr. Ok record { rel = rel; attr = Some attr }))
-    (λ rel. ap (λ (names : List (List ℕ)). and_then (named_in names o.attr) (λ attr. Ok record { rel = rel; attr = Some attr })) (same_attrs s rel))
+    (λ rel. ap (λ (names : List (List ℕ)). and_then (named_in names o.attr)
+    (λ attr. Ok record { rel = rel; attr = Some attr })) (same_attrs s rel))
 head_same s (Table relation document) = refl
 
-pub heads_same : (names : NameLists) (s : Spec) (trees : List AskedTree) → AreNamesOf names s → all_of (head_named names) trees ≡ all_of (head_of s.relations) trees
+pub heads_same : (names : NameLists) (s : Spec) (trees : List AskedTree) → AreNamesOf names s
+    → all_of (head_named names) trees ≡ all_of (head_of s.relations) trees
 heads_same names s trees known =
-    ap (λ (n : NameLists). all_of (head_named n) trees) known.are ∙ all_of_same (head_named (all_names_of s)) (head_of s.relations) (head_same s) trees
+    ap (λ (n : NameLists). all_of (head_named n) trees) known.are ∙ all_of_same (head_named (all_names_of s))
+    (head_of s.relations) (head_same s) trees
 
 -- the names that are read are so
-pub named_few : {E : Type 0} (result : Result NameLists E) (s : Spec) → IfOk result (λ names. names ≡ all_names_of s) → AreRelations s.relations
+pub named_few : {E : Type 0} (result : Result NameLists E) (s : Spec) → IfOk result (λ names. names ≡ all_names_of s)
+    → AreRelations s.relations
     → IfOk result (λ names. AreNamesOf names s)
 named_few (Err e) s are known = tt
 named_few (Ok names) s are known = few_names names s are known

@@ -19,7 +19,8 @@ Tuples = List (List Value)
 
 -- the tables of what is left of the parts, behind these, are those of all parts
 abbrev pub TablesSoFar : Texts → List AskedTree → List AskedTree → List Tuples → Type 0
-TablesSoFar texts rest all list = IfSome texts (λ told. (tables : Result (List Tuples) BindFault) → AreRead told rest tables → AreRead told all (with_front list tables))
+TablesSoFar texts rest all list = IfSome texts (λ told. (tables : Result (List Tuples) BindFault)
+    → AreRead told rest tables → AreRead told all (with_front list tables))
 
 pub tables_none : (texts : Texts) (all : List AskedTree) → TablesSoFar texts (drop 0 all) all []
 tables_none None all = tt
@@ -40,14 +41,19 @@ pub tables_more : (texts now : Texts) (items : List AskedTree) (i : ℕ) (t : As
     → TablesSoFar texts (drop i items) items list → TablesSoFar texts (drop (i + 1) items) items (list ++ tuples ∷ [])
 tables_more None now items i t list tuples same lt is read so_far = tt
 tables_more (Some told) now items i t list tuples same lt is read so_far =
-    let here : IsRead told t (Ok tuples) = subst (λ (texts : Texts). IfSome texts (λ docs. IsRead docs t (Ok tuples))) same read in
+    let here : IsRead told t (Ok tuples) =
+    subst (λ (texts : Texts). IfSome texts (λ docs. IsRead docs t (Ok tuples))) same read in
     λ tables rest.
-    let all : AreRead told (t ∷ drop (i + 1) items) (and_then tables (λ more. Ok (tuples ∷ more))) = (Ok tuples, here, (tables, rest, refl)) in
+    let all : AreRead told (t ∷ drop (i + 1) items) (and_then tables (λ more. Ok (tuples ∷ more))) =
+    (Ok tuples, here, (tables, rest, refl)) in
     subst (λ (r : Result (List Tuples) BindFault). AreRead told items r) (one_behind list tuples tables)
-    (so_far (and_then tables (λ more. Ok (tuples ∷ more))) (subst (λ (ts : List AskedTree). AreRead told ts (and_then tables (λ more. Ok (tuples ∷ more)))) (sym (drop_at items i t lt is)) all))
+    (so_far (and_then tables (λ more. Ok (tuples ∷ more)))
+    (subst (λ (ts : List AskedTree). AreRead told ts (and_then tables (λ more. Ok (tuples ∷ more))))
+    (sym (drop_at items i t lt is)) all))
 
 -- all tables
-pub tables_all : (texts : Texts) (items : List AskedTree) (i : ℕ) (list : List Tuples) → length items ≤ i → TablesSoFar texts (drop i items) items list
+pub tables_all : (texts : Texts) (items : List AskedTree) (i : ℕ) (list : List Tuples) → length items ≤ i
+    → TablesSoFar texts (drop i items) items list
     → IfSome texts (λ told. AreRead told items (Ok list))
 tables_all None items i list le so_far = tt
 tables_all (Some told) items i list le so_far =
@@ -56,11 +62,15 @@ tables_all (Some told) items i list le so_far =
 
 -- a table that is refused
 pub tables_refused : (texts now : Texts) (items : List AskedTree) (i : ℕ) (t : AskedTree) (list : List Tuples) (fault : BindFault)
-    → now ≡ texts → i < length items → t ≡ get_or items i t → (IsSettled {A = Tuples} (Err fault) → IfSome now (λ told. IsRead told t (Err fault)))
-    → TablesSoFar texts (drop i items) items list → IsSettled {A = List Tuples} (Err fault) → IfSome texts (λ told. AreRead told items (Err fault))
+    → now ≡ texts → i < length items → t ≡ get_or items i t →
+    (IsSettled {A = Tuples} (Err fault) → IfSome now (λ told. IsRead told t (Err fault)))
+    → TablesSoFar texts (drop i items) items list → IsSettled {A = List Tuples} (Err fault) → IfSome texts
+    (λ told. AreRead told items (Err fault))
 tables_refused None now items i t list fault same lt is read so_far settled = tt
 tables_refused (Some told) now items i t list fault same lt is read so_far settled =
-    let here : IsRead told t (Err fault) = subst (λ (texts : Texts). IfSome texts (λ docs. IsRead docs t (Err fault))) same (read (settled_fault (List Tuples) Tuples fault settled)) in
+    let here : IsRead told t (Err fault) =
+    subst (λ (texts : Texts). IfSome texts (λ docs. IsRead docs t (Err fault))) same
+    (read (settled_fault (List Tuples) Tuples fault settled)) in
     let all : AreRead told (t ∷ drop (i + 1) items) (Err fault) = (Err fault, here, refl) in
     so_far (Err fault) (subst (λ (ts : List AskedTree). AreRead told ts (Err fault)) (sym (drop_at items i t lt is)) all)
 

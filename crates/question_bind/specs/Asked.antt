@@ -38,7 +38,8 @@ rows_of (Some r) = r.rows
 
 -- the place of the attribute of a name in a relation
 abbrev pub attr_named : List Relation → ℕ → Named → Result ℕ BindFault
-attr_named relations rel named = found_or (place_of (attrs_of (slice_get relations rel)) named.name) (refused_at UnknownName named) Ok
+attr_named relations rel named = found_or (place_of (attrs_of (slice_get relations rel)) named.name)
+    (refused_at UnknownName named) Ok
 
 -- the head of a part: an unknown relation is refused first, then an unknown attribute
 abbrev pub head_of : List Relation → AskedTree → Result Head BindFault

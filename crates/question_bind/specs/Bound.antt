@@ -38,7 +38,8 @@ groups_of trees = if nat_le (tables_among trees) 1 then trees ∷ [] else map (�
 
 -- what groups ask about after what was asked so far: group by group, up to the first that is refused or after which there are
 -- too many pairs
-abbrev pub AreGroupsAsked : List (List ℕ × List ℕ) → List Relation → List Asked → List (List AskedTree) → Result (List Asked) BindFault → Type 0
+abbrev pub AreGroupsAsked : List (List ℕ × List ℕ) → List Relation → List Asked → List (List AskedTree)
+    → Result (List Asked) BindFault → Type 0
 AreGroupsAsked told relations so_far [] outcome = outcome ≡ Ok so_far
 AreGroupsAsked told relations so_far (group ∷ groups) outcome =
     (first : Result (List Asked) BindFault) × IsGroupAsked told relations group first
@@ -68,7 +69,8 @@ rel_ids rels = map (λ rel. record { 0 = rel }) rels
 -- before
 abbrev pub same_of : List Relation → List Named → Result Question BindFault
 same_of relations names =
-    and_then (all_of (relation_named relations) names) (λ rels. unless (first_again [] names rels) (Ok (asked.Same (rel_ids rels))))
+    and_then (all_of (relation_named relations) names) (λ rels. unless (first_again [] names rels)
+    (Ok (asked.Same (rel_ids rels))))
 
 -- ---- queries
 

@@ -60,7 +60,8 @@ abbrev pub head_named : NameLists → AskedTree → Result Head BindFault
 head_named names (Ordering o) =
     and_then (named_in names.relations o.relation) (λ rel.
     and_then (named_in (attrs_known (slice_get names.each rel)) o.attr) (λ attr. Ok record { rel = rel; attr = Some attr }))
-head_named names (Table relation document) = and_then (named_in names.relations relation) (λ rel. Ok record { rel = rel; attr = None })
+head_named names (Table relation document) = and_then (named_in names.relations relation)
+    (λ rel. Ok record { rel = rel; attr = None })
 
 -- a head of one of the relations, whose attribute has a number of 32 bits
 pub record IsHeadOn (names : NameLists) (head : Head) : Type 0 where
@@ -128,14 +129,17 @@ abbrev pub within_limit : List Asked → List Asked → Result (List Asked) Bind
 within_limit so_far more = if nat_lt most_pairs (length (so_far ++ more)) then Err (Limit 12) else Ok (so_far ++ more)
 
 -- what a group leaves after what was asked so far
-abbrev pub IsGroupStep : List (List ℕ × List ℕ) → List Relation → List Asked → List AskedTree → Result (List Asked) BindFault → Type 0
+abbrev pub IsGroupStep : List (List ℕ × List ℕ) → List Relation → List Asked → List AskedTree → Result (List Asked)
+    BindFault → Type 0
 IsGroupStep told relations so_far group outcome =
-    (more : Result (List Asked) BindFault) × IsGroupAsked told relations group more × (outcome ≡ and_then more (within_limit so_far))
+    (more : Result (List Asked) BindFault) × IsGroupAsked told relations group more ×
+    (outcome ≡ and_then more (within_limit so_far))
 
 -- the question on the pairs that parts say
 abbrev pub IsCertain : List (List ℕ × List ℕ) → List Relation → ℕ → List AskedTree → Result Question BindFault → Type 0
 IsCertain told relations line trees outcome =
-    (pairs : Result (List Asked) BindFault) × AreGroupsAsked told relations [] (groups_of trees) pairs × (outcome ≡ and_then pairs (certain_of line))
+    (pairs : Result (List Asked) BindFault) × AreGroupsAsked told relations [] (groups_of trees) pairs ×
+    (outcome ≡ and_then pairs (certain_of line))
 
 -- ---- relations
 
@@ -145,4 +149,5 @@ unless_again names places = unless (first_again [] names places) (Ok (rel_ids pl
 
 -- the question on those of relations of these names that are named
 abbrev pub same_in : List (List ℕ) → List Named → Result Question BindFault
-same_in names named = and_then (all_of (named_in names) named) (λ places. and_then (unless_again named places) (λ rels. Ok (Same rels)))
+same_in names named = and_then (all_of (named_in names) named) (λ places. and_then (unless_again named places)
+    (λ rels. Ok (Same rels)))

@@ -38,7 +38,8 @@ pub fn bind_question<S: Shelf>(
 ) -> Result<Question, BindFault>
     ensures kept { S.texts shelf.new ≡ S.texts shelf.old }
     ensures later { S.faults shelf.old ≤ S.faults shelf.new }
-    ensures bound { IsSettled result → IfSome (S.texts shelf.old) (λ told. IsQuestionBound told spec.now.relations tree.now result) }
+    ensures bound { IsSettled result → IfSome (S.texts shelf.old) (λ told. IsQuestionBound told spec.now.relations
+        tree.now result) }
     ensures fits { IfOk result (IsQuestionOn spec.now.relations) }
     ensures read_fault { IsReadFault result → Rose (S.faults shelf.old) (S.faults shelf.new) }
     ensures table_due { (name : List ℕ) → IsReadFaultOf result name

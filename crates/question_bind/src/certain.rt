@@ -27,7 +27,8 @@ pub fn bind_certain<S: Shelf>(
 ) -> Result<Question, BindFault>
     ensures kept { S.texts shelf.new ≡ S.texts shelf.old }
     ensures later { S.faults shelf.old ≤ S.faults shelf.new }
-    ensures bound { IsSettled result → IfSome (S.texts shelf.old) (λ told. IsCertain told spec.now.relations line trees.now result) }
+    ensures bound { IsSettled result → IfSome (S.texts shelf.old)
+        (λ told. IsCertain told spec.now.relations line trees.now result) }
     ensures fits { IfOk result (IsQuestionOn spec.now.relations) }
     ensures read_fault { IsReadFault result → Rose (S.faults shelf.old) (S.faults shelf.new) }
     ensures table_due { (name : List ℕ) → IsReadFaultOf result name
@@ -52,7 +53,8 @@ fn ask_groups<S: Shelf>(
     requires { AreNamesOf names.now spec.now }
     ensures kept { S.texts shelf.new ≡ S.texts shelf.old }
     ensures later { S.faults shelf.old ≤ S.faults shelf.new }
-    ensures asked { IsSettled result → IfSome (S.texts shelf.old) (λ told. AreGroupsAsked told spec.now.relations [] (groups_of trees.now) result) }
+    ensures asked { IsSettled result → IfSome (S.texts shelf.old) (λ told. AreGroupsAsked told spec.now.relations []
+        (groups_of trees.now) result) }
     ensures fits { IfOk result (All (IsAskedPair spec.now.relations)) }
     ensures read_fault { IsReadFault result → Rose (S.faults shelf.old) (S.faults shelf.new) }
     ensures table_due { (name : List ℕ) → IsReadFaultOf result name
@@ -77,7 +79,8 @@ fn ask_each<S: Shelf>(
     requires { AreNamesOf names.now spec.now }
     ensures kept { S.texts shelf.new ≡ S.texts shelf.old }
     ensures later { S.faults shelf.old ≤ S.faults shelf.new }
-    ensures asked { IsSettled result → IfSome (S.texts shelf.old) (λ told. AreGroupsAsked told spec.now.relations [] (map (λ t. t ∷ []) trees.now) result) }
+    ensures asked { IsSettled result → IfSome (S.texts shelf.old) (λ told. AreGroupsAsked told spec.now.relations []
+        (map (λ t. t ∷ []) trees.now) result) }
     ensures fits { IfOk result (All (IsAskedPair spec.now.relations)) }
     ensures read_fault { IsReadFault result → Rose (S.faults shelf.old) (S.faults shelf.new) }
     ensures table_due { (name : List ℕ) → IsReadFaultOf result name

@@ -41,7 +41,8 @@ pub fn ask_group<S: Shelf>(
     requires so_far { All (IsAskedPair spec.now.relations) so_far }
     ensures kept { S.texts shelf.new ≡ S.texts shelf.old }
     ensures later { S.faults shelf.old ≤ S.faults shelf.new }
-    ensures asked { IsSettled result → IfSome (S.texts shelf.old) (λ told. IsGroupStep told spec.now.relations so_far group.now result) }
+    ensures asked { IsSettled result → IfSome (S.texts shelf.old) (λ told. IsGroupStep told spec.now.relations so_far
+        group.now result) }
     ensures fits { IfOk result (All (IsAskedPair spec.now.relations)) }
     ensures read_fault { IsReadFault result → Rose (S.faults shelf.old) (S.faults shelf.new) }
     ensures table { (name : List ℕ) → IsReadFaultOf result name → IsTableOf spec.now.relations group.now name }

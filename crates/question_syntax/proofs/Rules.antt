@@ -27,14 +27,17 @@ use Rattle.question_syntax.specs.Reading.{table_at, pairs_at, asked_at, consiste
 
 -- ---- no name is the word `orders`
 
-not_reserved : (text : List ℕ) (line : ℕ) (n : Named) (a b c : Bool) → option_map (on_line line) (cond (a || b || c) None (as_text text)) ≡ Some n → c ≡ false
+not_reserved : (text : List ℕ) (line : ℕ) (n : Named) (a b c : Bool) → option_map (on_line line)
+    (cond (a || b || c) None (as_text text)) ≡ Some n → c ≡ false
 not_reserved text line n true b c e = absurd (cc)
 not_reserved text line n false true c e = absurd (cc)
 not_reserved text line n false false true e = absurd (cc)
 not_reserved text line n false false false e = refl
 
-name_by : (k : TokenKind) (text : List ℕ) (line : ℕ) (n : Named) → option_map (on_line line) (name_in k text) ≡ Some n → same_kind k Word && bytes_eq text (codes "orders") ≡ false
-name_by Word text line n e = not_reserved text line n (bytes_eq text (codes "if")) (bytes_eq text (codes "false")) (bytes_eq text (codes "orders")) e
+name_by : (k : TokenKind) (text : List ℕ) (line : ℕ) (n : Named) → option_map (on_line line) (name_in k text) ≡ Some
+    n → same_kind k Word && bytes_eq text (codes "orders") ≡ false
+name_by Word text line n e = not_reserved text line n (bytes_eq text (codes "if")) (bytes_eq text (codes "false"))
+    (bytes_eq text (codes "orders")) e
 name_by Negative text line n e = refl
 name_by Text text line n e = refl
 name_by Symbol text line n e = refl
@@ -62,7 +65,8 @@ SpellsTable x = IsWord (codes "orders") ⋅ SpellsName x.0 ⋅ IsWord (codes "fr
 
 reads_table : IsReader (Image table_of SpellsTable) ends_asked table_at
 unfolding table_at
-reads_table = reads_mapped (after_word (codes "orders") (reads_two reads_name (after_word (codes "from") reads_string))) table_of ends_asked (λ x t. refl)
+reads_table = reads_mapped (after_word (codes "orders")
+    (reads_two reads_name (after_word (codes "from") reads_string))) table_of ends_asked (λ x t. refl)
 
 reads_pairs : IsReader (Image Ordering SpellsOrdering) ends_asked pairs_at
 unfolding pairs_at
@@ -70,23 +74,28 @@ reads_pairs = reads_mapped reads_ordering Ordering ends_asked (λ o t. refl)
 
 begins_table : Begins (is_word (codes "orders")) true (Image table_of SpellsTable)
 begins_table = begins_image table_of SpellsTable (is_word (codes "orders")) true
-    (begins_fixed (λ (x : TableParts). SpellsName x.0 ⋅ IsWord (codes "from") ⋅ SpellsString x.1) Word (codes "orders") (is_word (codes "orders")) true (λ t e. e))
+    (begins_fixed (λ (x : TableParts). SpellsName x.0 ⋅ IsWord (codes "from") ⋅ SpellsString x.1) Word
+    (codes "orders") (is_word (codes "orders")) true (λ t e. e))
 
 begins_pairs : Begins (is_word (codes "orders")) false (Image Ordering SpellsOrdering)
 begins_pairs = begins_image Ordering SpellsOrdering (is_word (codes "orders")) false
-    (λ o tokens h. first_then (is_word (codes "orders")) false (first_says (is_word (codes "orders")) false name_not_orders o.relation) h)
+    (λ o tokens h. first_then (is_word (codes "orders")) false
+    (first_says (is_word (codes "orders")) false name_not_orders o.relation) h)
 
-asked_spelled : (a : AskedTree) (tokens : List Lexeme) → Either (Image table_of SpellsTable) (Image Ordering SpellsOrdering) a tokens → SpellsAsked a tokens
+asked_spelled : (a : AskedTree) (tokens : List Lexeme) → Either (Image table_of SpellsTable)
+    (Image Ordering SpellsOrdering) a tokens → SpellsAsked a tokens
 asked_spelled a tokens (inl h) = subst (λ (a : AskedTree). SpellsAsked a tokens) h.is h.spelled
 asked_spelled a tokens (inr h) = subst (λ (a : AskedTree). SpellsAsked a tokens) h.is h.spelled
 
-spelled_asked : (a : AskedTree) (tokens : List Lexeme) → SpellsAsked a tokens → Either (Image table_of SpellsTable) (Image Ordering SpellsOrdering) a tokens
+spelled_asked : (a : AskedTree) (tokens : List Lexeme) → SpellsAsked a tokens → Either (Image table_of SpellsTable)
+    (Image Ordering SpellsOrdering) a tokens
 spelled_asked (Ordering o) tokens h = inr (record { tree = o; is = refl; spelled = h })
 spelled_asked (Table relation document) tokens h = inl (record { tree = (relation, document); is = refl; spelled = h })
 
 reads_asked : IsReader SpellsAsked ends_asked asked_at
 unfolding asked_at
-reads_asked = reads_same (reads_choose reads_table reads_pairs (is_word (codes "orders")) begins_table begins_pairs) asked_spelled spelled_asked
+reads_asked = reads_same (reads_choose reads_table reads_pairs (is_word (codes "orders")) begins_table begins_pairs)
+    asked_spelled spelled_asked
 
 -- the word `and` ends an asked part
 ends_at_and : Ended ends_asked (is_word (codes "and"))
@@ -104,7 +113,8 @@ both_hold false b e f = absurd (cc)
 
 list_ends : Ended (ends ends_asked (is_word (codes "and"))) (is_symbol (codes ";"))
 list_ends [] t e = ap not (apart Symbol (codes ";") Word (codes "and") refl t e)
-list_ends (a ∷ []) t e = both_hold (ends_asked a t) (not (is_word (codes "and") t)) (ends_at_semicolon a t e) (ap not (apart Symbol (codes ";") Word (codes "and") refl t e))
+list_ends (a ∷ []) t e = both_hold (ends_asked a t) (not (is_word (codes "and") t)) (ends_at_semicolon a t e)
+    (ap not (apart Symbol (codes ";") Word (codes "and") refl t e))
 list_ends (a ∷ b ∷ rest) t e = list_ends (b ∷ rest) t e
 
 -- ---- questions
@@ -138,7 +148,8 @@ reads_certain_line = reads_one certain_line (a_fixed Word (codes "certain")) (a_
 
 reads_ended_asked : IsReader SpellsEndedAsked always (before (listed (is_word (codes "and")) asked_at) (is_symbol (codes ";")))
 reads_ended_asked = before_symbol (codes ";")
-    (reads_listed reads_asked (is_word (codes "and")) (a_fixed Word (codes "and")) (a_fixed_is Word (codes "and")) ends_at_and) list_ends
+    (reads_listed reads_asked (is_word (codes "and")) (a_fixed Word (codes "and")) (a_fixed_is Word (codes "and"))
+    ends_at_and) list_ends
 
 reads_certain : IsReader (Image certain_of SpellsCertain) always certain_at
 unfolding certain_at
@@ -153,7 +164,8 @@ SpellsSame names = IsWord (codes "same") ⋅ SpellsEndedNames names
 reads_same_names : IsReader (Image Same SpellsSame) always same_at
 unfolding same_at
 reads_same_names = reads_mapped
-    (after_word (codes "same") (before_symbol (codes ";") (listed_symbol (codes ",") reads_name) (λ names t e. ap not (apart Symbol (codes ";") Symbol (codes ",") refl t e))))
+    (after_word (codes "same") (before_symbol (codes ";") (listed_symbol (codes ",") reads_name)
+    (λ names t e. ap not (apart Symbol (codes ";") Symbol (codes ",") refl t e))))
     Same always (λ names t. refl)
 
 abbrev SpellsAnswers : QueryTree → Language
@@ -165,7 +177,8 @@ reads_answers = reads_mapped (before_symbol (codes ";") reads_query (query_ends 
 
 begins_consistent : Begins (is_word (codes "consistent")) true (Image consistent_of SpellsConsistent)
 begins_consistent = begins_image consistent_of SpellsConsistent (is_word (codes "consistent")) true
-    (begins_fixed (λ (u : Unit {0}). IsSymbol (codes ";")) Word (codes "consistent") (is_word (codes "consistent")) true (λ t e. e))
+    (begins_fixed (λ (u : Unit {0}). IsSymbol (codes ";")) Word (codes "consistent") (is_word (codes "consistent"))
+    true (λ t e. e))
 
 -- a token that says the line of the word `certain` is that word
 says_certain : (t : Lexeme) (line : ℕ) → certain_line t ≡ Some line → is_word (codes "certain") t ≡ true
@@ -175,15 +188,19 @@ says_certain t line e = passes (is_word (codes "certain") t) t.line line e
     passes true n m e = refl
     passes false n m e = absurd (cc)
 
-begins_certain : (test : Lexeme → Bool) (b : Bool) → ((t : Lexeme) → is_word (codes "certain") t ≡ true → test t ≡ b) → Begins test b (Image certain_of SpellsCertain)
+begins_certain : (test : Lexeme → Bool) (b : Bool) → ((t : Lexeme) → is_word (codes "certain") t ≡ true → test t ≡ b)
+    → Begins test b (Image certain_of SpellsCertain)
 begins_certain test b goes = begins_image certain_of SpellsCertain test b
     (λ x tokens h. first_then test b (first_says test b (λ t line e. goes t (says_certain t line e)) x.0) h)
 
-begins_same : (test : Lexeme → Bool) (b : Bool) → ((t : Lexeme) → is_word (codes "same") t ≡ true → test t ≡ b) → Begins test b (Image Same SpellsSame)
+begins_same : (test : Lexeme → Bool) (b : Bool) → ((t : Lexeme) → is_word (codes "same") t ≡ true → test t ≡ b)
+    → Begins test b (Image Same SpellsSame)
 begins_same test b goes = begins_image Same SpellsSame test b (begins_fixed SpellsEndedNames Word (codes "same") test b goes)
 
-begins_answers : (test : Lexeme → Bool) (b : Bool) → ((t : Lexeme) → is_word (codes "answers") t ≡ true → test t ≡ b) → Begins test b (Image Answers SpellsAnswers)
-begins_answers test b goes = begins_image Answers SpellsAnswers test b (λ q tokens h. first_then test b (begins_query test b goes q) h)
+begins_answers : (test : Lexeme → Bool) (b : Bool) → ((t : Lexeme) → is_word (codes "answers") t ≡ true → test t ≡ b)
+    → Begins test b (Image Answers SpellsAnswers)
+begins_answers test b goes = begins_image Answers SpellsAnswers test b
+    (λ q tokens h. first_then test b (begins_query test b goes q) h)
 
 -- questions from some word on, in the order in which they are tried
 abbrev FromSame : QuestionTree → Language
@@ -224,7 +241,8 @@ reads_from_same = reads_choose reads_same_names reads_answers (is_word (codes "s
     (begins_same (is_word (codes "same")) true (λ t e. e))
     (begins_answers (is_word (codes "same")) false (apart Word (codes "answers") Word (codes "same") refl))
 
-reads_from_certain : IsReader FromCertain always (choose (is_word (codes "certain")) certain_at (choose (is_word (codes "same")) same_at answers_at))
+reads_from_certain : IsReader FromCertain always (choose (is_word (codes "certain")) certain_at
+    (choose (is_word (codes "same")) same_at answers_at))
 reads_from_certain = reads_choose reads_certain reads_from_same (is_word (codes "certain"))
     (begins_certain (is_word (codes "certain")) true (λ t e. e))
     (begins_from_same (is_word (codes "certain")) false (apart Word (codes "same") Word (codes "certain") refl)

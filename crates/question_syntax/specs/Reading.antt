@@ -12,7 +12,8 @@ use Rattle.question_syntax.specs.Grammar.{certain_line}
 
 -- the pairs of a document, from the word `orders` on
 unfoldable pub table_at : Parser AskedTree
-table_at = mapped (λ x. Table x.0 x.1) (after (is_word (codes "orders")) (both (one named) (after (is_word (codes "from")) (one quoted))))
+table_at = mapped (λ x. Table x.0 x.1)
+    (after (is_word (codes "orders")) (both (one named) (after (is_word (codes "from")) (one quoted))))
 
 -- an ordering as an asked part
 unfoldable pub pairs_at : Parser AskedTree
@@ -27,10 +28,12 @@ unfoldable pub consistent_at : Parser QuestionTree
 consistent_at = mapped (λ u. Consistent) (after (is_word (codes "consistent")) (passing (is_symbol (codes ";"))))
 
 unfoldable pub certain_at : Parser QuestionTree
-certain_at = mapped (λ x. Certain x.0 x.1) (both (one certain_line) (before (listed (is_word (codes "and")) asked_at) (is_symbol (codes ";"))))
+certain_at = mapped (λ x. Certain x.0 x.1)
+    (both (one certain_line) (before (listed (is_word (codes "and")) asked_at) (is_symbol (codes ";"))))
 
 unfoldable pub same_at : Parser QuestionTree
-same_at = mapped (λ names. Same names) (after (is_word (codes "same")) (before (listed (is_symbol (codes ",")) (one named)) (is_symbol (codes ";"))))
+same_at = mapped (λ names. Same names)
+    (after (is_word (codes "same")) (before (listed (is_symbol (codes ",")) (one named)) (is_symbol (codes ";"))))
 
 unfoldable pub answers_at : Parser QuestionTree
 answers_at = mapped (λ q. Answers q) (before query_at (is_symbol (codes ";")))

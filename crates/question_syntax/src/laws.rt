@@ -8,5 +8,6 @@ ghost use Rattle.question_syntax.specs.declared.trees.QuestionTree.{QuestionTree
 pub fn one_question()
     ensures one_tree { (source : List ℕ) (a b : QuestionTree) → ReadsQuestion source a → ReadsQuestion source b → a ≡ b }
     ensures one_refusal { (source : List ℕ) (e f : TextFault) → RefusesQuestion source e → RefusesQuestion source f → e ≡ f }
-    ensures not_both { (source : List ℕ) (tree : QuestionTree) (e : TextFault) → ReadsQuestion source tree → RefusesQuestion source e → ⊥ }
+    ensures not_both { (source : List ℕ) (tree : QuestionTree) (e : TextFault) → ReadsQuestion source tree
+        → RefusesQuestion source e → ⊥ }
 {}

@@ -14,11 +14,13 @@ use Rattle.spec_model.specs.declared.question.Asked.{Asked}
 use Rattle.spec_model.specs.declared.relation.Relation.{Relation}
 
 -- a list with an item is one of the lists
-list_within : {A : Type 0} (lists : List (List A)) (ent i : ℕ) (x : A) → slice_get (slice_index_or lists ent []) i ≡ Some x → ent < length lists
+list_within : {A : Type 0} (lists : List (List A)) (ent i : ℕ) (x : A) → slice_get (slice_index_or lists ent []) i ≡
+    Some x → ent < length lists
 list_within {A} lists ent i x at =
     ⊎_elim
     (λ (h : ent < length lists). h)
-    (λ (h : length lists ≤ ent). absurd (none-some x (sym (ap (λ (l : List A). slice_get l i) (get_or_past lists ent [] h)) ∙ at)))
+    (λ (h : length lists ≤ ent). absurd
+    (none-some x (sym (ap (λ (l : List A). slice_get l i) (get_or_past lists ent [] h)) ∙ at)))
     (cases_lt ent (length lists))
 
 -- an item of a list stands at a place
@@ -30,7 +32,8 @@ contains_at xs i x e = (i, slice_get_within xs i x e, get_or_from_slice_get xs i
 
 module _ (rows : List Row) (lists : List (List RowId)) (earlier later : RowId) where
   -- the row that is met first stands before one that is in the list too
-  pub stands_before : (ent : ℕ) → IsRanking rows ent (slice_index_or lists ent []) → entity_of rows later.0 ≡ Some ent → earlier ≢ later
+  pub stands_before : (ent : ℕ) → IsRanking rows ent (slice_index_or lists ent []) → entity_of rows later.0 ≡ Some
+      ent → earlier ≢ later
       → IsMetFirst (slice_index_or lists ent []) earlier later → Before lists earlier later
   stands_before ent ranking of_ent apart met =
       let list = slice_index_or lists ent [] in
@@ -78,7 +81,8 @@ all_at : {A : Type 0} (P : A → Type 0) (xs : List A) (i : ℕ) (x : A) → All
 all_at P xs i x all at = subst P (get_or_from_slice_get xs i x x at) (All-get_or P xs i x (slice_get_within xs i x at) all)
 
 -- the relation of a pair, its earlier row, and the list of this row's entity
-pub record AreRead (relations : List Relation) (c : Rankings) (p : Asked) (relation : Relation) (row : Row) (list : List RowId) : Type 0 where
+pub record AreRead (relations : List Relation) (c : Rankings) (p : Asked) (relation : Relation) (row : Row)
+    (list : List RowId) : Type 0 where
   pub is_relation : slice_get relations p.rel.0 ≡ Some relation
   pub is_row : slice_get relation.rows p.pair.earlier.0 ≡ Some row
   pub is_list : list ≡ ranking_of c p.rel.0 p.pair.attr.0 row.entity.0
@@ -103,7 +107,8 @@ module _ (relations : List Relation) (c : Rankings) (p : Asked) (relation : Rela
   ent_within : row.entity.0 < length lists
   ent_within =
       let facts = all_at IsRelation relations p.rel.0 relation are.each read.is_relation in
-      let below = all_at (λ (r : Row). r.entity.0 < length relation.entities) relation.rows p.pair.earlier.0 row facts.entities read.is_row in
+      let below = all_at (λ (r : Row). r.entity.0 < length relation.entities) relation.rows p.pair.earlier.0 row
+      facts.entities read.is_row in
       let count = completion.shape.per_entity p.rel.0 relation read.is_relation p.pair.attr.0 pair.attr in
       omega arith
 

@@ -11,8 +11,10 @@ use spec_model::{Asked, Completion, Specification};
 pub fn pair_holds(spec: &Specification, completion: &Completion, asked: Asked) -> bool
     requires completion { IsCompletion spec.now.relations completion.now }
     requires pair { IsAskedPair spec.now.relations asked }
-    ensures holds { result ≡ true → Before (lists_of completion.now asked.rel.0 asked.pair.attr.0) asked.pair.earlier asked.pair.later }
-    ensures fails { result ≡ false → Before (lists_of completion.now asked.rel.0 asked.pair.attr.0) asked.pair.earlier asked.pair.later → ⊥ }
+    ensures holds { result ≡ true → Before (lists_of completion.now asked.rel.0 asked.pair.attr.0) asked.pair.earlier
+        asked.pair.later }
+    ensures fails { result ≡ false → Before (lists_of completion.now asked.rel.0 asked.pair.attr.0)
+        asked.pair.earlier asked.pair.later → ⊥ }
 {
     let pair = asked.pair;
     let relation = &spec.relations()[asked.rel.0 as usize];

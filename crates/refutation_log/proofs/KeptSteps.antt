@@ -16,7 +16,8 @@ length-steps_from start (head ∷ heads) lists = ap suc (length-steps_from (suc 
 
 -- the step at a place
 pub step_of_place : (start : ℕ) (heads : List Head) (lists : Lists) (place at : ℕ) (head : Head)
-    → slice_get heads place ≡ Some head → at ≡ start + place → slice_get (steps_from start heads lists) place ≡ Some (step_at head lists at)
+    → slice_get heads place ≡ Some head → at ≡ start + place → slice_get (steps_from start heads lists) place ≡ Some
+    (step_at head lists at)
 step_of_place start [] lists place at head h e = cc
 step_of_place start (first ∷ heads) lists zero at head h e =
     let same : at ≡ start = omega (arith, e) in

@@ -50,7 +50,8 @@ pub record FollowsFrom (earlier : List (List Lit)) (clause : List Lit) (hints : 
 -- ---- what fails
 
 -- the hints before a place can all be used, and falsify these literals
-pub record IsReached (earlier : List (List Lit)) (clause : List Lit) (hints : List ℕ) (place : ℕ) (falses : List Lit) : Type 0 where
+pub record IsReached (earlier : List (List Lit)) (clause : List Lit) (hints : List ℕ) (place : ℕ)
+    (falses : List Lit) : Type 0 where
   pub within : place ≤ length hints
   pub known : AreEarlier earlier (take place hints)
   pub falsified : Falsifies clause (clauses_at earlier (take place hints)) falses

@@ -24,7 +24,8 @@ kinds_made [] = refl
 kinds_made (a ∷ attrs) = ap (λ ks. a.kind ∷ ks) (kinds_made attrs)
 
 -- a declared relation is one
-pub declared_relation : (d : Declared) (t : TableRows) → AreRows t → RowsHaveKinds (kinds_declared d) t.rows → OnlyOnce (names_of_attrs d.attrs) → length d.attrs + 1 < 2 ^ 32 → IsRelation (relation_of d t)
+pub declared_relation : (d : Declared) (t : TableRows) → AreRows t → RowsHaveKinds (kinds_declared d) t.rows
+    → OnlyOnce (names_of_attrs d.attrs) → length d.attrs + 1 < 2 ^ 32 → IsRelation (relation_of d t)
 declared_relation d t are values once few = record {
   few_attrs = rw length-map few;
   few_rows = are.few_rows;

@@ -13,21 +13,27 @@ use Rattle.relation_bind.proofs.Heads.{head_reads}
 -- a declaration that takes a name that is taken
 refused_head : (told : List (List ℕ × List ℕ)) (taken : List (List ℕ)) (d : Declared) (fault : BindFault)
     → ChecksHead taken d (Err fault) → IsSettled {A = Relation} (Err fault) → IsDeclared told taken d (Err fault)
-refused_head told taken d fault (inl memory) settled = absurd (subst (λ (f : BindFault). IsSettled {A = Relation} (Err f)) memory settled)
+refused_head told taken d fault (inl memory) settled =
+    absurd (subst (λ (f : BindFault). IsSettled {A = Relation} (Err f)) memory settled)
 refused_head told taken d fault (inr head) settled = rw head
 
 -- a declaration whose table is read
-read_table : (told : List (List ℕ × List ℕ)) (taken : List (List ℕ)) (d : Declared) (names : List (List ℕ)) (table : Result TableRows BindFault)
+read_table : (told : List (List ℕ × List ℕ)) (taken : List (List ℕ)) (d : Declared) (names : List (List ℕ))
+    (table : Result TableRows BindFault)
     → ChecksHead taken d (Ok names) → IsTable told d table → IsDeclared told taken d (and_then table (λ t. Ok (relation_of d t)))
 read_table told taken d names table head reads = rw head.0 (table, reads, refl)
 
-pub head_refused : (texts : Option (List (List ℕ × List ℕ))) (taken : List (List ℕ)) (d : Declared) (fault : BindFault) (result : Result Relation BindFault)
-    → ChecksHead taken d (Err fault) → result ≡ Err fault → IsSettled result → IfSome texts (λ told. IsDeclared told taken d result)
+pub head_refused : (texts : Option (List (List ℕ × List ℕ))) (taken : List (List ℕ)) (d : Declared)
+    (fault : BindFault) (result : Result Relation BindFault)
+    → ChecksHead taken d (Err fault) → result ≡ Err fault → IsSettled result → IfSome texts
+    (λ told. IsDeclared told taken d result)
 head_refused None taken d fault result head is settled = tt
 head_refused (Some told) taken d fault result head is settled =
-    subst (λ (r : Result Relation BindFault). IsDeclared told taken d r) (sym is) (refused_head told taken d fault head (subst IsSettled is settled))
+    subst (λ (r : Result Relation BindFault). IsDeclared told taken d r) (sym is)
+    (refused_head told taken d fault head (subst IsSettled is settled))
 
-pub table_refused : (texts : Option (List (List ℕ × List ℕ))) (taken : List (List ℕ)) (d : Declared) (names : List (List ℕ)) (fault : BindFault) (result : Result Relation BindFault)
+pub table_refused : (texts : Option (List (List ℕ × List ℕ))) (taken : List (List ℕ)) (d : Declared)
+    (names : List (List ℕ)) (fault : BindFault) (result : Result Relation BindFault)
     → ChecksHead taken d (Ok names) → (IsSettled {A = TableRows} (Err fault) → IfSome texts (λ told. IsTable told d (Err fault)))
     → result ≡ Err fault → IsSettled result → IfSome texts (λ told. IsDeclared told taken d result)
 table_refused None taken d names fault result head reads is settled = tt
@@ -35,7 +41,8 @@ table_refused (Some told) taken d names fault result head reads is settled =
     subst (λ (r : Result Relation BindFault). IsDeclared told taken d r) (sym is)
     (read_table told taken d names (Err fault) head (reads (settled_fault Relation TableRows fault (subst IsSettled is settled))))
 
-pub relation_read : (texts : Option (List (List ℕ × List ℕ))) (taken : List (List ℕ)) (d : Declared) (names : List (List ℕ)) (table : TableRows) (made : Relation)
+pub relation_read : (texts : Option (List (List ℕ × List ℕ))) (taken : List (List ℕ)) (d : Declared)
+    (names : List (List ℕ)) (table : TableRows) (made : Relation)
     → ChecksHead taken d (Ok names) → IfSome texts (λ told. IsTable told d (Ok table)) → made ≡ relation_of d table
     → IfSome texts (λ told. IsDeclared told taken d (Ok made))
 relation_read None taken d names table made head reads is = tt
@@ -43,14 +50,20 @@ relation_read (Some told) taken d names table made head reads is =
     subst (λ (r : Relation). IsDeclared told taken d (Ok r)) (sym is) (read_table told taken d names (Ok table) head reads)
 
 -- the table that could not be read is that of the declaration
-pub table_not_given : (taken : List (List ℕ)) (d : Declared) (names : List (List ℕ)) (fault : BindFault) (result : Result Relation BindFault)
-    → ChecksHead taken d (Ok names) → ((table : List ℕ) → IsReadFaultOf {A = TableRows} (Err fault) table → d.document.name ≡ table)
+pub table_not_given : (taken : List (List ℕ)) (d : Declared) (names : List (List ℕ)) (fault : BindFault)
+    (result : Result Relation BindFault)
+    → ChecksHead taken d (Ok names) → ((table : List ℕ) → IsReadFaultOf {A = TableRows} (Err fault) table
+    → d.document.name ≡ table)
     → result ≡ Err fault → (table : List ℕ) → IsReadFaultOf result table → IsTableOf taken d table
-table_not_given taken d names fault result head named is table h =
-    (head.0, named table (same_read_fault_of Relation TableRows fault table (subst (λ (r : Result Relation BindFault). IsReadFaultOf r table) is h)))
+table_not_given taken d names fault result head named is table h = (
+  head.0,
+  named table (same_read_fault_of Relation TableRows fault table
+      (subst (λ (r : Result Relation BindFault). IsReadFaultOf r table) is h)),
+)
 
 -- where a name is refused, no table is read
 pub head_not_read : (taken : List (List ℕ)) (d : Declared) (fault : BindFault) (result : Result Relation BindFault)
     → ChecksHead taken d (Err fault) → result ≡ Err fault → (table : List ℕ) → IsReadFaultOf result table → ⊥
 head_not_read taken d fault result head is table h =
-    head_reads taken d fault head (read_fault_of {A = Relation} (Err fault) table (subst (λ (r : Result Relation BindFault). IsReadFaultOf r table) is h))
+    head_reads taken d fault head (read_fault_of {A = Relation} (Err fault) table
+    (subst (λ (r : Result Relation BindFault). IsReadFaultOf r table) is h))

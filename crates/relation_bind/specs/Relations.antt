@@ -90,7 +90,8 @@ relation_of d r = record {
 -- what the table of a declaration gives: the rows of the tuples that are read, or the first fault
 abbrev pub IsTable : List (List ℕ × List ℕ) → Declared → Result TableRows BindFault → Type 0
 IsTable told d table =
-    (tuples : Result (List (List Value)) BindFault) × AreTuples told d.document.name (columns_of d) tuples × (table ≡ and_then tuples (rows_read d))
+    (tuples : Result (List (List Value)) BindFault) × AreTuples told d.document.name (columns_of d) tuples ×
+    (table ≡ and_then tuples (rows_read d))
 
 -- what a declaration in which no name is taken makes: its table is read, and gives the relation
 abbrev pub IsRead : List (List ℕ × List ℕ) → Declared → Result Relation BindFault → Type 0

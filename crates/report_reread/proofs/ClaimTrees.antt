@@ -23,7 +23,8 @@ currents_of relations (item ∷ items) are of =
     rw (entity_found relations item.rel.0 item.ent.0 first.relation are first.is_relation first.ent, rest) refl
 
 -- the answers
-answers_of : (tuples : List (List Value)) → map (λ (t : AnswerTree). t.values) (map (λ tuple. record { line = 0; values = tuple }) tuples) ≡ tuples
+answers_of : (tuples : List (List Value)) → map (λ (t : AnswerTree). t.values)
+    (map (λ tuple. record { line = 0; values = tuple }) tuples) ≡ tuples
 answers_of [] = refl
 answers_of (tuple ∷ tuples) = ap (λ more. tuple ∷ more) (answers_of tuples)
 

@@ -43,7 +43,12 @@ own = numerals_by_value _ tells_all_ascii_digits
 counted_is : (n : ℕ) → n < 2 ^ 64 → count_of (decimal n) ≡ Some n
 unfolding count_of
 counted_is n h =
-    rw (lt-ltb 0 (length (decimal n)) (decimal_nonempty n h), digits_decimal own n h, digits_value-decimal own n h, lt-ltb n (2 ^ 64) h) refl
+    rw (
+      lt-ltb 0 (length (decimal n)) (decimal_nonempty n h),
+      digits_decimal own n h,
+      digits_value-decimal own n h,
+      lt-ltb n (2 ^ 64) h,
+    ) refl
 
 -- what a token that has a piece says, whatever its place
 abbrev lexeme_with : Piece → Lexeme

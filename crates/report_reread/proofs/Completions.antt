@@ -37,13 +37,15 @@ brief relations c h = record { few = h.few; short = All-from_get_or (All (All Is
   where
     attrs : (rel : ℕ) → rel < length c → All (All IsShort) (get_or c rel [])
     attrs rel below =
-        let r : (r : Relation) × (slice_get relations rel ≡ Some r) = there relations rel (omega (arith, below, h.shape.per_relation)) in
+        let r : (r : Relation) × (slice_get relations rel ≡ Some r) = there relations rel
+        (omega (arith, below, h.shape.per_relation)) in
         All-from_get_or (All IsShort) (get_or c rel []) []
         (λ attr inside. All-from_get_or IsShort (lists_of c rel attr) [] (λ ent within. (h.rows rel attr ent r.0 r.1).few))
 
 -- ---- what differs from a first one
 
-all_merged : {A : Type 0} (f : A → A → A) (P : A → Type 0) → ((x y : A) → P y → P (f x y)) → (xs ys : List A) → All P ys → All P (merged f xs ys)
+all_merged : {A : Type 0} (f : A → A → A) (P : A → Type 0) → ((x y : A) → P y → P (f x y)) → (xs ys : List A)
+    → All P ys → All P (merged f xs ys)
 all_merged f P each [] [] h = h
 all_merged f P each (x ∷ xs) [] h = h
 all_merged f P each [] (y ∷ ys) h = h
@@ -68,9 +70,11 @@ fewer_lists : (first lists : List (List RowId)) → ranked_lists (merged list_un
 fewer_lists [] [] = omega arith
 fewer_lists (x ∷ first) [] = omega arith
 fewer_lists [] (y ∷ lists) = omega arith
-fewer_lists (x ∷ first) (y ∷ lists) = fewer_chosen (same_rows x y) y (merged list_unless first lists) lists (fewer_lists first lists)
+fewer_lists (x ∷ first) (y ∷ lists) = fewer_chosen (same_rows x y) y (merged list_unless first lists) lists
+    (fewer_lists first lists)
 
-fewer_attrs : (first attrs : List (List (List RowId))) → ranked_attrs (merged (merged list_unless) first attrs) ≤ ranked_attrs attrs
+fewer_attrs : (first attrs : List (List (List RowId))) → ranked_attrs (merged (merged list_unless) first attrs) ≤
+    ranked_attrs attrs
 fewer_attrs [] [] = omega arith
 fewer_attrs (x ∷ first) [] = omega arith
 fewer_attrs [] (y ∷ attrs) = omega arith
@@ -106,7 +110,8 @@ like_completion relations texts c h =
     (like_both (like_word (codes "completion") (omega arith) refl)
     (like_after semicolon (like_few 4294967294 (omega arith) (like_rankings relations texts 0 c h.short))))
 
-pub like_completions : (relations : List Relation) → All HasTextNames relations → (cs : List Rankings) → AreFew (IsWritableCompletion relations) cs
+pub like_completions : (relations : List Relation) → All HasTextNames relations → (cs : List Rankings)
+    → AreFew (IsWritableCompletion relations) cs
     → IsText (IsLike SpellsCompletions (map unlined_completion) (completion_trees relations cs)) (completions_pieces relations cs)
 like_completions relations texts [] h = like_few 4294967294 (omega arith) like_none
 like_completions relations texts (first ∷ more) h =
@@ -115,7 +120,9 @@ like_completions relations texts (first ∷ more) h =
     length-map more (λ c. completion_tree relations (differing first c)) in
     let all : All (IsWritableCompletion relations) (first ∷ more) = h.each in
     like_few 4294967294 (omega arith)
-    (like_next (like_completion relations texts first (brief relations first (All-head (IsWritableCompletion relations) first more all)))
-    (like_many (λ c. completion_tree relations (differing first c)) (λ c. completion_pieces relations (differing first c)) (IsWritableCompletion relations)
+    (like_next (like_completion relations texts first
+    (brief relations first (All-head (IsWritableCompletion relations) first more all)))
+    (like_many (λ c. completion_tree relations (differing first c))
+    (λ c. completion_pieces relations (differing first c)) (IsWritableCompletion relations)
     (λ c k. like_completion relations texts (differing first c) (brief_differing first c (brief relations c k))) more
     (All-tail (IsWritableCompletion relations) first more all)))

@@ -50,36 +50,53 @@ attr_within : (r : Relation) (attr : ℕ) → IsRelation r → attr < length r.a
     → place_of (map (λ a. a.name) r.attrs) (get_or (map (λ a. a.name) r.attrs) attr []) ≡ Some attr
 attr_within r attr is below = own_place (map (λ a. a.name) r.attrs) attr is.attr_names (rw length-map below)
 
-pub attr_found : (relations : List Relation) (rel attr : ℕ) (r : Relation) → AreRelations relations → slice_get relations rel ≡ Some r
+pub attr_found : (relations : List Relation) (rel attr : ℕ) (r : Relation) → AreRelations relations
+    → slice_get relations rel ≡ Some r
     → attr < length r.attrs
-    → attr_named relations (relation_tree relations rel) (attr_tree relations rel attr) ≡ Some record { relation = r; rel = rel; attr = attr }
+    → attr_named relations (relation_tree relations rel) (attr_tree relations rel attr) ≡ Some
+    record { relation = r; rel = rel; attr = attr }
 attr_found relations rel attr r are at below =
     rw (relation_found relations rel r are at, at, attr_within r attr (is_relation_at relations rel r are at) below) refl
 
 -- the entity at a place of a relation has its name
-pub entity_found : (relations : List Relation) (rel ent : ℕ) (r : Relation) → AreRelations relations → slice_get relations rel ≡ Some r
+pub entity_found : (relations : List Relation) (rel ent : ℕ) (r : Relation) → AreRelations relations
+    → slice_get relations rel ≡ Some r
     → ent < length r.entities
-    → entity_named relations (relation_tree relations rel) (entity_tree relations rel ent) ≡ Some record { relation = r; rel = rel; ent = ent }
+    → entity_named relations (relation_tree relations rel) (entity_tree relations rel ent) ≡ Some
+    record { relation = r; rel = rel; ent = ent }
 entity_found relations rel ent r are at below =
-    rw (relation_found relations rel r are at, at, own_place r.entities ent (is_relation_at relations rel r are at).entity_names below) refl
+    rw (
+      relation_found relations rel r are at,
+      at,
+      own_place r.entities ent
+          (is_relation_at relations rel r are at).entity_names below,
+    ) refl
 
 -- the place of an attribute and an entity of a relation has their names
-pub place_found : (relations : List Relation) (rel attr ent : ℕ) (r : Relation) → AreRelations relations → slice_get relations rel ≡ Some r
+pub place_found : (relations : List Relation) (rel attr ent : ℕ) (r : Relation) → AreRelations relations
+    → slice_get relations rel ≡ Some r
     → attr < length r.attrs → ent < length r.entities
     → place_named relations (relation_tree relations rel) (attr_tree relations rel attr) (entity_tree relations rel ent)
     ≡ Some record { relation = r; rel = rel; attr = attr; ent = ent }
 place_found relations rel attr ent r are at in_attrs in_entities =
-    rw (attr_found relations rel attr r are at in_attrs, at, own_place r.entities ent (is_relation_at relations rel r are at).entity_names in_entities) refl
+    rw (
+      attr_found relations rel attr r are at in_attrs,
+      at,
+      own_place r.entities ent
+          (is_relation_at relations rel r are at).entity_names in_entities,
+    ) refl
 
 -- the row at a place of a relation has its name
-pub row_found : (relations : List Relation) (rel : ℕ) (row : RowId) (r : Relation) → AreRelations relations → slice_get relations rel ≡ Some r
+pub row_found : (relations : List Relation) (rel : ℕ) (row : RowId) (r : Relation) → AreRelations relations
+    → slice_get relations rel ≡ Some r
     → row.0 < length r.rows → row_named r (row_tree relations rel row) ≡ Some row
 row_found relations rel row r are at below =
     let within : row.0 < length (map (λ q. q.name) r.rows) = rw length-map below in
     rw (at, own_place (map (λ q. q.name) r.rows) row.0 (is_relation_at relations rel r are at).row_names within) refl
 
 -- so have rows
-pub rows_found : (relations : List Relation) (rel : ℕ) (rows : List RowId) (r : Relation) → AreRelations relations → slice_get relations rel ≡ Some r
+pub rows_found : (relations : List Relation) (rel : ℕ) (rows : List RowId) (r : Relation) → AreRelations relations
+    → slice_get relations rel ≡ Some r
     → All (λ row. row.0 < length r.rows) rows → rows_named r (map (row_tree relations rel) rows) ≡ Some rows
 rows_found relations rel [] r are at within = refl
 rows_found relations rel (row ∷ rows) r are at within =

@@ -98,48 +98,62 @@ differing_alike : (first c : Rankings) → AreAlike first c → AreAlike c (diff
 differing_alike first c h = record {
   per_relation = sym (length-merged (merged (merged list_unless)) first c h.per_relation);
   per_attr = λ rel.
-      sym (ap length (differing_attrs first c rel h) ∙ length-merged (merged list_unless) (get_or first rel []) (get_or c rel []) (h.per_attr rel));
+      sym (ap length (differing_attrs first c rel h) ∙ length-merged (merged list_unless) (get_or first rel [])
+      (get_or c rel []) (h.per_attr rel));
   per_entity = λ rel attr.
-      sym (ap length (differing_lists first c rel attr h) ∙ length-merged list_unless (lists_of first rel attr) (lists_of c rel attr) (h.per_entity rel attr));
+      sym (ap length (differing_lists first c rel attr h) ∙ length-merged list_unless (lists_of first rel attr)
+      (lists_of c rel attr) (h.per_entity rel attr));
 }
 
 -- a completion that can be written has lists of rows at its places, and so has what differs of it
 of_relations : (relations : List Relation) (c : Rankings) → IsWritableCompletion relations c → AreOfRelations relations c
 of_relations relations c h = record { shape = h.shape; rows = λ rel attr ent r at. (h.rows rel attr ent r at).each }
 
-differing_of : (relations : List Relation) (first c : Rankings) → AreAlike first c → AreOfRelations relations c → AreOfRelations relations (differing first c)
+differing_of : (relations : List Relation) (first c : Rankings) → AreAlike first c → AreOfRelations relations c
+    → AreOfRelations relations (differing first c)
 differing_of relations first c h of = record {
   shape = shape_alike relations c (differing first c) of.shape (differing_alike first c h);
   rows = λ rel attr ent r at.
       subst (λ (list : List RowId). All (λ row. row.0 < length r.rows) list) (sym (differing_list first c rel attr ent h))
-      (list_rows (λ row. row.0 < length r.rows) (ranking_of first rel attr ent) (ranking_of c rel attr ent) (of.rows rel attr ent r at));
+      (list_rows (λ row. row.0 < length r.rows) (ranking_of first rel attr ent) (ranking_of c rel attr ent)
+      (of.rows rel attr ent r at));
 }
 
 -- ---- all of them
 
 -- a later completion is what the tree of what differs says
-later_of : (relations : List Relation) (first c : Rankings) → AreRelations relations → IsWritableCompletion relations first → IsWritableCompletion relations c
+later_of : (relations : List Relation) (first c : Rankings) → AreRelations relations → IsWritableCompletion relations
+    first → IsWritableCompletion relations c
     → Covers first c → later_completed Second relations first (completion_tree relations (differing first c)) ≡ Ok c
 later_of relations first c are of_first of_c covers =
     let h = alike relations first c of_first.shape of_c.shape in
-    let own = completion_of relations (differing first c) are (differing_of relations first c h (of_relations relations c of_c)) in
+    let own = completion_of relations (differing first c) are
+    (differing_of relations first c h (of_relations relations c of_c)) in
     rw (own, filled_again first c h covers) refl
 
-later_ones_of : (relations : List Relation) (first : Rankings) (more : List Rankings) → AreRelations relations → IsWritableCompletion relations first
+later_ones_of : (relations : List Relation) (first : Rankings) (more : List Rankings) → AreRelations relations
+    → IsWritableCompletion relations first
     → All (IsWritableCompletion relations) more → All (Covers first) more
     → later_ones Second relations first (map (λ c. completion_tree relations (differing first c)) more) ≡ Ok more
 later_ones_of relations first [] are of_first of covers = refl
 later_ones_of relations first (c ∷ more) are of_first of covers =
     rw (
-      later_of relations first c are of_first (All-head (IsWritableCompletion relations) c more of) (All-head (Covers first) c more covers),
-      later_ones_of relations first more are of_first (All-tail (IsWritableCompletion relations) c more of) (All-tail (Covers first) c more covers),
+      later_of relations first c are of_first (All-head (IsWritableCompletion relations) c more of)
+          (All-head (Covers first) c more covers),
+      later_ones_of relations first more are of_first (All-tail (IsWritableCompletion relations) c more of)
+          (All-tail (Covers first) c more covers),
     ) refl
 
 -- completions are what their trees say
-pub completions_of : (relations : List Relation) (cs : List Rankings) → AreRelations relations → All (IsWritableCompletion relations) cs → AllCover cs
+pub completions_of : (relations : List Relation) (cs : List Rankings) → AreRelations relations
+    → All (IsWritableCompletion relations) cs → AllCover cs
     → all_completed Second relations (completion_trees relations cs) ≡ Ok cs
 completions_of relations [] are of covers = refl
 completions_of relations (first ∷ more) are of covers =
     let of_first = All-head (IsWritableCompletion relations) first more of in
     let rest = All-tail (IsWritableCompletion relations) first more of in
-    rw (completion_of relations first are (of_relations relations first of_first), later_ones_of relations first more are of_first rest covers) refl
+    rw (
+      completion_of relations first are (of_relations relations first of_first),
+      later_ones_of relations first more
+          are of_first rest covers,
+    ) refl

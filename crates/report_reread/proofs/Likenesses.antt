@@ -17,12 +17,14 @@ pub record IsLike {A : Type 0} (P : A → List Lexeme → Type 0) (unlined : A �
   pub same : unlined tree ≡ a
 
 -- what has no line
-pub like_fixed : {A : Type 0} {P : A → List Lexeme → Type 0} {u : A → A} (a : A) {ps : List Piece} → u a ≡ a → IsText (P a) ps → IsText (IsLike P u a) ps
+pub like_fixed : {A : Type 0} {P : A → List Lexeme → Type 0} {u : A → A} (a : A) {ps : List Piece} → u a ≡ a
+    → IsText (P a) ps → IsText (IsLike P u a) ps
 like_fixed a e t = text_wider t (λ tokens h. record { tree = a; spelled = h; same = e })
 
 -- ---- two in a row
 
-pub like_both : {A B : Type 0} {P : A → List Lexeme → Type 0} {Q : B → List Lexeme → Type 0} {u : A → A} {v : B → B} {a : A} {b : B} {ps qs : List Piece}
+pub like_both : {A B : Type 0} {P : A → List Lexeme → Type 0} {Q : B → List Lexeme → Type 0} {u : A → A} {v : B → B}
+    {a : A} {b : B} {ps qs : List Piece}
     → IsText (IsLike P u a) ps → IsText (IsLike Q v b) qs
     → IsText (IsLike (λ (x : A × B). P x.0 ⋅ Q x.1) (λ x. (u x.0, v x.1)) (a, b)) (ps ++ qs)
 like_both {A} {B} s t = text_wider (text_then s t)
@@ -53,11 +55,17 @@ like_before s t = text_wider (text_then s t)
 -- ---- a tree of another shape
 
 -- the tree is made of what is spelled, and so is the one without lines
-pub like_made : {A B : Type 0} {P : A → List Lexeme → Type 0} {Q : B → List Lexeme → Type 0} {u : A → A} {v : B → B} (of : A → B) {a : A} {ps : List Piece}
+pub like_made : {A B : Type 0} {P : A → List Lexeme → Type 0} {Q : B → List Lexeme → Type 0} {u : A → A} {v : B → B}
+    (of : A → B) {a : A} {ps : List Piece}
     → ((x : A) (tokens : List Lexeme) → P x tokens → Q (of x) tokens) → ((x : A) → v (of x) ≡ of (u x))
     → IsText (IsLike P u a) ps → IsText (IsLike Q v (of a)) ps
 like_made of into bare t =
-    text_wider t (λ tokens h. record { tree = of h.tree; spelled = into h.tree tokens h.spelled; same = bare h.tree ∙ ap of h.same })
+    text_wider t (λ tokens h. record {
+      tree = of h.tree;
+      spelled = into h.tree tokens h.spelled;
+      same = bare h.tree
+          ∙ ap of h.same;
+    })
 
 -- ---- any number of times
 
@@ -77,7 +85,8 @@ pub like_none : {A : Type 0} {P : A → List Lexeme → Type 0} {u : A → A} �
 like_none = text_wider text_nothing (λ tokens h. record { tree = []; spelled = h; same = refl })
 
 pub like_more : {A : Type 0} {P : A → List Lexeme → Type 0} {u : A → A} {xs ys : List A} {ps qs : List Piece}
-    → IsText (IsLike (Many P) (map u) xs) ps → IsText (IsLike (Many P) (map u) ys) qs → IsText (IsLike (Many P) (map u) (xs ++ ys)) (ps ++ qs)
+    → IsText (IsLike (Many P) (map u) xs) ps → IsText (IsLike (Many P) (map u) ys) qs
+    → IsText (IsLike (Many P) (map u) (xs ++ ys)) (ps ++ qs)
 like_more {A} {P} {u} s t = text_wider (text_then s t)
     (λ tokens h. record {
       tree = h.first.tree ++ h.second.tree;
@@ -100,7 +109,8 @@ like_many f pieces Q each (x ∷ xs) h =
     like_next (each x (All-head Q x xs h)) (like_many f pieces Q each xs (All-tail Q x xs h))
 
 -- at most so many
-pub like_few : {A : Type 0} {P : A → List Lexeme → Type 0} {u : A → A} (most : ℕ) {xs : List A} {ps : List Piece} → length xs ≤ most
+pub like_few : {A : Type 0} {P : A → List Lexeme → Type 0} {u : A → A} (most : ℕ) {xs : List A} {ps : List Piece}
+    → length xs ≤ most
     → IsText (IsLike (Many P) (map u) xs) ps → IsText (IsLike (UpTo most P) (map u) xs) ps
 like_few {A} {P} {u} most {xs} few t = text_wider t
     (λ tokens h. (

@@ -29,7 +29,8 @@ within [] i h = IsUtf8-nil
 within (bytes ∷ names) zero h = All-head IsUtf8 bytes names h
 within (bytes ∷ names) (suc i) h = within names i (All-tail IsUtf8 bytes names h)
 
-relation_text : (relations : List Relation) (rel : ℕ) → All HasTextNames relations → IsUtf8 (slice_index_or (map (λ r. r.name) relations) rel [])
+relation_text : (relations : List Relation) (rel : ℕ) → All HasTextNames relations
+    → IsUtf8 (slice_index_or (map (λ r. r.name) relations) rel [])
 relation_text [] rel h = IsUtf8-nil
 relation_text (r ∷ relations) zero h = (All-head HasTextNames r relations h).relation
 relation_text (r ∷ relations) (suc rel) h = relation_text relations rel (All-tail HasTextNames r relations h)
@@ -68,7 +69,8 @@ abbrev pub no_line : ℕ → ℕ
 no_line line = 0
 
 -- a word that begins a clause
-pub like_word : (text : List ℕ) → 0 < length text → list_all is_word_byte text ≡ true → IsText (IsLike (IsWordOn text) no_line 0) (word text)
+pub like_word : (text : List ℕ) → 0 < length text → list_all is_word_byte text ≡ true
+    → IsText (IsLike (IsWordOn text) no_line 0) (word text)
 like_word text some each =
     text_wider (text_word_on text some each) (λ tokens h. record { tree = h.0; spelled = h.1; same = refl })
 
@@ -78,7 +80,16 @@ IsNamed bytes = IsText (IsLike SpellsName unlined_name (name_tree bytes)) (name 
 
 like_name : (bytes : List ℕ) → IsUtf8 bytes → IsNamed bytes
 like_name bytes h = text_one (name_piece bytes) (IsLike SpellsName unlined_name (name_tree bytes)) (name_is_whole bytes h)
-    (λ t e. record { tree = on_line t.line bytes; spelled = record { token = t; alone = refl; said = name_read bytes h t e }; same = refl })
+    (λ t e. record {
+      tree = on_line t.line bytes;
+      spelled = record {
+        token = t;
+        alone = refl;
+        said = name_read bytes
+            h t e;
+      };
+      same = refl;
+    })
 
 -- ---- the names of a report
 
@@ -88,17 +99,22 @@ like_relation relations rel h = like_name (slice_index_or (map (λ r. r.name) re
 
 pub like_entity : (relations : List Relation) (rel ent : ℕ) → All HasTextNames relations
     → IsText (IsLike SpellsName unlined_name (entity_tree relations rel ent)) (entity_pieces relations rel ent)
-like_entity relations rel ent h = like_name (slice_index_or (entity_names (slice_get relations rel)) ent []) (entity_text relations rel ent h)
+like_entity relations rel ent h = like_name (slice_index_or (entity_names (slice_get relations rel)) ent [])
+    (entity_text relations rel ent h)
 
 pub like_row : (relations : List Relation) (rel : ℕ) (row : RowId) → All HasTextNames relations
     → IsText (IsLike SpellsName unlined_name (row_tree relations rel row)) (row_pieces relations rel row)
-like_row relations rel row h = like_name (slice_index_or (row_names (slice_get relations rel)) row.0 []) (row_text relations rel row.0 h)
+like_row relations rel row h = like_name (slice_index_or (row_names (slice_get relations rel)) row.0 [])
+    (row_text relations rel row.0 h)
 
 -- the names of a relation and of an attribute of it, without their lines
 abbrev pub unlined_pair : Named × Named → Named × Named
 unlined_pair x = (unlined_name x.0, unlined_name x.1)
 
 pub like_attribute : (relations : List Relation) (rel attr : ℕ) → All HasTextNames relations
-    → IsText (IsLike (λ (x : Named × Named). SpellsAttribute x.0 x.1) unlined_pair (relation_tree relations rel, attr_tree relations rel attr)) (attribute_pieces relations rel attr)
+    → IsText (IsLike (λ (x : Named × Named). SpellsAttribute x.0 x.1) unlined_pair
+    (relation_tree relations rel, attr_tree relations rel attr)) (attribute_pieces relations rel attr)
 like_attribute relations rel attr h =
-    like_both (like_relation relations rel h) (like_after point (like_name (slice_index_or (attr_names (slice_get relations rel)) attr []) (attr_text relations rel attr h)))
+    like_both (like_relation relations rel h)
+    (like_after point (like_name (slice_index_or (attr_names (slice_get relations rel)) attr [])
+    (attr_text relations rel attr h)))

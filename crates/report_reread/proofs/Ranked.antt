@@ -35,9 +35,11 @@ record AreRankingsOf (r : Relation) (attrs : List (List (List RowId))) : Type 0 
 -- the same for each relation
 pub record AreOfRelations (relations : List Relation) (c : Rankings) : Type 0 where
   pub shape : HasShape relations c
-  pub rows : (rel attr ent : ℕ) (r : Relation) → slice_get relations rel ≡ Some r → All (λ row. row.0 < length r.rows) (ranking_of c rel attr ent)
+  pub rows : (rel attr ent : ℕ) (r : Relation) → slice_get relations rel ≡ Some r
+      → All (λ row. row.0 < length r.rows) (ranking_of c rel attr ent)
 
-rankings_of : (relations : List Relation) (c : Rankings) → AreOfRelations relations c → (rel : ℕ) (r : Relation) → slice_get relations rel ≡ Some r
+rankings_of : (relations : List Relation) (c : Rankings) → AreOfRelations relations c → (rel : ℕ) (r : Relation)
+    → slice_get relations rel ≡ Some r
     → AreRankingsOf r (get_or c rel [])
 rankings_of relations c are rel r at = record {
   many = are.shape.per_attr rel r at;
@@ -76,7 +78,8 @@ ranking_tree relations rel attr ent rows = record {
 
 -- a ranking of a place that has no row yet
 ranks : (relations : List Relation) (c : Rankings) (t : RankingTree) (p : Place) (rows : List RowId)
-    → place_named relations t.relation t.attr t.entity ≡ Some p → ranking_of c p.rel p.attr p.ent ≡ [] → rows_named p.relation t.rows ≡ Some rows
+    → place_named relations t.relation t.attr t.entity ≡ Some p → ranking_of c p.rel p.attr p.ent ≡ []
+    → rows_named p.relation t.rows ≡ Some rows
     → ranked_with relations c t ≡ Ok (with_ranking c p.rel p.attr p.ent rows)
 ranks relations c t p rows named free found = rw (named, free, found) refl
 
@@ -86,17 +89,21 @@ record HasLists (rel attr : ℕ) (put : List (List RowId) → Rankings) : Type 0
   written : (lists others : List (List RowId)) → with_lists (put lists) rel attr others ≡ put others
 
 -- the list of one entity, where those of the entities before it are put
-list_ranked : (relations : List Relation) (rel attr ent : ℕ) (r : Relation) (put : List (List RowId) → Rankings) (front : List (List RowId))
-    (list : List RowId) (rest : List (List RowId)) → AreRelations relations → slice_get relations rel ≡ Some r → attr < length r.attrs → ent < length r.entities
+list_ranked : (relations : List Relation) (rel attr ent : ℕ) (r : Relation) (put : List (List RowId) → Rankings)
+    (front : List (List RowId))
+    (list : List RowId) (rest : List (List RowId)) → AreRelations relations → slice_get relations rel ≡ Some r
+    → attr < length r.attrs → ent < length r.entities
     → HasLists rel attr put → length front ≡ ent → AreRowsOf r list
     → ranked_by relations (ranking_trees relations rel attr ent list) (put (front ++ [] ∷ rest)) ≡ Ok (put (front ++ list ∷ rest))
 list_ranked relations rel attr ent r put front [] rest are at in_attrs in_entities hole before rows = refl
 list_ranked relations rel attr ent r put front (row ∷ list) rest are at in_attrs in_entities hole before rows =
     let now = put (front ++ [] ∷ rest) in
     let free : ranking_of now rel attr ent ≡ [] =
-    ap (λ (lists : List (List RowId)). get_or lists ent []) (hole.read (front ++ [] ∷ rest)) ∙ get_or_at front [] rest [] ent before in
+    ap (λ (lists : List (List RowId)). get_or lists ent []) (hole.read (front ++ [] ∷ rest)) ∙ get_or_at front []
+    rest [] ent before in
     let ranked = ranks relations now (ranking_tree relations rel attr ent (row ∷ list))
-    (record { relation = r; rel = rel; attr = attr; ent = ent }) (row ∷ list) (place_found relations rel attr ent r are at in_attrs in_entities)
+    (record { relation = r; rel = rel; attr = attr; ent = ent }) (row ∷ list)
+    (place_found relations rel attr ent r are at in_attrs in_entities)
     free (rows_found relations rel (row ∷ list) r are at rows) in
     let put_here : with_ranking now rel attr ent (row ∷ list) ≡ put (front ++ (row ∷ list) ∷ rest) =
     ap (λ (lists : List (List RowId)). with_lists now rel attr (set lists ent (row ∷ list))) (hole.read (front ++ [] ∷ rest))
@@ -107,19 +114,25 @@ list_ranked relations rel attr ent r put front (row ∷ list) rest are at in_att
 -- ---- all of them
 
 -- the lists of one attribute
-lists_ranked : (relations : List Relation) (rel attr ent : ℕ) (r : Relation) (put : List (List RowId) → Rankings) (front lists : List (List RowId))
+lists_ranked : (relations : List Relation) (rel attr ent : ℕ) (r : Relation) (put : List (List RowId) → Rankings)
+    (front lists : List (List RowId))
     → AreRelations relations → slice_get relations rel ≡ Some r → attr < length r.attrs → ent + length lists ≡ length r.entities
     → HasLists rel attr put → length front ≡ ent → All (AreRowsOf r) lists
-    → ranked_by relations (entity_trees relations rel attr ent lists) (put (front ++ replicate (length lists) [])) ≡ Ok (put (front ++ lists))
+    → ranked_by relations (entity_trees relations rel attr ent lists) (put (front ++ replicate (length lists) [])) ≡
+    Ok (put (front ++ lists))
 lists_ranked relations rel attr ent r put front [] are at in_attrs many hole before rows = refl
 lists_ranked relations rel attr ent r put front (list ∷ lists) are at in_attrs many hole before rows =
     let blanks = replicate (length lists) [] in
-    let first = list_ranked relations rel attr ent r put front list blanks are at in_attrs (omega arith) hole before (All-head (AreRowsOf r) list lists rows) in
+    let first = list_ranked relations rel attr ent r put front list blanks are at in_attrs (omega arith) hole before
+    (All-head (AreRowsOf r) list lists rows) in
     let longer : length (front ++ list ∷ []) ≡ ent + 1 = omega (arith, length_push front list) in
-    let rest = lists_ranked relations rel attr (ent + 1) r put (front ++ list ∷ []) lists are at in_attrs (omega arith) hole longer (All-tail (AreRowsOf r) list lists rows) in
-    ranked_append relations (ranking_trees relations rel attr ent list) (entity_trees relations rel attr (ent + 1) lists) (put (front ++ [] ∷ blanks))
+    let rest = lists_ranked relations rel attr (ent + 1) r put (front ++ list ∷ []) lists are at in_attrs
+    (omega arith) hole longer (All-tail (AreRowsOf r) list lists rows) in
+    ranked_append relations (ranking_trees relations rel attr ent list)
+    (entity_trees relations rel attr (ent + 1) lists) (put (front ++ [] ∷ blanks))
     ∙ ap (λ o. and_then o (ranked_by relations (entity_trees relations rel attr (ent + 1) lists))) first
-    ∙ ap (λ (ls : List (List RowId)). ranked_by relations (entity_trees relations rel attr (ent + 1) lists) (put ls)) (sym (append_assoc front (list ∷ []) blanks))
+    ∙ ap (λ (ls : List (List RowId)). ranked_by relations (entity_trees relations rel attr (ent + 1) lists) (put ls))
+    (sym (append_assoc front (list ∷ []) blanks))
     ∙ rest ∙ ap (λ (ls : List (List RowId)). Ok (put ls)) (append_assoc front (list ∷ []) lists)
 
 -- rankings that have any lists at a relation
@@ -128,35 +141,44 @@ record HasAttrs (rel : ℕ) (put : List (List (List RowId)) → Rankings) : Type
   written : (attrs others : List (List (List RowId))) → set (put attrs) rel others ≡ put others
 
 -- and so any lists at an attribute of it
-has_lists : (rel attr : ℕ) (put : List (List (List RowId)) → Rankings) (front rest : List (List (List RowId))) → HasAttrs rel put → length front ≡ attr
+has_lists : (rel attr : ℕ) (put : List (List (List RowId)) → Rankings) (front rest : List (List (List RowId)))
+    → HasAttrs rel put → length front ≡ attr
     → HasLists rel attr (λ lists. put (front ++ lists ∷ rest))
 has_lists rel attr put front rest hole before = record {
   read = λ lists.
-      ap (λ (attrs : List (List (List RowId))). get_or attrs attr []) (hole.read (front ++ lists ∷ rest)) ∙ get_or_at front lists rest [] attr before;
+      ap (λ (attrs : List (List (List RowId))). get_or attrs attr []) (hole.read (front ++ lists ∷ rest))
+      ∙ get_or_at front lists rest [] attr before;
   written = λ lists others.
-      ap (λ (attrs : List (List (List RowId))). set (put (front ++ lists ∷ rest)) rel (set attrs attr others)) (hole.read (front ++ lists ∷ rest))
+      ap (λ (attrs : List (List (List RowId))). set (put (front ++ lists ∷ rest)) rel (set attrs attr others))
+      (hole.read (front ++ lists ∷ rest))
       ∙ hole.written (front ++ lists ∷ rest) (set (front ++ lists ∷ rest) attr others)
       ∙ ap put (set_at front lists rest others attr before);
 }
 
 -- the lists of one relation
-attrs_ranked : (relations : List Relation) (rel attr : ℕ) (r : Relation) (put : List (List (List RowId)) → Rankings) (front attrs : List (List (List RowId)))
+attrs_ranked : (relations : List Relation) (rel attr : ℕ) (r : Relation) (put : List (List (List RowId)) → Rankings)
+    (front attrs : List (List (List RowId)))
     → AreRelations relations → slice_get relations rel ≡ Some r → attr + length attrs ≡ length r.attrs
     → HasAttrs rel put → length front ≡ attr → All (AreListsOf r) attrs
-    → ranked_by relations (attr_trees relations rel attr attrs) (put (front ++ blank_rankings (length attrs) (length r.entities))) ≡ Ok (put (front ++ attrs))
+    → ranked_by relations (attr_trees relations rel attr attrs)
+    (put (front ++ blank_rankings (length attrs) (length r.entities))) ≡ Ok (put (front ++ attrs))
 attrs_ranked relations rel attr r put front [] are at many hole before each = refl
 attrs_ranked relations rel attr r put front (lists ∷ attrs) are at many hole before each =
     let blanks = blank_rankings (length attrs) (length r.entities) in
     let here = All-head (AreListsOf r) lists attrs each in
-    let first = lists_ranked relations rel attr 0 r (λ ls. put (front ++ ls ∷ blanks)) [] lists are at (omega arith) (omega (arith, here.many))
+    let first = lists_ranked relations rel attr 0 r (λ ls. put (front ++ ls ∷ blanks)) [] lists are at (omega arith)
+    (omega (arith, here.many))
     (has_lists rel attr put front blanks hole before) refl here.rows in
     let longer : length (front ++ lists ∷ []) ≡ attr + 1 = omega (arith, length_push front lists) in
-    let rest = attrs_ranked relations rel (attr + 1) r put (front ++ lists ∷ []) attrs are at (omega arith) hole longer (All-tail (AreListsOf r) lists attrs each) in
-    ranked_append relations (entity_trees relations rel attr 0 lists) (attr_trees relations rel (attr + 1) attrs) (put (front ++ blank_lists (length r.entities) ∷ blanks))
+    let rest = attrs_ranked relations rel (attr + 1) r put (front ++ lists ∷ []) attrs are at (omega arith) hole
+    longer (All-tail (AreListsOf r) lists attrs each) in
+    ranked_append relations (entity_trees relations rel attr 0 lists) (attr_trees relations rel (attr + 1) attrs)
+    (put (front ++ blank_lists (length r.entities) ∷ blanks))
     ∙ ap (λ n. and_then (ranked_by relations (entity_trees relations rel attr 0 lists) (put (front ++ blank_lists n ∷ blanks)))
     (ranked_by relations (attr_trees relations rel (attr + 1) attrs))) (sym here.many)
     ∙ ap (λ o. and_then o (ranked_by relations (attr_trees relations rel (attr + 1) attrs))) first
-    ∙ ap (λ (ls : List (List (List RowId))). ranked_by relations (attr_trees relations rel (attr + 1) attrs) (put ls)) (sym (append_assoc front (lists ∷ []) blanks))
+    ∙ ap (λ (ls : List (List (List RowId))). ranked_by relations (attr_trees relations rel (attr + 1) attrs)
+    (put ls)) (sym (append_assoc front (lists ∷ []) blanks))
     ∙ rest ∙ ap (λ (ls : List (List (List RowId))). Ok (put ls)) (append_assoc front (lists ∷ []) attrs)
 
 -- rankings have any lists at the relation of a place
@@ -167,9 +189,11 @@ has_attrs rel front rest before = record {
 }
 
 -- the lists of the relations from one on
-relations_ranked : (relations : List Relation) (rel : ℕ) (front : Rankings) (rs : List Relation) (c : Rankings) → AreRelations relations
+relations_ranked : (relations : List Relation) (rel : ℕ) (front : Rankings) (rs : List Relation) (c : Rankings)
+    → AreRelations relations
     → length front ≡ rel → length c ≡ length rs
-    → ((k : ℕ) (r : Relation) → slice_get rs k ≡ Some r → (slice_get relations (rel + k) ≡ Some r) × AreRankingsOf r (get_or c k []))
+    → ((k : ℕ) (r : Relation) → slice_get rs k ≡ Some r → (slice_get relations (rel + k) ≡ Some r) × AreRankingsOf r
+    (get_or c k []))
     → ranked_by relations (rankings_trees relations rel c) (front ++ blank_of rs) ≡ Ok (front ++ c)
 relations_ranked relations rel front [] [] are before many each = refl
 relations_ranked relations rel front [] (attrs ∷ c) are before many each = absurd (omega arith)
@@ -180,16 +204,20 @@ relations_ranked relations rel front (r ∷ rs) (attrs ∷ c) are before many ea
     let own : AreRankingsOf r attrs = here.1 in
     let same : rel + 0 ≡ rel = omega arith in
     let at : slice_get relations rel ≡ Some r = subst (λ n. slice_get relations n ≡ Some r) same here.0 in
-    let first = attrs_ranked relations rel 0 r (λ ls. front ++ ls ∷ blanks) [] attrs are at (omega (arith, own.many)) (has_attrs rel front blanks before) refl own.lists in
+    let first = attrs_ranked relations rel 0 r (λ ls. front ++ ls ∷ blanks) [] attrs are at (omega (arith, own.many))
+    (has_attrs rel front blanks before) refl own.lists in
     let longer : length (front ++ attrs ∷ []) ≡ rel + 1 = omega (arith, length_push front attrs) in
     let moved : (k : ℕ) → rel + suc k ≡ rel + 1 + k = λ k. omega arith in
     let rest = relations_ranked relations (rel + 1) (front ++ attrs ∷ []) rs c are longer (omega arith)
     (λ k q at. (subst (λ n. slice_get relations n ≡ Some q) (moved k) (each (suc k) q at).0, (each (suc k) q at).1)) in
-    ranked_append relations (attr_trees relations rel 0 attrs) (rankings_trees relations (rel + 1) c) (front ++ blank_rankings (length r.attrs) (length r.entities) ∷ blanks)
-    ∙ ap (λ n. and_then (ranked_by relations (attr_trees relations rel 0 attrs) (front ++ blank_rankings n (length r.entities) ∷ blanks))
+    ranked_append relations (attr_trees relations rel 0 attrs) (rankings_trees relations (rel + 1) c)
+    (front ++ blank_rankings (length r.attrs) (length r.entities) ∷ blanks)
+    ∙ ap (λ n. and_then (ranked_by relations (attr_trees relations rel 0 attrs)
+    (front ++ blank_rankings n (length r.entities) ∷ blanks))
     (ranked_by relations (rankings_trees relations (rel + 1) c))) (sym own.many)
     ∙ ap (λ o. and_then o (ranked_by relations (rankings_trees relations (rel + 1) c))) first
-    ∙ ap (λ (ls : Rankings). ranked_by relations (rankings_trees relations (rel + 1) c) ls) (sym (append_assoc front (attrs ∷ []) blanks))
+    ∙ ap (λ (ls : Rankings). ranked_by relations (rankings_trees relations (rel + 1) c) ls)
+    (sym (append_assoc front (attrs ∷ []) blanks))
     ∙ rest ∙ ap (λ (ls : Rankings). Ok ls) (append_assoc front (attrs ∷ []) c)
 
 -- a completion is what its tree says

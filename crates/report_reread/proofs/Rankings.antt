@@ -25,7 +25,8 @@ use Rattle.report_reread.proofs.Names.{colon, less, like_attribute, like_entity,
 -- ---- the rows of a ranking
 
 like_further : (relations : List Relation) → All HasTextNames relations → (rel : ℕ) (rows : List RowId)
-    → IsText (IsLike (Many SpellsFurtherRow) (map unlined_name) (map (row_tree relations rel) rows)) (many_pieces (further_row_pieces relations rel) rows)
+    → IsText (IsLike (Many SpellsFurtherRow) (map unlined_name) (map (row_tree relations rel) rows))
+    (many_pieces (further_row_pieces relations rel) rows)
 like_further relations texts rel [] = like_none
 like_further relations texts rel (row ∷ rows) =
     like_next (like_after less (like_row relations rel row texts)) (like_further relations texts rel rows)
@@ -34,8 +35,10 @@ like_further relations texts rel (row ∷ rows) =
 abbrev pub IsShort : List RowId → Type 0
 IsShort list = length list ≤ 4294967294
 
-like_rows : (relations : List Relation) → All HasTextNames relations → (rel : ℕ) (row : RowId) (rows : List RowId) → IsShort (row ∷ rows)
-    → IsText (IsLike SpellsRows (map unlined_name) (map (row_tree relations rel) (row ∷ rows))) (row_pieces relations rel row ++ many_pieces (further_row_pieces relations rel) rows)
+like_rows : (relations : List Relation) → All HasTextNames relations → (rel : ℕ) (row : RowId) (rows : List RowId)
+    → IsShort (row ∷ rows)
+    → IsText (IsLike SpellsRows (map unlined_name) (map (row_tree relations rel) (row ∷ rows)))
+    (row_pieces relations rel row ++ many_pieces (further_row_pieces relations rel) rows)
 like_rows relations texts rel row rows short =
     let count : length (map (row_tree relations rel) rows) ≡ length rows = length-map rows (row_tree relations rel) in
     like_made (λ (x : Named × List Named). x.0 ∷ x.1) (λ x tokens s. s) (λ x. refl)
@@ -63,7 +66,14 @@ like_ranking relations texts rel attr ent [] short = like_none
 like_ranking relations texts rel attr ent (row ∷ rows) short =
     like_one
     (like_made
-    (λ (x : ℕ × ((Named × Named) × (Named × List Named))). record { line = x.0; relation = x.1.0.0; attr = x.1.0.1; entity = x.1.1.0; rows = x.1.1.1 })
+    (λ (x : ℕ × ((Named × Named) × (Named × List Named))). record {
+      line = x.0;
+      relation = x.1.0.0;
+      attr =
+          x.1.0.1;
+      entity = x.1.1.0;
+      rows = x.1.1.1;
+    })
     (λ x tokens s. s) (λ x. refl)
     (like_both (like_word (codes "ranking") (omega arith) refl)
     (like_both (like_attribute relations rel attr texts)
@@ -71,21 +81,24 @@ like_ranking relations texts rel attr ent (row ∷ rows) short =
     (like_both (like_entity relations rel ent texts)
     (like_after colon (like_before (like_rows relations texts rel row rows short) semicolon)))))))
 
-like_entities : (relations : List Relation) → All HasTextNames relations → (rel attr ent : ℕ) (lists : List (List RowId)) → All IsShort lists
+like_entities : (relations : List Relation) → All HasTextNames relations → (rel attr ent : ℕ)
+    (lists : List (List RowId)) → All IsShort lists
     → AreRankings (entity_trees relations rel attr ent lists) (entity_rankings relations rel attr ent lists)
 like_entities relations texts rel attr ent [] h = like_none
 like_entities relations texts rel attr ent (list ∷ lists) h =
     like_more (like_ranking relations texts rel attr ent list (All-head IsShort list lists h))
     (like_entities relations texts rel attr (ent + 1) lists (All-tail IsShort list lists h))
 
-like_attrs : (relations : List Relation) → All HasTextNames relations → (rel attr : ℕ) (more : List (List (List RowId))) → All (All IsShort) more
+like_attrs : (relations : List Relation) → All HasTextNames relations →
+    (rel attr : ℕ) (more : List (List (List RowId))) → All (All IsShort) more
     → AreRankings (attr_trees relations rel attr more) (attr_rankings relations rel attr more)
 like_attrs relations texts rel attr [] h = like_none
 like_attrs relations texts rel attr (lists ∷ more) h =
     like_more (like_entities relations texts rel attr 0 lists (All-head (All IsShort) lists more h))
     (like_attrs relations texts rel (attr + 1) more (All-tail (All IsShort) lists more h))
 
-pub like_rankings : (relations : List Relation) → All HasTextNames relations → (rel : ℕ) (c : Rankings) → All (All (All IsShort)) c
+pub like_rankings : (relations : List Relation) → All HasTextNames relations → (rel : ℕ) (c : Rankings)
+    → All (All (All IsShort)) c
     → AreRankings (rankings_trees relations rel c) (rankings_pieces relations rel c)
 like_rankings relations texts rel [] h = like_none
 like_rankings relations texts rel (lists ∷ more) h =
@@ -99,7 +112,8 @@ count_entities : (relations : List Relation) (rel attr ent : ℕ) (lists : List 
 count_entities relations rel attr ent [] = refl
 count_entities relations rel attr ent ([] ∷ lists) = count_entities relations rel attr (ent + 1) lists
 count_entities relations rel attr ent ((row ∷ rows) ∷ lists) =
-    let more : length (entity_trees relations rel attr (ent + 1) lists) ≡ ranked_lists lists = count_entities relations rel attr (ent + 1) lists in
+    let more : length (entity_trees relations rel attr (ent + 1) lists) ≡ ranked_lists lists =
+    count_entities relations rel attr (ent + 1) lists in
     omega arith
 
 count_attrs : (relations : List Relation) (rel attr : ℕ) (more : List (List (List RowId)))
@@ -109,7 +123,8 @@ count_attrs relations rel attr (lists ∷ more) =
     length-append (entity_trees relations rel attr 0 lists) (attr_trees relations rel (attr + 1) more)
     ∙ ap₂ (λ (m n : ℕ). m + n) (count_entities relations rel attr 0 lists) (count_attrs relations rel (attr + 1) more)
 
-pub count_rankings : (relations : List Relation) (rel : ℕ) (c : Rankings) → length (rankings_trees relations rel c) ≡ ranked_places c
+pub count_rankings : (relations : List Relation) (rel : ℕ) (c : Rankings) → length (rankings_trees relations rel c) ≡
+    ranked_places c
 count_rankings relations rel [] = refl
 count_rankings relations rel (lists ∷ more) =
     length-append (attr_trees relations rel 0 lists) (rankings_trees relations (rel + 1) more)

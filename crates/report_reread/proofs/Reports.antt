@@ -33,7 +33,8 @@ abbrev log_tree : Log → ReadLog
 log_tree log = record { log = log; statements = []; steps = [] }
 
 like_log : Parts → (log : Log) → IsWritable log → IsText (IsLike SpellsLogPart unlined_log (log_tree log)) (log_pieces log)
-like_log parts log h = text_wider (text_log parts log h) (λ tokens k. record { tree = k.0; spelled = k.2; same = ap log_tree k.1 })
+like_log parts log h = text_wider (text_log parts log h)
+    (λ tokens k. record { tree = k.0; spelled = k.2; same = ap log_tree k.1 })
 
 -- what follows the head of a report, part by part
 abbrev parts_pieces : List Relation → Report → List Piece
@@ -43,13 +44,20 @@ parts_pieces relations r =
 
 -- the head of a report before such pieces
 abbrev after_head : List Piece → List Piece
-after_head ps = word (codes "currency") ++ word (codes "report") ++ word (codes "2") ++ symbol (codes ";") ++ word (codes "verdict") ++ ps
+after_head ps = word (codes "currency") ++ word (codes "report") ++ word (codes "2") ++ symbol (codes ";")
+    ++ word (codes "verdict") ++ ps
 
 like_parts : Parts → (relations : List Relation) (r : Report) → All HasTextNames relations → IsWritableReport relations r
     → IsText (IsLike SpellsReport unlined_report (tree_of relations r)) (after_head (parts_pieces relations r))
 like_parts parts relations r texts h =
     like_made
-    (λ (x : (ℕ × ClaimTree) × (List CompletionTree × ReadLog)). record { version = Second; verdict = record { line = x.0.0; claim = x.0.1 }; completions = x.1.0; log = x.1.1 })
+    (λ (x : (ℕ × ClaimTree) × (List CompletionTree × ReadLog)). record {
+      version = Second;
+      verdict =
+          record { line = x.0.0; claim = x.0.1 };
+      completions = x.1.0;
+      log = x.1.1;
+    })
     (λ x tokens s. s) (λ x. refl)
     (like_after (text_word (codes "currency") (omega arith) refl)
     (like_after (text_word (codes "report") (omega arith) refl)
@@ -71,12 +79,14 @@ like_report : Parts → (relations : List Relation) (r : Report) → All HasText
     → IsText (IsLike SpellsReport unlined_report (tree_of relations r)) (report_pieces relations r)
 like_report parts relations r texts h =
     subst (λ (ps : List Piece). IsText (IsLike SpellsReport unlined_report (tree_of relations r)) (after_head ps))
-    (joined (claim_pieces relations r.verdict) (completions_pieces relations r.completions) (log_pieces r.log) _ _) (like_parts parts relations r texts h)
+    (joined (claim_pieces relations r.verdict) (completions_pieces relations r.completions) (log_pieces r.log) _ _)
+    (like_parts parts relations r texts h)
 
 pub spelled : Parts → (relations : List Relation) (r : Report) → All HasTextNames relations → IsWritableReport relations r
     → (t : ReportTree) × ReadsReportText (text_of (report_pieces relations r)) t × (unlined_report t ≡ tree_of relations r)
 spelled parts relations r texts h =
-    let t : IsText (IsLike SpellsReport unlined_report (tree_of relations r)) (report_pieces relations r) = like_report parts relations r texts h in
+    let t : IsText (IsLike SpellsReport unlined_report (tree_of relations r)) (report_pieces relations r) =
+    like_report parts relations r texts h in
     let found : HasTokens (report_pieces relations r) = pieces_found (report_pieces relations r) t.whole in
     let read : IsLike SpellsReport unlined_report (tree_of relations r) found.lexemes = t.read found.lexemes found.same in
     (read.tree, record { utf8 = found.utf8; lexemes = found.lexemes; tokens = found.tokens; spelled = read.spelled }, read.same)

@@ -22,11 +22,13 @@ use Rattle.report_reread.proofs.Later.{completions_of}
 use Rattle.report_reread.proofs.Unlined.{claim_too, completions_too}
 
 -- a log that is well formed is what a report has
-log_of : (relations : List Relation) (t : ReadLog) (log : Log) → t.log ≡ log → first_fault relations log ≡ None → log_said relations t ≡ Ok log
+log_of : (relations : List Relation) (t : ReadLog) (log : Log) → t.log ≡ log → first_fault relations log ≡ None
+    → log_said relations t ≡ Ok log
 log_of relations t log is well_formed = rw (is, well_formed) refl
 
 -- what the parts of a tree say is what the tree says
-says_parts : (relations : List Relation) (t : ReportTree) (r : Report) → claim_said relations t.verdict.line t.verdict.claim ≡ Ok r.verdict
+says_parts : (relations : List Relation) (t : ReportTree) (r : Report) → claim_said relations t.verdict.line
+    t.verdict.claim ≡ Ok r.verdict
     → all_completed t.version relations t.completions ≡ Ok r.completions → log_said relations t.log ≡ Ok r.log
     → said relations t ≡ Ok (report_of t r.verdict r.completions r.log)
 unfolding said
@@ -38,9 +40,14 @@ says relations r are of t is =
     let version : t.version ≡ Second = ap (λ (q : ReportTree). q.version) is in
     let log : t.log.log ≡ r.log = ap (λ (q : ReportTree). q.log.log) is in
     let claim = claim_too relations 0 t.verdict.line t.verdict.claim r.verdict
-    (subst (λ (c : ClaimTree). claim_said relations 0 c ≡ Ok r.verdict) (sym (ap (λ (q : ReportTree). q.verdict.claim) is)) (claim_of relations 0 r.verdict are of.verdict)) in
+    (subst (λ (c : ClaimTree). claim_said relations 0 c ≡ Ok r.verdict)
+    (sym (ap (λ (q : ReportTree). q.verdict.claim) is)) (claim_of relations 0 r.verdict are of.verdict)) in
     let second = completions_too relations t.completions r.completions
-    (subst (λ (cs : List CompletionTree). all_completed Second relations cs ≡ Ok r.completions) (sym (ap (λ (q : ReportTree). q.completions) is))
+    (subst (λ (cs : List CompletionTree). all_completed Second relations cs ≡ Ok r.completions)
+    (sym (ap (λ (q : ReportTree). q.completions) is))
     (completions_of relations r.completions are of.completions.each of.cover)) in
-    let completions = subst (λ (v : Version). all_completed v relations t.completions ≡ Ok r.completions) (sym version) second in
-    ((report_of t r.verdict r.completions r.log).lines, says_parts relations t r claim completions (log_of relations t.log r.log log of.well_formed))
+    let completions = subst (λ (v : Version). all_completed v relations t.completions ≡ Ok r.completions) (sym version) second in (
+      (report_of t r.verdict r.completions r.log).lines,
+      says_parts relations t r claim completions
+          (log_of relations t.log r.log log of.well_formed),
+    )

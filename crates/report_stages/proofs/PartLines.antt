@@ -57,18 +57,22 @@ values_claimed : (items item : ℕ) (rel : RelId) (ent : EntId) (attr : ℕ) (va
     → All (IsClaimed items) (value_needs item rel ent attr values)
 values_claimed items item rel ent attr [] below = All-nil (IsClaimed items)
 values_claimed items item rel ent attr (v ∷ values) below =
-    All-cons (IsClaimed items) _ (value_needs item rel ent (attr + 1) values) below (values_claimed items item rel ent (attr + 1) values below)
+    All-cons (IsClaimed items) _ (value_needs item rel ent (attr + 1) values) below
+    (values_claimed items item rel ent (attr + 1) values below)
 
 items_claimed : (items at : ℕ) (list : List Current) → at + length list ≤ items → All (IsClaimed items) (item_needs at list)
 items_claimed items at [] few = All-nil (IsClaimed items)
 items_claimed items at (item ∷ list) few =
     All-append (IsClaimed items) (value_needs at item.rel item.ent 0 item.values) (item_needs (at + 1) list)
-    (values_claimed items at item.rel item.ent 0 item.values (omega (arith, few))) (items_claimed items (at + 1) list (omega (arith, few)))
+    (values_claimed items at item.rel item.ent 0 item.values (omega (arith, few)))
+    (items_claimed items (at + 1) list (omega (arith, few)))
 
-answers_claimed : (items at : ℕ) (tuples : List (List Value)) → at + length tuples ≤ items → All (IsClaimed items) (answer_needs at tuples)
+answers_claimed : (items at : ℕ) (tuples : List (List Value)) → at + length tuples ≤ items → All (IsClaimed items)
+    (answer_needs at tuples)
 answers_claimed items at [] few = All-nil (IsClaimed items)
 answers_claimed items at (tuple ∷ tuples) few =
-    All-cons (IsClaimed items) _ (answer_needs (at + 1) tuples) (omega (arith, few)) (answers_claimed items (at + 1) tuples (omega (arith, few)))
+    All-cons (IsClaimed items) _ (answer_needs (at + 1) tuples) (omega (arith, few))
+    (answers_claimed items (at + 1) tuples (omega (arith, few)))
 
 -- each claim of a verdict is made by it or by one of its items
 needs_claimed : (q : Question) (v : Verdict) → All (IsClaimed (item_count v)) (needs_of q v)
@@ -109,7 +113,8 @@ all_at : {A : Type 0} (P : A → Type 0) (xs : List A) (i : ℕ) (x : A) → All
 all_at P xs i x all at = subst P (get_or_from_slice_get xs i x x at) (all i x (slice_get_within xs i x at))
 
 -- the part of the first claim that is not derived
-claimed_part : (s : Spec) (q : Question) (r : Report) (p : Part) (place : ℕ) → IsFirstUnderived s q r p place → IsOfVerdict (item_count r.verdict) p
+claimed_part : (s : Spec) (q : Question) (r : Report) (p : Part) (place : ℕ) → IsFirstUnderived s q r p place
+    → IsOfVerdict (item_count r.verdict) p
 claimed_part s q r p place first =
     subst (IsOfVerdict (item_count r.verdict)) first.of_part
     (all_at (IsClaimed (item_count r.verdict)) (needs_of q r.verdict) place first.need (needs_claimed q r.verdict) first.claimed)
@@ -146,7 +151,8 @@ lacking_part s q r (part.Step place) missing.WrongCount first = absurd first
 -- ---- steps
 
 -- the step that fails is the one that its fault names
-failing_step : (s : Spec) (posed : Posed) (statements : List Statement) (earlier : List (List Lit)) (at : ℕ) (st : Step) (fault : LogFault) (named : ℕ)
+failing_step : (s : Spec) (posed : Posed) (statements : List Statement) (earlier : List (List Lit)) (at : ℕ)
+    (st : Step) (fault : LogFault) (named : ℕ)
     → FailsAt s posed statements earlier at st fault → step_of_fault fault ≡ Some named → named ≡ at
 failing_step s posed statements earlier at (step.Axiom label lits) (log.NotAnAxiom n) named fails is = let same = fails.0 in cc
 failing_step s posed statements earlier at (step.Axiom label lits) (log.NotDerived n place) named fails is = absurd fails
@@ -157,8 +163,10 @@ failing_step s posed statements earlier at (step.OnDemand label lits) (log.NotDe
 failing_step s posed statements earlier at (step.OnDemand label lits) (log.UnknownHint n) named fails is = absurd fails
 failing_step s posed statements earlier at (step.OnDemand label lits) log.NoMemory named fails is = absurd fails
 failing_step s posed statements earlier at (step.Learn lits hints counted) (log.NotAnAxiom n) named fails is = absurd fails
-failing_step s posed statements earlier at (step.Learn lits hints counted) (log.NotDerived n place) named fails is = let same = fails.0 in cc
-failing_step s posed statements earlier at (step.Learn lits hints counted) (log.UnknownHint n) named fails is = let same = fails.0 in cc
+failing_step s posed statements earlier at (step.Learn lits hints counted) (log.NotDerived n place) named fails is =
+    let same = fails.0 in cc
+failing_step s posed statements earlier at (step.Learn lits hints counted) (log.UnknownHint n) named fails is =
+    let same = fails.0 in cc
 failing_step s posed statements earlier at (step.Learn lits hints counted) log.NoMemory named fails is = absurd fails
 
 step_there : (s : Spec) (query : Option Query) (l : Log) (fault : LogFault) (named : ℕ) → IsFirstFault s query l fault
@@ -169,7 +177,8 @@ step_there s query l fault named first is =
 
 -- ---- the line
 
-verdict_line : (r : Report) (lines : Lines) (p : Part) → AreLinesOf r lines → IsOfVerdict (item_count r.verdict) p → HasPart lines p
+verdict_line : (r : Report) (lines : Lines) (p : Part) → AreLinesOf r lines → IsOfVerdict (item_count r.verdict) p
+    → HasPart lines p
 verdict_line r lines part.Verdict are of = tt
 verdict_line r lines (part.Item place) are of = omega (arith, are.items, of)
 verdict_line r lines (part.Completion place) are of = absurd of

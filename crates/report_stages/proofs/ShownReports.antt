@@ -13,7 +13,8 @@ use Rattle.report_stages.specs.Judged.{IsReportRead}
 use Rattle.report_stages.specs.Shown.{IsReportShown}
 
 -- the report and the job together
-pub report_shown : (texts : Option (List (List ℕ × List ℕ))) (s : Spec) (q : Question) (name : List ℕ) (read : ReadReport) (r : Result Kind Trouble)
+pub report_shown : (texts : Option (List (List ℕ × List ℕ))) (s : Spec) (q : Question) (name : List ℕ)
+    (read : ReadReport) (r : Result Kind Trouble)
     → IfSome texts (λ told. IsReportRead told s.relations name (Ok read)) → OnOk r (ShowsVerdict s q read.report)
     → IfOk r (λ kind. kind ≡ kind_of read.report.verdict)
     → IfOk r (λ kind. is_decided kind ≡ true → IsRight s q read.report.verdict)

@@ -11,7 +11,8 @@ use Rattle.report_stages.specs.Judged.{IsReportRead}
 
 -- the document of this name is read as a report that shows a verdict of this kind on a specification and a question; and the
 -- verdict is right, if it is a decided one
-pub record IsReportShown (told : List (List ℕ × List ℕ)) (s : Spec) (question : Question) (name : List ℕ) (kind : Kind) : Type 0 where
+pub record IsReportShown (told : List (List ℕ × List ℕ)) (s : Spec) (question : Question) (name : List ℕ)
+    (kind : Kind) : Type 0 where
   pub read : ReadReport
   pub report_read : IsReportRead told s.relations name (Ok read)
   pub shown : ShowsVerdict s question read.report

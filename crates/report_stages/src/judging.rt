@@ -110,7 +110,8 @@ pub fn judge_document<S: Shelf>(
     ensures later { S.faults shelf.old ≤ S.faults shelf.new }
     ensures due { IsSettled result → IfSome (S.texts shelf.old) (λ told.
         Then (IsReportRead told spec.now.relations name.now) (IsJudged spec.now question.now name.now) result) }
-    ensures right { IfOk result (λ kind. IfSome (S.texts shelf.old) (λ told. IsReportShown told spec.now question.now name.now kind)) }
+    ensures right { IfOk result (λ kind. IfSome (S.texts shelf.old) (λ told. IsReportShown told spec.now question.now
+        name.now kind)) }
     ensures read_fault { IsReadFault result → Rose (S.faults shelf.old) (S.faults shelf.new) }
     ensures named { (n : List ℕ) → IsReadFaultOf result n → n ≡ name.now }
     ensures not_words { IfErr result (λ e. e ≢ Trouble.Words) }

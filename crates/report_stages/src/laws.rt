@@ -12,7 +12,8 @@ use report_verify::{first_unshown_is_not_shown, first_unshown_is_one};
 
 /// A law: a told document is read as one report on the relations of a specification, and a report has one judgement.
 pub fn one_judgement()
-    ensures reports { (told : List (List ℕ × List ℕ)) (relations : List Relation) (name : List ℕ) (a b : Result ReadReport Trouble)
+    ensures reports { (told : List (List ℕ × List ℕ)) (relations : List Relation) (name : List ℕ)
+        (a b : Result ReadReport Trouble)
         → IsReportRead told relations name a → IsReportRead told relations name b → a ≡ b }
     ensures judged { (s : Spec) (question : Question) (name : List ℕ) (r : ReadReport) (a b : Result Kind Trouble)
         → IsJudged s question name r a → IsJudged s question name r b → a ≡ b }

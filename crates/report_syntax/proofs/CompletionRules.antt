@@ -48,13 +48,15 @@ reads_rows =
     back
   where
     back : (rows : List Named) (tokens : List Lexeme) → SpellsRows rows tokens
-        → Image (λ (x : Named × List Named). put_all pushed (x.0 ∷ []) x.1) (λ (x : Named × List Named). SpellsName x.0 ⋅ UpTo 4294967293 SpellsFurtherRow x.1) rows tokens
+        → Image (λ (x : Named × List Named). put_all pushed (x.0 ∷ []) x.1)
+        (λ (x : Named × List Named). SpellsName x.0 ⋅ UpTo 4294967293 SpellsFurtherRow x.1) rows tokens
     back [] tokens h = absurd h
     back (row ∷ rows) tokens h = record { tree = (row, rows); is = all_rows row rows; spelled = h }
 
 rows_end : Ended ends_rows (is_symbol (codes ";"))
 rows_end [] t e = refl
-rows_end (row ∷ rows) t e = ended_at 4294967293 (is_symbol (codes "<")) rows t (apart Symbol (codes ";") Symbol (codes "<") refl t e)
+rows_end (row ∷ rows) t e = ended_at 4294967293 (is_symbol (codes "<")) rows t
+    (apart Symbol (codes ";") Symbol (codes "<") refl t e)
 
 reads_ranking : IsReader SpellsRanking always ranking_at
 unfolding ranking_at
@@ -64,7 +66,11 @@ reads_ranking =
     (after_symbol (codes ":") (before_symbol (codes ";") reads_rows rows_end))))))
     (λ x. record { line = x.0; relation = x.1.0.relation; attr = x.1.0.attr; entity = x.1.1.0; rows = x.1.1.1 }) always
     (λ a t. refl) (λ x tokens h. h)
-    (λ r tokens h. record { tree = (r.line, (record { relation = r.relation; attr = r.attr }, (r.entity, r.rows))); is = refl; spelled = h })
+    (λ r tokens h. record {
+      tree = (r.line, (record { relation = r.relation; attr = r.attr }, (r.entity, r.rows)));
+      is = refl;
+      spelled = h;
+    })
 
 begins_ranking : Begins (is_word (codes "ranking")) true SpellsRanking
 begins_ranking r tokens h = begins_word_on (codes "ranking") r.line _ tokens h
@@ -91,12 +97,14 @@ reads_completion =
     (λ a t. refl) (λ x tokens h. h) (λ c tokens h. record { tree = (c.line, c.rankings); is = refl; spelled = h })
 
 -- a completion begins with its word
-pub begins_completion : (test : Lexeme → Bool) → ((t : Lexeme) → is_word (codes "completion") t ≡ true → test t ≡ true) → Begins test true SpellsCompletion
+pub begins_completion : (test : Lexeme → Bool) → ((t : Lexeme) → is_word (codes "completion") t ≡ true
+    → test t ≡ true) → Begins test true SpellsCompletion
 begins_completion test goes c tokens h = begins_word_line (codes "completion") test true goes c.line _ tokens h
 
 -- a word that goes on with no ranking ends a completion
 completion_ends : (text : List ℕ) → bytes_eq text (codes "ranking") ≡ false → Ended ends_completion (is_word text)
-completion_ends text differs c t e = ended_at 4294967294 (is_word (codes "ranking")) c.rankings t (apart Word text Word (codes "ranking") differs t e)
+completion_ends text differs c t e = ended_at 4294967294 (is_word (codes "ranking")) c.rankings t
+    (apart Word text Word (codes "ranking") differs t e)
 
 -- what ends completions
 abbrev pub ends_completions : List CompletionTree → Lexeme → Bool

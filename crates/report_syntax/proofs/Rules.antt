@@ -34,7 +34,8 @@ reads_ended_word text = after_word text (reads_symbol (codes ";"))
 abbrev VersionBy : Version → List ℕ → Version → Language
 VersionBy v text = Image (λ (u : Unit {0}). v) (λ u. IsWord text)
 
-begins_version : (v : Version) (text : List ℕ) (test : Lexeme → Bool) (b : Bool) → ((t : Lexeme) → is_word text t ≡ true → test t ≡ b)
+begins_version : (v : Version) (text : List ℕ) (test : Lexeme → Bool) (b : Bool) →
+    ((t : Lexeme) → is_word text t ≡ true → test t ≡ b)
     → Begins test b (VersionBy v text)
 begins_version v text test b goes =
     begins_image (λ (u : Unit {0}). v) (λ u. IsWord text) test b (λ u tokens h. first_passes (is_word text) test b goes tokens h)
@@ -47,7 +48,8 @@ reads_second : IsReader (VersionBy Second (codes "2")) always second_at
 unfolding second_at
 reads_second = reads_mapped (reads_word (codes "2")) (λ u. Second) always (λ a t. refl)
 
-version_spelled : (v : Version) (tokens : List Lexeme) → Either (VersionBy First (codes "1")) (VersionBy Second (codes "2")) v tokens
+version_spelled : (v : Version) (tokens : List Lexeme) → Either (VersionBy First (codes "1"))
+    (VersionBy Second (codes "2")) v tokens
     → SpellsVersion v tokens
 version_spelled v tokens (inl h) = subst (λ (v : Version). SpellsVersion v tokens) h.is h.spelled
 version_spelled v tokens (inr h) = subst (λ (v : Version). SpellsVersion v tokens) h.is h.spelled
@@ -60,7 +62,8 @@ spelled_version Second tokens h = inr (record { tree = tt; is = refl; spelled = 
 reads_version : IsReader SpellsVersion always version_at
 unfolding version_at
 reads_version = reads_same
-    (reads_choose reads_first reads_second (is_word (codes "1")) (begins_version First (codes "1") (is_word (codes "1")) true (λ t e. e))
+    (reads_choose reads_first reads_second (is_word (codes "1"))
+    (begins_version First (codes "1") (is_word (codes "1")) true (λ t e. e))
     (begins_version Second (codes "2") (is_word (codes "1")) false (apart Word (codes "2") Word (codes "1") refl)))
     version_spelled spelled_version
 
@@ -94,7 +97,8 @@ LogAndEnd x = SpellsLogPart x.0 ⋅ SpellsEnd x.1
 
 reads_log_and_end : IsReader LogAndEnd always (both log_part_at (ended_word_at (codes "end")))
 reads_log_and_end =
-    reads_log_part_then (reads_ended_word (codes "end")) (is_word (codes "end")) (begins_end (is_word (codes "end")) (λ t e. e)) end_ends_log
+    reads_log_part_then (reads_ended_word (codes "end")) (is_word (codes "end"))
+    (begins_end (is_word (codes "end")) (λ t e. e)) end_ends_log
 
 begins_log_and_end : Begins after_completions true LogAndEnd
 begins_log_and_end =
@@ -105,7 +109,8 @@ begins_log_and_end =
 after_completions_apart : (text : List ℕ) → bytes_eq (codes "log") text ≡ false → bytes_eq (codes "end") text ≡ false
     → (t : Lexeme) → after_completions t ≡ true → is_word text t ≡ false
 after_completions_apart text log end t =
-    either_apart (is_word (codes "log") t) (is_word (codes "end") t) (is_word text t) (apart Word (codes "log") Word text log t) (apart Word (codes "end") Word text end t)
+    either_apart (is_word (codes "log") t) (is_word (codes "end") t) (is_word text t)
+    (apart Word (codes "log") Word text log t) (apart Word (codes "end") Word text end t)
 
 completions_end : Ended ends_completions after_completions
 completions_end cs t e =
@@ -136,7 +141,8 @@ begins_body x tokens h = by x.0 h.first
     by (c ∷ cs) k =
         let f : FirstIs after_verdict true h.front =
         up_to_begins 4294967294 SpellsCompletion after_verdict true
-        (begins_completion after_verdict (λ t e. or_first (is_word (codes "completion") t) (after_completions t) e)) c cs h.front k in
+        (begins_completion after_verdict (λ t e. or_first (is_word (codes "completion") t) (after_completions t) e))
+        c cs h.front k in
         record {
           token = f.token;
           rest = f.rest ++ h.rest;
@@ -144,7 +150,8 @@ begins_body x tokens h = by x.0 h.first
           answers = f.answers;
         }
 
-after_verdict_apart : (text : List ℕ) → bytes_eq (codes "completion") text ≡ false → bytes_eq (codes "log") text ≡ false → bytes_eq (codes "end") text ≡ false
+after_verdict_apart : (text : List ℕ) → bytes_eq (codes "completion") text ≡ false → bytes_eq (codes "log") text ≡
+    false → bytes_eq (codes "end") text ≡ false
     → (t : Lexeme) → after_verdict t ≡ true → is_word text t ≡ false
 after_verdict_apart text completion log end t =
     either_apart (is_word (codes "completion") t) (after_completions t) (is_word text t)
@@ -155,9 +162,11 @@ claim_ends Inconsistent t e = refl
 claim_ends Consistent t e = refl
 claim_ends Certain t e = refl
 claim_ends (NotCertain relation attr earlier later) t e = refl
-claim_ends (Same items) t e = ended_at 4294967294 (is_word (codes "current")) items t (after_verdict_apart (codes "current") refl refl refl t e)
+claim_ends (Same items) t e = ended_at 4294967294 (is_word (codes "current")) items t
+    (after_verdict_apart (codes "current") refl refl refl t e)
 claim_ends (NotSame relation attr entity) t e = refl
-claim_ends (Answers items) t e = ended_at 4294967294 (is_word (codes "answer")) items t (after_verdict_apart (codes "answer") refl refl refl t e)
+claim_ends (Answers items) t e = ended_at 4294967294 (is_word (codes "answer")) items t
+    (after_verdict_apart (codes "answer") refl refl refl t e)
 claim_ends (Undecided counted) t e = refl
 
 -- ---- reports

@@ -40,7 +40,8 @@ has_short_lists t tokens h =
 
 -- what holds of each step with fewer hints than 2^32 holds of the steps of a report's log: with `P` by these three cases, as "a
 -- step has fewer hints than 2^32" is said elsewhere
-pub few_hints : (P : Step → Type 0) → ((l : Label) (lits : List Lit) → P (Axiom l lits)) → ((l : Label) (lits : List Lit) → P (OnDemand l lits))
+pub few_hints : (P : Step → Type 0) → ((l : Label) (lits : List Lit) → P (Axiom l lits)) →
+    ((l : Label) (lits : List Lit) → P (OnDemand l lits))
     → ((lits : List Lit) (hints : List ℕ) (counted : Bool) → length hints < 2 ^ 32 → P (Learn lits hints counted))
     → (t : ReportTree) (tokens : List Lexeme) → SpellsReport t tokens → All P t.log.log.steps
 few_hints P at_axiom at_demand at_learn t tokens h =
@@ -48,6 +49,7 @@ few_hints P at_axiom at_demand at_learn t tokens h =
     log.few_hints P at_axiom at_demand at_learn t.log verdict.second.second.front verdict.second.second.first
 
 -- ... of a report that was read
-pub read_short : (source : List ℕ) (result : Result ReportTree TextFault) → IfOk result (ReadsReportText source) → IfOk result HasShortLists
+pub read_short : (source : List ℕ) (result : Result ReportTree TextFault) → IfOk result (ReadsReportText source)
+    → IfOk result HasShortLists
 read_short source (Ok t) h = has_short_lists t h.lexemes h.spelled
 read_short source (Err e) h = h

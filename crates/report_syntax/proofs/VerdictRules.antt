@@ -30,7 +30,8 @@ reads_current : IsReader SpellsCurrent always current_at
 unfolding current_at
 reads_current =
     reads_made
-    (reads_two (reads_word_on (codes "current")) (reads_two reads_name (reads_two reads_name (before_symbol (codes ";") reads_values (λ a t e. refl)))))
+    (reads_two (reads_word_on (codes "current"))
+    (reads_two reads_name (reads_two reads_name (before_symbol (codes ";") reads_values (λ a t e. refl)))))
     (λ x. record { line = x.0; relation = x.1.0; entity = x.1.1.0; values = x.1.1.1 }) always
     (λ a t. refl) (λ x tokens h. h)
     (λ c tokens h. record { tree = (c.line, (c.relation, (c.entity, c.values))); is = refl; spelled = h })
@@ -150,7 +151,8 @@ reads_not_certain =
 reads_not_same : IsReader (Case (codes "same") not_same_of NotSameParts) ends_claim not_same_at
 unfolding not_same_at
 reads_not_same =
-    reads_case (codes "same") (reads_two reads_attribute (after_word (codes "of") (before_symbol (codes ";") reads_name (λ a t e. refl))))
+    reads_case (codes "same") (reads_two reads_attribute
+    (after_word (codes "of") (before_symbol (codes ";") reads_name (λ a t e. refl))))
     not_same_of ends_claim (λ a t. refl)
 
 -- what is not so, after the word `not`
@@ -160,7 +162,8 @@ Denied = Either (Case (codes "certain") not_certain_of NotCertainParts) (Case (c
 reads_denied : IsReader Denied ends_claim denied_at
 unfolding denied_at
 reads_denied =
-    reads_cases (codes "certain") (codes "same" ∷ []) reads_not_certain reads_not_same (case_begins (codes "same") not_same_of NotSameParts) (refl, tt)
+    reads_cases (codes "certain") (codes "same" ∷ []) reads_not_certain reads_not_same
+    (case_begins (codes "same") not_same_of NotSameParts) (refl, tt)
 
 reads_not : IsReader (Case (codes "not") (λ c. c) Denied) ends_claim not_at
 unfolding not_at
@@ -176,7 +179,8 @@ reads_answers_claim = reads_case (codes "answers") (after_symbol (codes ";") rea
 
 reads_undecided : IsReader (Case (codes "undecided") undecided_of UndecidedParts) ends_claim undecided_at
 unfolding undecided_at
-reads_undecided = reads_case (codes "undecided") (before_symbol (codes ";") reads_count (λ a t e. refl)) undecided_of ends_claim (λ a t. refl)
+reads_undecided = reads_case (codes "undecided") (before_symbol (codes ";") reads_count (λ a t e. refl)) undecided_of
+    ends_claim (λ a t. refl)
 
 -- claims from some word on, in the order in which they are tried
 abbrev FromUndecided : ClaimTree → Language
@@ -254,10 +258,12 @@ denied_spelled c tokens h = elim h.second [
   | inr k ↦ subst (λ (c : ClaimTree). SpellsClaim c tokens) k.is (same_spelled k.tree k.spelled)
 ]
   where
-    certain_spelled : (x : AttributeTree × (Named × Named)) → (IsWord (codes "certain") ⋅ NotCertainParts x) h.rest → SpellsClaim (not_certain_of x) tokens
+    certain_spelled : (x : AttributeTree × (Named × Named)) → (IsWord (codes "certain") ⋅ NotCertainParts x) h.rest
+        → SpellsClaim (not_certain_of x) tokens
     certain_spelled x k = record { front = h.front; rest = h.rest; split = h.split; first = h.first; second = k }
 
-    same_spelled : (x : AttributeTree × Named) → (IsWord (codes "same") ⋅ NotSameParts x) h.rest → SpellsClaim (not_same_of x) tokens
+    same_spelled : (x : AttributeTree × Named) → (IsWord (codes "same") ⋅ NotSameParts x) h.rest → SpellsClaim
+        (not_same_of x) tokens
     same_spelled x k = record { front = h.front; rest = h.rest; split = h.split; first = h.first; second = k }
 
 claim_spelled : (c : ClaimTree) (tokens : List Lexeme) → FromInconsistent c tokens → SpellsClaim c tokens
@@ -282,7 +288,12 @@ spelled_claim (NotCertain relation attr earlier later) tokens h = inr (inr (inr 
     rest = h.rest;
     split = h.split;
     first = h.first;
-    second = inl (record { tree = (record { relation = relation; attr = attr }, (earlier, later)); is = refl; spelled = h.second });
+    second = inl (record {
+      tree = (record { relation = relation; attr = attr }, (earlier, later));
+      is =
+          refl;
+      spelled = h.second;
+    });
   };
 }))))
 spelled_claim (NotSame relation attr entity) tokens h = inr (inr (inr (inl (record {
@@ -304,7 +315,8 @@ reads_claim : IsReader SpellsClaim ends_claim claim_at
 unfolding claim_at
 reads_claim = reads_same
     (reads_cases (codes "inconsistent") words_consistent reads_inconsistent
-    (reads_cases (codes "consistent") words_certain reads_consistent reads_further_claim begins_certain (refl, (refl, (refl, (refl, (refl, tt))))))
+    (reads_cases (codes "consistent") words_certain reads_consistent reads_further_claim begins_certain
+    (refl, (refl, (refl, (refl, (refl, tt))))))
     begins_consistent (refl, (refl, (refl, (refl, (refl, (refl, tt)))))))
     claim_spelled spelled_claim
 

@@ -94,7 +94,8 @@ unfoldable pub answers_claim_at : Parser ClaimTree
 answers_claim_at = mapped (λ items. Answers items) (after (is_word (codes "answers")) (after (is_symbol (codes ";")) answers_at))
 
 unfoldable pub undecided_at : Parser ClaimTree
-undecided_at = mapped (λ counted. Undecided counted) (after (is_word (codes "undecided")) (before (one count_in) (is_symbol (codes ";"))))
+undecided_at = mapped (λ counted. Undecided counted)
+    (after (is_word (codes "undecided")) (before (one count_in) (is_symbol (codes ";"))))
 
 -- a claim that is not about consistency alone
 unfoldable pub further_claim_at : Parser ClaimTree

@@ -101,4 +101,5 @@ SpellsCompletions = UpTo 4294967294 SpellsCompletion
 abbrev pub SpellsReport : ReportTree → Language
 SpellsReport t =
     IsWord (codes "currency") ⋅ IsWord (codes "report") ⋅ SpellsVersion t.version ⋅ IsSymbol (codes ";")
-    ⋅ SpellsVerdict t.verdict ⋅ SpellsCompletions t.completions ⋅ SpellsLogPart t.log ⋅ IsWord (codes "end") ⋅ IsSymbol (codes ";")
+    ⋅ SpellsVerdict t.verdict ⋅ SpellsCompletions t.completions ⋅ SpellsLogPart t.log ⋅ IsWord (codes "end") ⋅
+    IsSymbol (codes ";")

@@ -7,5 +7,6 @@ ghost use Rattle.report_syntax.specs.declared.tree.ReportTree.{ReportTree};
 pub fn one_report()
     ensures one_tree { (source : List ℕ) (a b : ReportTree) → ReadsReportText source a → ReadsReportText source b → a ≡ b }
     ensures one_refusal { (source : List ℕ) (e f : TextFault) → RefusesReportText source e → RefusesReportText source f → e ≡ f }
-    ensures not_both { (source : List ℕ) (tree : ReportTree) (fault : TextFault) → ReadsReportText source tree → RefusesReportText source fault → ⊥ }
+    ensures not_both { (source : List ℕ) (tree : ReportTree) (fault : TextFault) → ReadsReportText source tree
+        → RefusesReportText source fault → ⊥ }
 {}

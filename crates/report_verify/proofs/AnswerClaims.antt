@@ -31,7 +31,8 @@ use Rattle.spec_model.specs.declared.relation.Relation.{Relation}
 
 -- ---- units
 
-answer_said : (relations : List Relation) (c : Rankings) (answers : ℕ → Type 0) (place : ℕ) → IsSaid relations c answers (answer place)
+answer_said : (relations : List Relation) (c : Rankings) (answers : ℕ → Type 0) (place : ℕ) → IsSaid relations c
+    answers (answer place)
     → answers place
 answer_said relations c answers place is = by is.said.statement is.said.negative is.same is.holds
   where
@@ -51,7 +52,8 @@ answer_said relations c answers place is = by is.said.statement is.said.negative
 
 -- the unit of an answer: the tuple at its place is one
 answer_holds : (relations : List Relation) (c : Rankings) (answers : ℕ → Type 0) (log : Log) (place : ℕ)
-    → All (ClauseHolds relations c answers log.statements) (clauses_of log.steps) → HasUnit relations log (answer place) → answers place
+    → All (ClauseHolds relations c answers log.statements) (clauses_of log.steps) → HasUnit relations log
+    (answer place) → answers place
 answer_holds relations c answers log place all unit =
     answer_said relations c answers place (unit_said relations c answers log (answer place) all unit)
 
@@ -103,7 +105,8 @@ module _ (laws : AnswerLaws) (s : Spec) (facts : IsSpecification s) (log : Log) 
             → IsAnswerIn s.relations query tuple c ⊎ (IsAnswerIn s.relations query tuple c → ⊥) → At c place ⊎ (At c place → ⊥)
         of_tuple tuple at (inl is) = inl record { tuple = tuple; is_tuple = at; is_answer = is }
         of_tuple tuple at (inr never) =
-            inr (λ is. never (subst (λ t. IsAnswerIn s.relations query t c) (same_Some is.tuple tuple (sym is.is_tuple ∙ at)) is.is_answer))
+            inr (λ is. never (subst (λ t. IsAnswerIn s.relations query t c)
+            (same_Some is.tuple tuple (sym is.is_tuple ∙ at)) is.is_answer))
 
         by : (o : Option (List Value)) → slice_get log.answers place ≡ o → At c place ⊎ (At c place → ⊥)
         by None at = inr (λ is. none-some is.tuple (sym at ∙ is.is_tuple))
@@ -114,8 +117,10 @@ module _ (laws : AnswerLaws) (s : Spec) (facts : IsSpecification s) (log : Log) 
     answer_is : (tuple : List Value) → HasAnswerUnit s.relations log tuple → EachConsistent s (IsAnswerIn s.relations query tuple)
     answer_is tuple unit c consistent =
         let here = passed (decided_at c consistent unit.place)
-        (answer_holds s.relations c (passing test) log unit.place (laws.steps test s facts c consistent (Some query) log over accepted) unit.unit) in
-        subst (λ t. IsAnswerIn s.relations query t c) (same_Some here.tuple tuple (sym here.is_tuple ∙ unit.is_tuple)) here.is_answer
+        (answer_holds s.relations c (passing test) log unit.place (laws.steps test s facts c consistent (Some query)
+        log over accepted) unit.unit) in
+        subst (λ t. IsAnswerIn s.relations query t c)
+        (same_Some here.tuple tuple (sym here.is_tuple ∙ unit.is_tuple)) here.is_answer
       where
         test : ℕ → Bool
         test place = test_of (decided_at c consistent place)

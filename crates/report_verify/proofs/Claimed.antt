@@ -65,7 +65,8 @@ value_need item rel attr ent v = record { part = part.Item item; claim = HasValu
 abbrev Any : ℕ → Type 0
 Any = passing (λ place. true)
 
-module _ (laws : TruthLaws) (s : Spec) (facts : IsSpecification s) (log : Log) (query : Option Query) (accepted : IsAccepted s query log) where
+module _ (laws : TruthLaws) (s : Spec) (facts : IsSpecification s) (log : Log) (query : Option Query)
+    (accepted : IsAccepted s query log) where
   all_hold : (c : Rankings) → IsConsistent s c → All (ClauseHolds s.relations c Any log.statements) (clauses_of log.steps)
   all_hold = clauses_hold laws.answers s facts log query accepted
 
@@ -80,7 +81,8 @@ module _ (laws : TruthLaws) (s : Spec) (facts : IsSpecification s) (log : Log) (
       let is = All-head (IsAskedPair s.relations) p pairs are in
       All-cons (λ p. EachConsistent s (PairHolds p)) p pairs
       (λ c consistent. pair_holds s.relations c Any log p facts.relations consistent.completion (all_hold c consistent) is here)
-      (pairs_hold pairs (All-tail (IsAskedPair s.relations) p pairs are) (All-tail (IsDerived s.relations log) need (pair_needs pairs) derived))
+      (pairs_hold pairs (All-tail (IsAskedPair s.relations) p pairs are) (All-tail (IsDerived s.relations log) need
+      (pair_needs pairs) derived))
 
   -- ---- values
 
@@ -89,7 +91,8 @@ module _ (laws : TruthLaws) (s : Spec) (facts : IsSpecification s) (log : Log) (
       → HasLastUnit s.relations log rel (attr_of (from + k)) ent v
   derived_at item rel ent from [] all k v at = absurd (none-some v at)
   derived_at item rel ent from (x ∷ values) all zero v at =
-      let here = All-head (IsDerived s.relations log) (value_need item rel from ent x) (value_needs item rel ent (from + 1) values) all in
+      let here = All-head (IsDerived s.relations log) (value_need item rel from ent x)
+      (value_needs item rel ent (from + 1) values) all in
       let same : from ≡ from + 0 = omega arith in
       subst (λ n. HasLastUnit s.relations log rel (attr_of n) ent v) same
       (subst (λ w. HasLastUnit s.relations log rel (attr_of from) ent w) (same_Some x v at) here)
@@ -97,9 +100,11 @@ module _ (laws : TruthLaws) (s : Spec) (facts : IsSpecification s) (log : Log) (
       let same : from + 1 + k ≡ from + suc k = omega arith in
       subst (λ n. HasLastUnit s.relations log rel (attr_of n) ent v) same
       (derived_at item rel ent (from + 1) values
-      (All-tail (IsDerived s.relations log) (value_need item rel from ent x) (value_needs item rel ent (from + 1) values) all) k v at)
+      (All-tail (IsDerived s.relations log) (value_need item rel from ent x)
+      (value_needs item rel ent (from + 1) values) all) k v at)
 
-  value_is : (item : Current) (attr : ℕ) (v : Value) (has : HasValues s.relations item) → HasLastUnit s.relations log item.rel (attr_of (0 + attr)) item.ent v
+  value_is : (item : Current) (attr : ℕ) (v : Value) (has : HasValues s.relations item) → HasLastUnit s.relations log
+      item.rel (attr_of (0 + attr)) item.ent v
       → (c : Rankings) → IsConsistent s c → current_value c item.rel.0 has.relation.rows attr item.ent.0 ≡ Some v
   value_is item attr v has unit c consistent =
       let same : 0 + attr ≡ attr = omega arith in
@@ -107,7 +112,8 @@ module _ (laws : TruthLaws) (s : Spec) (facts : IsSpecification s) (log : Log) (
       (subst (λ n. HasLastUnit s.relations log item.rel (attr_of n) item.ent v) same unit)
 
   item_is : (at : ℕ) (item : Current) → HasValues s.relations item
-      → All (IsDerived s.relations log) (value_needs at item.rel item.ent 0 item.values) → EachConsistent s (IsCurrentIn s.relations item)
+      → All (IsDerived s.relations log) (value_needs at item.rel item.ent 0 item.values) → EachConsistent s
+      (IsCurrentIn s.relations item)
   item_is at item has derived c consistent = record {
     relation = has.relation;
     is_relation = has.is_relation;
@@ -124,7 +130,8 @@ module _ (laws : TruthLaws) (s : Spec) (facts : IsSpecification s) (log : Log) (
           one.2 ∙ sym (value_is item attr one.0 has unit c consistent)
       by attr below (inr past) = let h = past.0 in let e = has.per_attr in absurd (omega arith)
 
-  pub items_are : (at : ℕ) (items : List Current) → All (HasValues s.relations) items → All (IsDerived s.relations log) (item_needs at items)
+  pub items_are : (at : ℕ) (items : List Current) → All (HasValues s.relations) items
+      → All (IsDerived s.relations log) (item_needs at items)
       → All (λ item. EachConsistent s (IsCurrentIn s.relations item)) items
   items_are at [] have derived = All-nil (λ (item : Current). EachConsistent s (IsCurrentIn s.relations item))
   items_are at (item ∷ items) have derived =
@@ -132,17 +139,21 @@ module _ (laws : TruthLaws) (s : Spec) (facts : IsSpecification s) (log : Log) (
       let rest = item_needs (at + 1) items in
       All-cons (λ (item : Current). EachConsistent s (IsCurrentIn s.relations item)) item items
       (item_is at item (All-head (HasValues s.relations) item items have) (in_front (IsDerived s.relations log) own rest derived))
-      (items_are (at + 1) items (All-tail (HasValues s.relations) item items have) (behind (IsDerived s.relations log) own rest derived))
+      (items_are (at + 1) items (All-tail (HasValues s.relations) item items have)
+      (behind (IsDerived s.relations log) own rest derived))
 
 -- ---- verdicts
 
 module _ (laws : TruthLaws) (s : Spec) (facts : IsSpecification s) (log : Log) where
-  pub right : (q : Question) (v : Verdict) (cs : List Rankings) → IsAccepted s (query_of q) log → IsQuestionOn s.relations q → IsOneOf s q v
+  pub right : (q : Question) (v : Verdict) (cs : List Rankings) → IsAccepted s (query_of q) log
+      → IsQuestionOn s.relations q → IsOneOf s q v
       → All (IsConsistent s) cs → IsSupported s q v cs log → is_decided (kind_of v) ≡ true → IsRight s q v
-  right q verdict.Inconsistent cs accepted on one_of all supported decided = laws.none s facts (query_of q) log accepted (empty_there log supported)
+  right q verdict.Inconsistent cs accepted on one_of all supported decided = laws.none s facts (query_of q) log
+      accepted (empty_there log supported)
   right q (verdict.Undecided counted) cs accepted on one_of all supported decided = absurd (false≢true decided)
   right asked.Consistent verdict.Consistent cs accepted on one_of all supported decided = satisfiable s cs supported all
-  right (asked.Certain pairs) verdict.Certain cs accepted on one_of all supported decided = (satisfiable s cs supported.0 all, pairs_hold laws s facts log None accepted pairs on supported.1)
+  right (asked.Certain pairs) verdict.Certain cs accepted on one_of all supported decided =
+      (satisfiable s cs supported.0 all, pairs_hold laws s facts log None accepted pairs on supported.1)
   right (asked.Certain pairs) (verdict.NotCertain p) cs accepted on one_of all supported decided = (
     one_of,
     record {
@@ -151,7 +162,8 @@ module _ (laws : TruthLaws) (s : Spec) (facts : IsSpecification s) (log : Log) w
       fails = supported.fails;
     },
   )
-  right (asked.Same rels) (verdict.Same items) cs accepted on one_of all supported decided = (satisfiable s cs supported.0 all, one_of, items_are laws s facts log None accepted 0 items one_of.values supported.1)
+  right (asked.Same rels) (verdict.Same items) cs accepted on one_of all supported decided =
+      (satisfiable s cs supported.0 all, one_of, items_are laws s facts log None accepted 0 items one_of.values supported.1)
   right (asked.Same rels) (verdict.NotSame rel attr ent) cs accepted on one_of all supported decided = (
     one_of,
     record {

@@ -50,7 +50,8 @@ lit_is : (a b : Lit) → a.0 ≡ b.0 → a ≡ b
 lit_is a b e = ap (λ (n : ℕ). let x : Lit = record { 0 = n } in x) e
 
 -- the literal of a unit that is true is true
-unit_holds : (relations : List Relation) (c : Rankings) (answers : ℕ → Type 0) (statements : List Statement) (lit : Lit) (clause : List Lit)
+unit_holds : (relations : List Relation) (c : Rankings) (answers : ℕ → Type 0) (statements : List Statement)
+    (lit : Lit) (clause : List Lit)
     → is_unit lit clause ≡ true → ClauseHolds relations c answers statements clause → LitHolds relations c answers statements lit
 unit_holds relations c answers statements lit [] e holds = absurd (false≢true e)
 unit_holds relations c answers statements lit (first ∷ lits) e holds =
@@ -66,7 +67,8 @@ pub record IsSaid (relations : List Relation) (c : Rankings) (answers : ℕ → 
   pub same : says_same relations said s ≡ true
 
 -- what a true literal says is true
-lit_said : (relations : List Relation) (c : Rankings) (answers : ℕ → Type 0) (statements : List Statement) (s : Signed) (lit : Lit)
+lit_said : (relations : List Relation) (c : Rankings) (answers : ℕ → Type 0) (statements : List Statement)
+    (s : Signed) (lit : Lit)
     → lit_says relations statements s lit ≡ true → LitHolds relations c answers statements lit → IsSaid relations c answers s
 lit_said relations c answers statements s lit e holds = by (meaning statements lit) refl e holds
   where
@@ -80,11 +82,13 @@ lit_said relations c answers statements s lit e holds = by (meaning statements l
 
 -- what a unit says is true where the clauses of the log are
 pub unit_said : (relations : List Relation) (c : Rankings) (answers : ℕ → Type 0) (log : Log) (s : Signed)
-    → All (ClauseHolds relations c answers log.statements) (clauses_of log.steps) → HasUnit relations log s → IsSaid relations c answers s
+    → All (ClauseHolds relations c answers log.statements) (clauses_of log.steps) → HasUnit relations log s
+    → IsSaid relations c answers s
 unit_said relations c answers log s all unit =
     let clause = found (is_unit unit.lit) (clauses_of log.steps) unit.there in
     let holds = All-contains (ClauseHolds relations c answers log.statements) (clauses_of log.steps) clause.0 all clause.1 in
-    lit_said relations c answers log.statements s unit.lit unit.says (unit_holds relations c answers log.statements unit.lit clause.0 clause.2 holds)
+    lit_said relations c answers log.statements s unit.lit unit.says
+    (unit_holds relations c answers log.statements unit.lit clause.0 clause.2 holds)
 
 -- ---- pairs
 
@@ -93,21 +97,24 @@ statement_is : (rel rel' : RelId) (attr attr' : AttrId) (a a' b b' : RowId) → 
 statement_is rel rel' attr attr' a a' b b' r t e f = cc
 
 -- two rows are the same two
-rows_match : (a b a' b' : RowId) (sign : Bool) → ((a'.0 == a.0) && (b'.0 == b.0) && sign) ≡ true → (a' ≡ a) × (b' ≡ b) × (sign ≡ true)
+rows_match : (a b a' b' : RowId) (sign : Bool) → ((a'.0 == a.0) && (b'.0 == b.0) && sign) ≡ true →
+    (a' ≡ a) × (b' ≡ b) × (sign ≡ true)
 rows_match a b a' b' sign e =
     let outer = and_parts ((a'.0 == a.0) && (b'.0 == b.0)) sign e in
     let both = and_parts (a'.0 == a.0) (b'.0 == b.0) outer.0 in
     (row_is a' a (eqb-true a'.0 a.0 both.0), row_is b' b (eqb-true b'.0 b.0 both.1), outer.1)
 
 -- a true statement that says the same as that one row stands before another: they do, or the other does not before it
-before_said : (relations : List Relation) (c : Rankings) (answers : ℕ → Type 0) (rel rel' : RelId) (attr attr' : AttrId) (a b a' b' : RowId) (negative : Bool)
+before_said : (relations : List Relation) (c : Rankings) (answers : ℕ → Type 0) (rel rel' : RelId)
+    (attr attr' : AttrId) (a b a' b' : RowId) (negative : Bool)
     → IsCompletion relations c → AreTwo relations rel.0 attr.0 a b
     → says_same relations (record { statement = says.Before rel' attr' a' b'; negative = negative }) (before rel attr a b) ≡ true
     → HoldsIn relations c answers (record { statement = says.Before rel' attr' a' b'; negative = negative })
     → Before (lists_of c rel.0 attr.0) a b
 before_said relations c answers rel rel' attr attr' a b a' b' negative completion two e holds =
     let split = and_parts (same_place rel' attr' rel attr)
-    (((a'.0 == a.0) && (b'.0 == b.0) && same_sign negative false) || ((a'.0 == b.0) && (b'.0 == a.0) && not (same_sign negative false))) e in
+    (((a'.0 == a.0) && (b'.0 == b.0) && same_sign negative false)
+    || ((a'.0 == b.0) && (b'.0 == a.0) && not (same_sign negative false))) e in
     let place = place_is rel' rel attr' attr split.0 in
     ⊎_elim
     (λ (e : ((a'.0 == a.0) && (b'.0 == b.0) && same_sign negative false) ≡ true).
@@ -120,24 +127,28 @@ before_said relations c answers rel rel' attr attr' a b a' b' negative completio
     ((a'.0 == b.0) && (b'.0 == a.0) && not (same_sign negative false)) split.1)
   where
     along : (n : Bool) → same_sign n false ≡ true → says.Before rel' attr' a' b' ≡ says.Before rel attr a b
-        → HoldsIn relations c answers (record { statement = says.Before rel' attr' a' b'; negative = n }) → Before (lists_of c rel.0 attr.0) a b
+        → HoldsIn relations c answers (record { statement = says.Before rel' attr' a' b'; negative = n })
+        → Before (lists_of c rel.0 attr.0) a b
     along true sign same holds = absurd (false≢true sign)
     along false sign same holds = subst (λ (s : Statement). IsTrueIn relations c answers s) same holds
 
     back : (n : Bool) → not (same_sign n false) ≡ true → says.Before rel' attr' a' b' ≡ says.Before rel attr b a
-        → HoldsIn relations c answers (record { statement = says.Before rel' attr' a' b'; negative = n }) → Before (lists_of c rel.0 attr.0) a b
+        → HoldsIn relations c answers (record { statement = says.Before rel' attr' a' b'; negative = n })
+        → Before (lists_of c rel.0 attr.0) a b
     back false sign same holds = absurd (false≢true sign)
     back true sign same holds =
         ⊎_elim (λ h. h) (λ h. absurd (holds (subst (λ (s : Statement). IsTrueIn relations c answers s) (sym same) h)))
         (either_before relations c rel.0 attr.0 a b completion two)
 
-pair_said : (relations : List Relation) (c : Rankings) (answers : ℕ → Type 0) (rel : RelId) (attr : AttrId) (a b : RowId) → IsCompletion relations c
+pair_said : (relations : List Relation) (c : Rankings) (answers : ℕ → Type 0) (rel : RelId) (attr : AttrId)
+    (a b : RowId) → IsCompletion relations c
     → AreTwo relations rel.0 attr.0 a b → IsSaid relations c answers (before rel attr a b) → Before (lists_of c rel.0 attr.0) a b
 pair_said relations c answers rel attr a b completion two is = by is.said.statement is.said.negative is.same is.holds
   where
     by : (s : Statement) (n : Bool) → says_same relations (record { statement = s; negative = n }) (before rel attr a b) ≡ true
         → HoldsIn relations c answers (record { statement = s; negative = n }) → Before (lists_of c rel.0 attr.0) a b
-    by (says.Before rel' attr' a' b') n e holds = before_said relations c answers rel rel' attr attr' a b a' b' n completion two e holds
+    by (says.Before rel' attr' a' b') n e holds = before_said relations c answers rel rel' attr attr' a b a' b' n
+        completion two e holds
     by (says.Top rel' attr' row) n e holds = absurd (false≢true e)
     by (says.Last rel' attr' row) n e holds = absurd (false≢true e)
     by (says.Answer tuple) n e holds = absurd (false≢true e)
@@ -150,7 +161,8 @@ asked_two relations p facts is = by (slice_get_cases is.relation.rows p.pair.ear
     r : Relation
     r = is.relation
 
-    of_row : (row : Row) → slice_get r.rows p.pair.earlier.0 ≡ Some row → AreTwo relations p.rel.0 p.pair.attr.0 p.pair.earlier p.pair.later
+    of_row : (row : Row) → slice_get r.rows p.pair.earlier.0 ≡ Some row → AreTwo relations p.rel.0 p.pair.attr.0
+        p.pair.earlier p.pair.later
     of_row row at =
         let first : entity_of r.rows p.pair.earlier.0 ≡ Some row.entity.0 = rw at refl in
         let relation_facts = all_at IsRelation relations p.rel.0 r facts.each is.is_relation in
@@ -173,7 +185,8 @@ asked_two relations p facts is = by (slice_get_cases is.relation.rows p.pair.ear
     by (inr past) = absurd (let below = is.pair.earlier in let h = past.0 in omega arith)
 
 -- the unit of an asked pair: the pair holds
-pub pair_holds : (relations : List Relation) (c : Rankings) (answers : ℕ → Type 0) (log : Log) (p : Asked) → AreRelations relations → IsCompletion relations c
+pub pair_holds : (relations : List Relation) (c : Rankings) (answers : ℕ → Type 0) (log : Log) (p : Asked)
+    → AreRelations relations → IsCompletion relations c
     → All (ClauseHolds relations c answers log.statements) (clauses_of log.steps) → IsAskedPair relations p
     → HasUnit relations log (before p.rel p.pair.attr p.pair.earlier p.pair.later) → PairHolds p c
 pair_holds relations c answers log p facts completion all is unit =
@@ -199,7 +212,8 @@ current_of c rel attr ent rows other row v of_ent of_value is =
     sym (ap (current_value c rel rows attr) same_ent) ∙ (here.current ∙ ap Some same_val)
 
 -- a true statement that says the same as that a row's value is the current one says it of such a row
-last_said : (relations : List Relation) (c : Rankings) (answers : ℕ → Type 0) (rel rel' : RelId) (attr attr' : AttrId) (other row : RowId) (negative : Bool)
+last_said : (relations : List Relation) (c : Rankings) (answers : ℕ → Type 0) (rel rel' : RelId)
+    (attr attr' : AttrId) (other row : RowId) (negative : Bool)
     → says_same relations (record { statement = says.Last rel' attr' other; negative = negative }) (last rel attr row) ≡ true
     → HoldsIn relations c answers (record { statement = says.Last rel' attr' other; negative = negative })
     → IsSaidOf c rel.0 attr.0 (rows_in (slice_get relations rel.0)) other row
@@ -215,12 +229,14 @@ last_said relations c answers rel rel' attr attr' other row negative e holds =
     subst (λ (t : AttrId). IsSaidOf c rel.0 t.0 (rows_in (slice_get relations rel.0)) other row) place.1
     (subst (λ (r : RelId). IsSaidOf c r.0 attr'.0 (rows_in (slice_get relations r.0)) other row) place.0 there)
   where
-    by : (n : Bool) → same_sign n false ≡ true → HoldsIn relations c answers (record { statement = says.Last rel' attr' other; negative = n })
+    by : (n : Bool) → same_sign n false ≡ true → HoldsIn relations c answers
+        (record { statement = says.Last rel' attr' other; negative = n })
         → IsLast c rel'.0 attr'.0 (rows_in (slice_get relations rel'.0)) other
     by true sign holds = absurd (false≢true sign)
     by false sign holds = holds
 
-value_said : (relations : List Relation) (c : Rankings) (answers : ℕ → Type 0) (rel : RelId) (attr : AttrId) (row : RowId) → IsSaid relations c answers (last rel attr row)
+value_said : (relations : List Relation) (c : Rankings) (answers : ℕ → Type 0) (rel : RelId) (attr : AttrId)
+    (row : RowId) → IsSaid relations c answers (last rel attr row)
     → (other : RowId) × IsSaidOf c rel.0 attr.0 (rows_in (slice_get relations rel.0)) other row
 value_said relations c answers rel attr row is = by is.said.statement is.said.negative is.same is.holds
   where
@@ -233,12 +249,15 @@ value_said relations c answers rel attr row is = by is.said.statement is.said.ne
     by (says.Answer tuple) n e holds = absurd (false≢true e)
 
 -- the unit of a value: it is the current one
-pub value_holds : (relations : List Relation) (c : Rankings) (answers : ℕ → Type 0) (log : Log) (rel : RelId) (attr : AttrId) (ent : EntId) (v : Value)
-    (r : Relation) → slice_get relations rel.0 ≡ Some r → All (ClauseHolds relations c answers log.statements) (clauses_of log.steps)
+pub value_holds : (relations : List Relation) (c : Rankings) (answers : ℕ → Type 0) (log : Log) (rel : RelId)
+    (attr : AttrId) (ent : EntId) (v : Value)
+    (r : Relation) → slice_get relations rel.0 ≡ Some r → All (ClauseHolds relations c answers log.statements)
+    (clauses_of log.steps)
     → HasLastUnit relations log rel attr ent v → current_value c rel.0 r.rows attr.0 ent.0 ≡ Some v
 value_holds relations c answers log rel attr ent v r at all unit =
     let same : unit.relation ≡ r = same_Some unit.relation r (sym unit.is_relation ∙ at) in
-    let is = value_said relations c answers rel attr unit.row (unit_said relations c answers log (last rel attr unit.row) all unit.unit) in
+    let is = value_said relations c answers rel attr unit.row
+    (unit_said relations c answers log (last rel attr unit.row) all unit.unit) in
     let here = subst (λ rows. IsSaidOf c rel.0 attr.0 rows is.0 unit.row) (ap rows_in at) is.1 in
     current_of c rel.0 attr.0 ent.0 r.rows is.0 unit.row v
     (subst (λ (q : Relation). entity_of q.rows unit.row.0 ≡ Some ent.0) same unit.of_entity)

@@ -13,7 +13,8 @@ counted_more steps k step at = by (is_counted step) (ap is_counted (get_or_from_
     by : (b : Bool) → is_counted (get_or steps k step) ≡ b
         → counted_steps (take (k + 1) steps) ≡ counted_steps (take k steps) + cond b 1 0
     by true e = count_by_more_yes is_counted steps k step (slice_get_within steps k step at) e
-    by false e = count_by_more_no is_counted steps k step (slice_get_within steps k step at) e ∙ zero_more (counted_steps (take k steps))
+    by false e = count_by_more_no is_counted steps k step (slice_get_within steps k step at) e
+        ∙ zero_more (counted_steps (take k steps))
       where
         zero_more : (n : ℕ) → n ≡ n + 0
         zero_more n = omega arith

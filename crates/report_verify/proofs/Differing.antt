@@ -27,7 +27,8 @@ module _ (relations : List Relation) (rel : RelId) (attr : AttrId) (ent : EntId)
 
   -- ---- values that are read
 
-  pub agrees : (c d : Rankings) (v w : Value) → IsValue c v → IsValue d w → value_test Eq v w ≡ true → AgreesAt relations rel attr ent c d
+  pub agrees : (c d : Rankings) (v w : Value) → IsValue c v → IsValue d w → value_test Eq v w ≡ true
+      → AgreesAt relations rel attr ent c d
   agrees c d v w first second e r at = first r at ∙ ap Some (one_value v w e) ∙ sym (second r at)
 
   pub differs : (c d : Rankings) (v w : Value) → IsPlaceOf relations rel.0 attr.0 ent.0 → IsValue c v → IsValue d w

@@ -96,13 +96,16 @@ module _ (s : Spec) (q : Question) (r : Report) where
 
   fails : (p : Part) (why : Unshown) → IsFirstUnshown s q r p why → Fails p why
   fails part.Verdict (NotShown Shape) f = inl record { part_is = refl; why_is = refl; not_one = f }
-  fails part.Verdict (NotShown NoEmptyClause) f = plainly NoEmptyClause f.0 (no_empty_clause s q r.log r.verdict r.completions f.1 f.2)
-  fails part.Verdict (NotShown NoCompletion) f = plainly NoCompletion f.0 (no_completion s q r.log r.verdict r.completions f.1 f.2)
+  fails part.Verdict (NotShown NoEmptyClause) f = plainly NoEmptyClause f.0
+      (no_empty_clause s q r.log r.verdict r.completions f.1 f.2)
+  fails part.Verdict (NotShown NoCompletion) f = plainly NoCompletion f.0
+      (no_completion s q r.log r.verdict r.completions f.1 f.2)
   fails part.Verdict (NotShown (NoUnit place)) f =
       by_unit part.Verdict place f.0 f.2
       (no_unit s q r.log r.verdict r.completions place f.2.need f.1 f.2.claimed f.2.underived)
   fails part.Verdict (NotShown NotBroken) f = plainly NotBroken f.0 (not_broken s q r.log r.verdict r.completions f.1 f.2)
-  fails part.Verdict (NotShown NotDifferent) f = plainly NotDifferent f.0 (not_different s q r.log r.verdict r.completions f.1 f.2)
+  fails part.Verdict (NotShown NotDifferent) f = plainly NotDifferent f.0
+      (not_different s q r.log r.verdict r.completions f.1 f.2)
   fails part.Verdict (NotShown NotCommon) f =
       inr (inr (inr (inr (inr record {
         part_is = refl;
@@ -136,7 +139,8 @@ module _ (s : Spec) (q : Question) (r : Report) where
   fails (part.Completion at) (NotShown NotDifferent) f = absurd f
   fails (part.Completion at) (NotShown NotCommon) f = absurd f
   fails (part.Completion at) (NotShown WrongCount) f = absurd f
-  fails (part.Completion at) (BadCompletion flaw) f = inr (inl record { place = at; flaw = flaw; part_is = refl; why_is = refl; bad = f })
+  fails (part.Completion at) (BadCompletion flaw) f =
+      inr (inl record { place = at; flaw = flaw; part_is = refl; why_is = refl; bad = f })
   fails (part.Completion at) (BadLog fault) f = absurd f
   fails (part.Step at) (NotShown Shape) f = absurd f
   fails (part.Step at) (NotShown NoEmptyClause) f = absurd f
@@ -149,7 +153,8 @@ module _ (s : Spec) (q : Question) (r : Report) where
   fails (part.Step at) (NotShown NotCommon) f = absurd f
   fails (part.Step at) (NotShown WrongCount) f = absurd f
   fails (part.Step at) (BadCompletion flaw) f = absurd f
-  fails (part.Step at) (BadLog fault) f = inr (inr (inl record { step = at; fault = fault; part_is = refl; why_is = refl; bad = f }))
+  fails (part.Step at) (BadLog fault) f =
+      inr (inr (inl record { step = at; fault = fault; part_is = refl; why_is = refl; bad = f }))
 
   -- ---- what a stage says of those before it
 
@@ -183,7 +188,8 @@ module _ (s : Spec) (q : Question) (r : Report) where
   -- where each claim is derived, none is the first that is not
   all_derived : (p p' : Part) (why why' : Unshown) → FailsUnit p why → FailsCommon p' why' → ⊥
   all_derived p p' why why' f g =
-      f.first.underived (all_at (IsDerived s.relations r.log) (needs_of q r.verdict) f.place f.first.need g.derived f.first.claimed)
+      f.first.underived (all_at (IsDerived s.relations r.log) (needs_of q r.verdict) f.place f.first.need g.derived
+      f.first.claimed)
 
   -- ---- the laws
 
@@ -244,5 +250,6 @@ module _ (s : Spec) (q : Question) (r : Report) where
     same_fail p p' why why' (inr f) (inl g) = absurd (g.not_one (one_of_later p why f))
     same_fail p p' why why' (inr f) (inr g) = same_later p p' why why' f g
 
-    pub one_unshown : (p p' : Part) (why why' : Unshown) → IsFirstUnshown s q r p why → IsFirstUnshown s q r p' why' → Same p p' why why'
+    pub one_unshown : (p p' : Part) (why why' : Unshown) → IsFirstUnshown s q r p why → IsFirstUnshown s q r p' why'
+        → Same p p' why why'
     one_unshown p p' why why' first second = same_fail p p' why why' (fails p why first) (fails p' why' second)

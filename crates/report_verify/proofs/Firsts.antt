@@ -37,7 +37,8 @@ within_front (y ∷ xs) (suc k) (suc i) x below at = within_front xs k i x (omeg
 -- ---- completions
 
 -- where each completion is consistent, none is bad
-pub none_bad : CheckLaws → (s : Spec) (cs : List Rankings) (i : ℕ) (flaw : Flaw) → IsFirstBad s cs i flaw → All (IsConsistent s) cs → ⊥
+pub none_bad : CheckLaws → (s : Spec) (cs : List Rankings) (i : ℕ) (flaw : Flaw) → IsFirstBad s cs i flaw
+    → All (IsConsistent s) cs → ⊥
 none_bad laws s cs i flaw first all =
     laws.rules_out s first.rankings flaw first.flawed (all_at (IsConsistent s) cs i first.rankings all first.listed)
 
@@ -53,7 +54,8 @@ pub one_bad : CheckLaws → (s : Spec) (cs : List Rankings) (i j : ℕ) (flaw ot
 one_bad laws s cs i j flaw other first second =
     elim (cases_order i j) [
       | inl same ↦
-          let listed : slice_get cs j ≡ Some first.rankings = subst (λ n. slice_get cs n ≡ Some first.rankings) same first.listed in
+          let listed : slice_get cs j ≡ Some first.rankings = subst (λ n. slice_get cs n ≡ Some first.rankings) same
+          first.listed in
           let one : second.rankings ≡ first.rankings = same_Some second.rankings first.rankings (sym second.listed ∙ listed) in
           let flawed = subst (λ (c : Rankings). IsFirstFlaw s c other) one second.flawed in
           (same, laws.one_flaw s first.rankings flaw other first.flawed flawed)
@@ -67,7 +69,8 @@ module _ (s : Spec) (question : Question) (report : Report) where
   abbrev needs : List Need
   needs = needs_of question report.verdict
 
-  not_underived_before : (p q : Part) (i j : ℕ) → IsFirstUnderived s question report p i → IsFirstUnderived s question report q j → i < j → ⊥
+  not_underived_before : (p q : Part) (i j : ℕ) → IsFirstUnderived s question report p i → IsFirstUnderived s
+      question report q j → i < j → ⊥
   not_underived_before p q i j first second below =
       let there = within_front needs j i first.need below first.claimed in
       first.underived (all_at (IsDerived s.relations report.log) (take j needs) i first.need second.before there)
@@ -77,7 +80,8 @@ module _ (s : Spec) (question : Question) (report : Report) where
   one_underived p q i j first second =
       elim (cases_order i j) [
         | inl same ↦
-            let claimed : slice_get needs j ≡ Some first.need = subst (λ n. slice_get needs n ≡ Some first.need) same first.claimed in
+            let claimed : slice_get needs j ≡ Some first.need = subst (λ n. slice_get needs n ≡ Some first.need) same
+            first.claimed in
             let one : first.need ≡ second.need = same_Some first.need second.need (sym claimed ∙ second.claimed) in
             (sym first.of_part ∙ ap (λ (n : Need). n.part) one ∙ second.of_part, same)
         | inr (inl below) ↦ absurd (not_underived_before p q i j first second below)

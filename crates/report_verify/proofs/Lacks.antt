@@ -138,13 +138,15 @@ module _ (s : Spec) (q : Question) (log : Log) where
   unsupported_none (verdict.Answers tuples) e h = answers_listed s q log tuples [] h refl
   unsupported_none (verdict.Undecided counted) e h = false≢true e
 
-  pub no_completion : (v : Verdict) (cs : List Rankings) → asks_completion v ≡ true → cs ≡ [] → IsDue v cs (Some missing.NoCompletion)
+  pub no_completion : (v : Verdict) (cs : List Rankings) → asks_completion v ≡ true → cs ≡ [] → IsDue v cs
+      (Some missing.NoCompletion)
   no_completion v cs asks none = record {
     is = ap (due v) none ∙ due_none v asks;
     unsupported = λ supported. unsupported_none v asks (subst (λ ds. IsSupported s q v ds log) none supported);
   }
 
-  pub no_unit : (v : Verdict) (cs : List Rankings) (place : ℕ) (need : Need) → cs ≢ [] → slice_get (needs_of q v) place ≡ Some need
+  pub no_unit : (v : Verdict) (cs : List Rankings) (place : ℕ) (need : Need) → cs ≢ [] → slice_get (needs_of q v)
+      place ≡ Some need
       → (IsDerived s.relations log need → ⊥) → IsDue v cs None
   no_unit verdict.Inconsistent cs place need some claimed underived =
       absurd (none_in (needs_of q verdict.Inconsistent) place need (nothing_claimed q verdict.Inconsistent refl) claimed)
@@ -152,24 +154,29 @@ module _ (s : Spec) (q : Question) (log : Log) where
       absurd (none_in (needs_of q verdict.Consistent) place need (nothing_claimed q verdict.Consistent refl) claimed)
   no_unit verdict.Certain cs place need some claimed underived = record {
     is = due_more verdict.Certain None cs (λ c more. refl) some;
-    unsupported = λ supported. underived (all_at (IsDerived s.relations log) (needs_of q verdict.Certain) place need supported.1 claimed);
+    unsupported = λ supported. underived (all_at (IsDerived s.relations log) (needs_of q verdict.Certain) place need
+        supported.1 claimed);
   }
   no_unit (verdict.NotCertain p) cs place need some claimed underived =
       absurd (none_in (needs_of q (verdict.NotCertain p)) place need (nothing_claimed q (verdict.NotCertain p) refl) claimed)
   no_unit (verdict.Same items) cs place need some claimed underived = record {
     is = due_more (verdict.Same items) None cs (λ c more. refl) some;
-    unsupported = λ supported. underived (all_at (IsDerived s.relations log) (needs_of q (verdict.Same items)) place need supported.1 claimed);
+    unsupported = λ supported. underived (all_at (IsDerived s.relations log) (needs_of q (verdict.Same items)) place
+        need supported.1 claimed);
   }
   no_unit (verdict.NotSame rel attr ent) cs place need some claimed underived =
-      absurd (none_in (needs_of q (verdict.NotSame rel attr ent)) place need (nothing_claimed q (verdict.NotSame rel attr ent) refl) claimed)
+      absurd (none_in (needs_of q (verdict.NotSame rel attr ent)) place need
+      (nothing_claimed q (verdict.NotSame rel attr ent) refl) claimed)
   no_unit (verdict.Answers tuples) cs place need some claimed underived = record {
     is = due_more (verdict.Answers tuples) None cs (λ c more. refl) some;
     unsupported = λ supported.
         underived
-        (all_at (IsDerived s.relations log) (needs_of q (verdict.Answers tuples)) place need (answers_derived s q log tuples cs supported) claimed);
+        (all_at (IsDerived s.relations log) (needs_of q (verdict.Answers tuples)) place need
+        (answers_derived s q log tuples cs supported) claimed);
   }
   no_unit (verdict.Undecided counted) cs place need some claimed underived =
-      absurd (none_in (needs_of q (verdict.Undecided counted)) place need (nothing_claimed q (verdict.Undecided counted) refl) claimed)
+      absurd (none_in (needs_of q (verdict.Undecided counted)) place need
+      (nothing_claimed q (verdict.Undecided counted) refl) claimed)
 
   pub not_broken : (v : Verdict) (cs : List Rankings) → cs ≢ [] → IsUnbroken v cs → IsDue v cs (Some missing.NotBroken)
   not_broken verdict.Inconsistent cs some holds = absurd holds

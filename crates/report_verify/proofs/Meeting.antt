@@ -77,7 +77,8 @@ next_cases : (rel ent : ℕ) (r : RelId) (e : EntId) → IsBelow rel (ent + 1) r
 next_cases rel ent r e (inl less) = inl (inl less)
 next_cases rel ent r e (inr less) =
     let under = less.1 in
-    ⊎_elim (λ (same : e.0 ≡ ent). inr (less.0, same)) (λ (apart : e.0 ≡ ent → ⊥). inl (inr (less.0, omega arith))) (cases_eq e.0 ent)
+    ⊎_elim (λ (same : e.0 ≡ ent). inr (less.0, same)) (λ (apart : e.0 ≡ ent → ⊥). inl (inr (less.0, omega arith)))
+    (cases_eq e.0 ent)
 
 -- what is below the next relation is of this one or below it
 rel_cases : (rel : ℕ) (r : RelId) (e : EntId) → IsBelow (rel + 1) 0 r e → (r.0 < rel) ⊎ (r.0 ≡ rel)
@@ -103,10 +104,17 @@ module _ (relations : List Relation) (rels : List RelId) (items : List Current) 
   -- ---- one more
 
   module _ (rel ent at : ℕ) (relation : Relation) (is_relation : slice_get relations rel ≡ Some relation)
-      (asked : is_asked rels rel ≡ true) (within : ent < length relation.entities) (met : AreMet relations rels items rel ent at) where
+      (asked : is_asked rels rel ≡ true) (within : ent < length relation.entities)
+      (met : AreMet relations rels items rel ent at) where
     -- the entity is one of an asked relation
     here_asked : IsOfAsked relations rels (rel_of rel) (ent_of ent)
-    here_asked = record { asked = asked_in rels (rel_of rel) asked; relation = relation; is_relation = is_relation; within = within }
+    here_asked = record {
+      asked = asked_in rels (rel_of rel) asked;
+      relation = relation;
+      is_relation =
+          is_relation;
+      within = within;
+    }
 
     pub met_more : (item : Current) → slice_get items at ≡ Some item → IsItemOf relation rel ent item
         → AreMet relations rels items rel (ent + 1) (at + 1)
@@ -125,8 +133,14 @@ module _ (relations : List Relation) (rels : List RelId) (items : List Current) 
 
         item_met : IsMet relations rels rel (ent + 1) item
         item_met = record {
-          asked = subst (λ r. IsOfAsked relations rels r item.ent) (sym same_rel) (subst (IsOfAsked relations rels (rel_of rel)) (sym same_ent) here_asked);
-          values = record { relation = relation; is_relation = ap (slice_get relations) is.of_rel ∙ is_relation; per_attr = is.per_attr };
+          asked = subst (λ r. IsOfAsked relations rels r item.ent) (sym same_rel)
+              (subst (IsOfAsked relations rels (rel_of rel)) (sym same_ent) here_asked);
+          values = record {
+            relation = relation;
+            is_relation = ap (slice_get relations) is.of_rel
+                ∙ is_relation;
+            per_attr = is.per_attr;
+          };
           below = let e = is.of_ent in inr (is.of_rel, omega arith);
         }
 
@@ -165,7 +179,8 @@ module _ (relations : List Relation) (rels : List RelId) (items : List Current) 
             })
             (next_cases rel ent r e below)
 
-        ordered : (i j : ℕ) (a b : Current) → i < j → j < at + 1 → slice_get items i ≡ Some a → slice_get items j ≡ Some b → IsItemBefore a b
+        ordered : (i j : ℕ) (a b : Current) → i < j → j < at + 1 → slice_get items i ≡ Some a → slice_get items j ≡
+            Some b → IsItemBefore a b
         ordered i j a b before below first second =
             ⊎_elim
             (λ (same : j ≡ at).
@@ -202,7 +217,8 @@ module _ (relations : List Relation) (rels : List RelId) (items : List Current) 
         (cases_order place.0 at)
       where
         -- an item that stands before that of the entity is met twice
-        skipped : (item : Current) (place : ℕ) → slice_get items place ≡ Some item → item.rel.0 ≡ rel → item.ent.0 ≡ ent → at < place → ⊥
+        skipped : (item : Current) (place : ℕ) → slice_get items place ≡ Some item → item.rel.0 ≡ rel
+            → item.ent.0 ≡ ent → at < place → ⊥
         skipped item place found of_rel of_ent late =
             let inside = slice_get_within items place item found in
             let next = item_at items at (omega arith) in
@@ -221,7 +237,12 @@ module _ (relations : List Relation) (rels : List RelId) (items : List Current) 
     within = met.within;
     only = λ k item below found.
         let was = met.only k item below found in
-        record { asked = was.asked; values = was.values; below = below_rel rel (length relation.entities) item.rel item.ent was.below };
+        record {
+          asked = was.asked;
+          values = was.values;
+          below = below_rel rel (length relation.entities) item.rel
+              item.ent was.below;
+        };
     all = λ r e of_asked below.
         ⊎_elim
         (λ (less : r.0 < rel). met.all r e of_asked (inl less))
@@ -236,7 +257,8 @@ module _ (relations : List Relation) (rels : List RelId) (items : List Current) 
           same_Some of_asked.relation relation (sym of_asked.is_relation ∙ ap (slice_get relations) same ∙ is_relation) in
           subst (λ (q : Relation). e.0 < length q.entities) own of_asked.within
 
-  pub met_skip : (rel at : ℕ) → is_asked rels rel ≡ false → AreMet relations rels items rel 0 at → AreMet relations rels items (rel + 1) 0 at
+  pub met_skip : (rel at : ℕ) → is_asked rels rel ≡ false → AreMet relations rels items rel 0 at
+      → AreMet relations rels items (rel + 1) 0 at
   met_skip rel at unasked met = record {
     within = met.within;
     only = λ k item below found.
@@ -254,7 +276,8 @@ module _ (relations : List Relation) (rels : List RelId) (items : List Current) 
 
   -- ---- the end
 
-  pub met_all : (at : ℕ) → at ≡ length items → AreMet relations rels items (length relations) 0 at → AreItemsOf relations rels items
+  pub met_all : (at : ℕ) → at ≡ length items → AreMet relations rels items (length relations) 0 at
+      → AreItemsOf relations rels items
   met_all at whole met = record {
     only = all_from (λ (item : Current). IsOfAsked relations rels item.rel item.ent) items
         (λ i item found. (met.only i item (early i item found) found).asked);
@@ -268,11 +291,13 @@ module _ (relations : List Relation) (rels : List RelId) (items : List Current) 
       early : (i : ℕ) (item : Current) → slice_get items i ≡ Some item → i < at
       early i item found = let inside = slice_get_within items i item found in omega arith
 
-  pub met_fewer : (at : ℕ) → (at ≡ length items → ⊥) → AreMet relations rels items (length relations) 0 at → AreItemsOf relations rels items → ⊥
+  pub met_fewer : (at : ℕ) → (at ≡ length items → ⊥) → AreMet relations rels items (length relations) 0 at
+      → AreItemsOf relations rels items → ⊥
   met_fewer at fewer met are =
       let most = met.within in
       let next = item_at items at (omega arith) in
       let of_asked = all_at (λ (x : Current). IsOfAsked relations rels x.rel x.ent) items at next.0 are.only next.1 in
-      let twice = met.all next.0.rel next.0.ent of_asked (inl (slice_get_within relations next.0.rel.0 of_asked.relation of_asked.is_relation)) in
+      let twice = met.all next.0.rel next.0.ent of_asked
+      (inl (slice_get_within relations next.0.rel.0 of_asked.relation of_asked.is_relation)) in
       not_before_itself twice.item next.0 twice.of_rel twice.of_ent
       (are.ordered twice.place at twice.item next.0 twice.early twice.here next.1)

@@ -31,10 +31,12 @@ answer_need item tuple = record { part = part.Item item; claim = HasAnswer tuple
 
 -- ---- the claim at a place
 
-pub pair_at : (pairs : List Asked) (k : ℕ) (p : Asked) → slice_get pairs k ≡ Some p → slice_get (pair_needs pairs) k ≡ Some (pair_need p)
+pub pair_at : (pairs : List Asked) (k : ℕ) (p : Asked) → slice_get pairs k ≡ Some p → slice_get (pair_needs pairs)
+    k ≡ Some (pair_need p)
 pair_at pairs k p at = slice_get-map pair_need pairs k ∙ ap (option_map pair_need) at
 
-value_from : (item : ℕ) (rel : RelId) (ent : EntId) (from : ℕ) (values : List Value) (k : ℕ) (v : Value) → slice_get values k ≡ Some v
+value_from : (item : ℕ) (rel : RelId) (ent : EntId) (from : ℕ) (values : List Value) (k : ℕ) (v : Value)
+    → slice_get values k ≡ Some v
     → slice_get (value_needs item rel ent from values) k ≡ Some (value_need item rel (from + k) ent v)
 value_from item rel ent from [] k v at = absurd (none-some v at)
 value_from item rel ent from (x ∷ values) zero v at =
@@ -80,7 +82,8 @@ needs_append : (at : ℕ) (xs ys : List Current) → item_needs at (xs ++ ys) �
 needs_append at [] ys = let same : at ≡ at + 0 = omega arith in ap (λ n. item_needs n ys) same
 needs_append at (x ∷ xs) ys =
     let same : at + 1 + length xs ≡ at + suc (length xs) = omega arith in
-    ap (λ ns. value_needs at x.rel x.ent 0 x.values ++ ns) (needs_append (at + 1) xs ys ∙ ap (λ n. item_needs (at + 1) xs ++ item_needs n ys) same)
+    ap (λ ns. value_needs at x.rel x.ent 0 x.values ++ ns) (needs_append (at + 1) xs ys
+    ∙ ap (λ n. item_needs (at + 1) xs ++ item_needs n ys) same)
     ∙ sym (append_assoc (value_needs at x.rel x.ent 0 x.values) (item_needs (at + 1) xs) (item_needs (at + suc (length xs)) ys))
 
 module _ (relations : List Relation) (log : Log) where
@@ -107,7 +110,8 @@ module _ (relations : List Relation) (log : Log) where
             (All-append (IsDerived relations log) front (take at own) derived first.before);
       }
 
-  pub unmet_after : (front own rest : List Need) (from : ℕ) (fault : VerifyFault) → from ≡ length front → All (IsDerived relations log) front
+  pub unmet_after : (front own rest : List Need) (from : ℕ) (fault : VerifyFault) → from ≡ length front
+      → All (IsDerived relations log) front
       → IsUnmetFrom from relations log own fault → IsUnmetFrom 0 relations log (front ++ (own ++ rest)) fault
   unmet_after front own rest from (Refused p (NotShown (NoUnit place))) is derived unmet =
       let same = unmet.1 in
@@ -161,12 +165,14 @@ module _ (relations : List Relation) (log : Log) where
       let back = length-append (own_needs item k) (let none : List Need = [] in none) in
       omega (arith, own, whole, front, back)
 
-  pub items_unmet : (items : List Current) (k : ℕ) (item : Current) (place : ℕ) (fault : VerifyFault) → slice_get items k ≡ Some item
+  pub items_unmet : (items : List Current) (k : ℕ) (item : Current) (place : ℕ) (fault : VerifyFault)
+      → slice_get items k ≡ Some item
       → place ≡ length (first_needs items k) → All (IsDerived relations log) (first_needs items k)
       → IsUnmetFrom place relations log (own_needs item k) fault → IsUnmetFrom 0 relations log (item_needs 0 items) fault
   items_unmet items k item place fault at count derived unmet =
       subst (λ ns. IsUnmetFrom 0 relations log ns fault) (sym parts)
-      (unmet_after (first_needs items k) (own_needs item k) (item_needs (k + 1) (drop (k + 1) items)) place fault count derived unmet)
+      (unmet_after (first_needs items k) (own_needs item k) (item_needs (k + 1) (drop (k + 1) items)) place fault
+      count derived unmet)
     where
       number : 0 + length (take k items) ≡ k
       number =
@@ -187,7 +193,8 @@ moved_derived rs rs' log log' ps ps' e f g all =
     subst (λ r. All (IsDerived r log') (pair_needs ps')) e
     (subst (λ l. All (IsDerived rs l) (pair_needs ps')) f (subst (λ p. All (IsDerived rs log) (pair_needs p)) g all))
 
-pub moved_unmet : (rs rs' : List Relation) (log log' : Log) (ps ps' : List Asked) (fault : VerifyFault) → rs ≡ rs' → log ≡ log' → ps ≡ ps'
+pub moved_unmet : (rs rs' : List Relation) (log log' : Log) (ps ps' : List Asked) (fault : VerifyFault) → rs ≡ rs'
+    → log ≡ log' → ps ≡ ps'
     → IsUnmetFrom 0 rs log (pair_needs ps) fault → IsUnmetFrom 0 rs' log' (pair_needs ps') fault
 moved_unmet rs rs' log log' ps ps' fault e f g unmet =
     subst (λ r. IsUnmetFrom 0 r log' (pair_needs ps') fault) e

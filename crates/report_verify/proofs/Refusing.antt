@@ -38,14 +38,16 @@ same_answers (asked.Answers query) tuples = refl
 -- a verdict that claims something asks for a completion
 listed : (s : Spec) (q : Question) (v : Verdict) (cs : List Rankings) (log : Log) (place : ℕ) (need : Need)
     → slice_get (needs_of q v) place ≡ Some need → IsBacked s v cs log → cs ≢ []
-listed s q verdict.Inconsistent cs log place need at backed = absurd (none_in (needs_of q verdict.Inconsistent) place need (nothing_claimed q verdict.Inconsistent refl) at)
+listed s q verdict.Inconsistent cs log place need at backed = absurd (none_in (needs_of q verdict.Inconsistent) place
+    need (nothing_claimed q verdict.Inconsistent refl) at)
 listed s q verdict.Consistent cs log place need at backed = backed
 listed s q verdict.Certain cs log place need at backed = backed
 listed s q (verdict.NotCertain p) cs log place need at backed =
     absurd (none_in (needs_of q (verdict.NotCertain p)) place need (nothing_claimed q (verdict.NotCertain p) refl) at)
 listed s q (verdict.Same items) cs log place need at backed = backed
 listed s q (verdict.NotSame rel attr ent) cs log place need at backed =
-    absurd (none_in (needs_of q (verdict.NotSame rel attr ent)) place need (nothing_claimed q (verdict.NotSame rel attr ent) refl) at)
+    absurd (none_in (needs_of q (verdict.NotSame rel attr ent)) place need
+    (nothing_claimed q (verdict.NotSame rel attr ent) refl) at)
 listed s q (verdict.Answers tuples) cs log place need at backed = backed
 listed s q (verdict.Undecided counted) cs log place need at backed =
     absurd (none_in (needs_of q (verdict.Undecided counted)) place need (nothing_claimed q (verdict.Undecided counted) refl) at)
@@ -107,7 +109,8 @@ module _ (s : Spec) (q : Question) (r : Report) (sound : IsSound s q r) where
   some_listed (verdict.Undecided counted) cs backed apart = absurd apart
 
   pub uncommon_refused : (fault : VerifyFault) → IsBacked s r.verdict r.completions r.log
-      → All (IsDerived s.relations r.log) (needs_of q r.verdict) → IsUncommonIn s q r.verdict r.completions fault → Refuses s q r fault
+      → All (IsDerived s.relations r.log) (needs_of q r.verdict) → IsUncommonIn s q r.verdict r.completions fault
+      → Refuses s q r fault
   uncommon_refused NoMemory backed derived apart = tt
   uncommon_refused (Refused part.Verdict (NotShown NotCommon)) backed derived apart =
       (sound, some_listed r.verdict r.completions backed apart, derived, apart)

@@ -13,7 +13,8 @@ use Rattle.report_verify.proofs.Fronts.{item_at}
 abbrev pub Rise : List (List Value) → ℕ → Type 0
 Rise xs n = (k : ℕ) (a b : List Value) → k + 1 < n → slice_get xs k ≡ Some a → slice_get xs (k + 1) ≡ Some b → IsBelow a b
 
-pub rise_more : (xs : List (List Value)) (n : ℕ) (a b : List Value) → 1 ≤ n → slice_get xs (n - 1) ≡ Some a → slice_get xs n ≡ Some b
+pub rise_more : (xs : List (List Value)) (n : ℕ) (a b : List Value) → 1 ≤ n → slice_get xs (n - 1) ≡ Some a
+    → slice_get xs n ≡ Some b
     → IsBelow a b → Rise xs n → Rise xs (n + 1)
 rise_more xs n a b some at at' below rise k x y early here next =
     ⊎_elim
@@ -27,7 +28,8 @@ rise_more xs n a b some at at' below rise k x y early here next =
     (cases_lt (k + 1) n)
 
 -- where each is below the next, each is below all after it
-pub risen : IsTotalOrder (slice_cmp value_cmp) → (xs : List (List Value)) (n : ℕ) → ((i : ℕ) (x : List Value) → slice_get xs i ≡ Some x → i < n)
+pub risen : IsTotalOrder (slice_cmp value_cmp) → (xs : List (List Value)) (n : ℕ) →
+    ((i : ℕ) (x : List Value) → slice_get xs i ≡ Some x → i < n)
     → Rise xs n → AreAscending xs
 risen total xs n all rise i j a b below at at' = go j b below at'
   where

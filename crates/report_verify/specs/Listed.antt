@@ -14,7 +14,8 @@ AgreesAt relations rel attr ent c d = (r : Relation) → slice_get relations rel
     → current_value c rel.0 r.rows attr.0 ent.0 ≡ current_value d rel.0 r.rows attr.0 ent.0
 
 -- one of the completions differs from this one at a place
-pub record OneDiffers (relations : List Relation) (rel : RelId) (attr : AttrId) (ent : EntId) (first : Rankings) (completions : List Rankings) : Type 0 where
+pub record OneDiffers (relations : List Relation) (rel : RelId) (attr : AttrId) (ent : EntId) (first : Rankings)
+    (completions : List Rankings) : Type 0 where
   pub other : Rankings
   pub listed : Contains completions other
   pub differ : DifferAt relations rel attr ent first other

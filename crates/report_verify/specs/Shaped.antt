@@ -35,7 +35,8 @@ pub record AreMet (relations : List Relation) (rels : List RelId) (items : List 
   pub within : at ≤ length items
   pub only : (k : ℕ) (item : Current) → k < at → slice_get items k ≡ Some item → IsMet relations rels rel ent item
   pub all : (r : RelId) (e : EntId) → IsOfAsked relations rels r e → IsBelow rel ent r e → IsAmong items at r e
-  pub ordered : (i j : ℕ) (a b : Current) → i < j → j < at → slice_get items i ≡ Some a → slice_get items j ≡ Some b → IsItemBefore a b
+  pub ordered : (i j : ℕ) (a b : Current) → i < j → j < at → slice_get items i ≡ Some a → slice_get items j ≡ Some b
+      → IsItemBefore a b
 
 -- an item is that of an entity of a relation, and has one value per attribute
 pub record IsItemOf (relation : Relation) (rel ent : ℕ) (item : Current) : Type 0 where

@@ -64,7 +64,8 @@ pair_needs pairs = map (λ p. record { part = part.Verdict; claim = Holds p }) p
 abbrev pub value_needs : ℕ → RelId → EntId → ℕ → List Value → List Need
 value_needs item rel ent attr [] = []
 value_needs item rel ent attr (v ∷ values) =
-    record { part = part.Item item; claim = HasValue rel (record { 0 = attr }) ent v } ∷ value_needs item rel ent (attr + 1) values
+    record { part = part.Item item; claim = HasValue rel (record { 0 = attr }) ent v } ∷ value_needs item rel ent
+    (attr + 1) values
 
 -- the same for each of these items, which are numbered from one on
 abbrev pub item_needs : ℕ → List Current → List Need
@@ -107,7 +108,8 @@ pub record FailsInOne (p : Asked) (completions : List Rankings) : Type 0 where
   pub fails : PairHolds p rankings → ⊥
 
 -- two of the completions differ at a place
-pub record TwoDiffer (relations : List Relation) (rel : RelId) (attr : AttrId) (ent : EntId) (completions : List Rankings) : Type 0 where
+pub record TwoDiffer (relations : List Relation) (rel : RelId) (attr : AttrId) (ent : EntId)
+    (completions : List Rankings) : Type 0 where
   pub one : Rankings
   pub other : Rankings
   pub one_listed : Contains completions one

@@ -54,7 +54,8 @@ fn check_printed(
     requires ascending { AreAscending tuples.now }
     requires some { completions.now ≢ [] }
     ensures common { OnOk result (AreCommon spec.now.relations query.now tuples.now completions.now) }
-    ensures uncommon { IfErr result (IsUncommonIn spec.now (asked.Answers query.now) (verdict.Answers tuples.now) completions.now) }
+    ensures uncommon { IfErr result (IsUncommonIn spec.now (asked.Answers query.now) (verdict.Answers tuples.now)
+        completions.now) }
 {
     match are_common(alloc, spec, query, completions.as_slice(), tuples) {
         Ok(true) => Ok(()),

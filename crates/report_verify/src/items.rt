@@ -38,7 +38,8 @@ pub(crate) fn are_items_of(
 fn asked_marks(alloc: Global, relations: usize, rels: &[RelId]) -> Result<Vec<bool>, NoMemory>
     requires { All (λ rel. rel.0 < relations) rels.now }
     ensures len { IfOk result (λ marks. vec_len marks ≡ relations) }
-    ensures marks { IfOk result (λ marks. (rel : ℕ) → rel < relations → slice_index_or marks.items rel false ≡ is_asked rels.now rel) }
+    ensures marks { IfOk result (λ marks. (rel : ℕ) → rel < relations → slice_index_or marks.items rel false ≡
+        is_asked rels.now rel) }
 {
     let mut marks = Vec::new(alloc);
     marks.resize(relations, false)?;

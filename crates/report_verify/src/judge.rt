@@ -40,7 +40,8 @@ pub fn verify(
     requires few { length report.now.completions < 2 ^ 32 }
     requires numbered { IsNumbered report.now.log.statements report.now.log.steps }
     ensures shown { OnOk result (ShowsVerdict spec.now question.now report.now) }
-    ensures right { OnOk result (is_decided (kind_of report.now.verdict) ≡ true → IsRight spec.now question.now report.now.verdict) }
+    ensures right { OnOk result (is_decided (kind_of report.now.verdict) ≡ true → IsRight spec.now question.now
+        report.now.verdict) }
     ensures refused { IfErr result (Refuses spec.now question.now report.now) }
     ensures exact { ShowsVerdict spec.now question.now report.now → IfErr result (λ e. e ≡ fault.NoMemory) }
 {

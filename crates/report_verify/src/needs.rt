@@ -159,8 +159,10 @@ fn check_values(
     from: usize,
 ) -> Result<usize, VerifyFault>
     ensures next { IfOk result (λ next. next ≡ from + length item.now.values) }
-    ensures derived { OnOk result (All (IsDerived units.now.relations units.now.log) (value_needs at item.now.rel item.now.ent 0 item.now.values)) }
-    ensures unmet { IfErr result (IsUnmetFrom from units.now.relations units.now.log (value_needs at item.now.rel item.now.ent 0 item.now.values)) }
+    ensures derived { OnOk result (All (IsDerived units.now.relations units.now.log)
+        (value_needs at item.now.rel item.now.ent 0 item.now.values)) }
+    ensures unmet { IfErr result (IsUnmetFrom from units.now.relations units.now.log
+        (value_needs at item.now.rel item.now.ent 0 item.now.values)) }
 {
     let mut place = from;
     for (attr, value) in item.values.as_slice().iter().enumerate() {

@@ -50,8 +50,10 @@ fn asks_pair(question: &Question, pair: Asked) -> bool
 
 // Is the relation one of those that are asked about?
 fn asks_relation(question: &Question, rel: RelId) -> bool
-    ensures is { result ≡ true → (s : Spec) (attr : AttrId) (ent : EntId) → IsOneOf s question.now (verdict.NotSame rel attr ent) }
-    ensures other { result ≡ false → (s : Spec) (attr : AttrId) (ent : EntId) → IsOneOf s question.now (verdict.NotSame rel attr ent) → ⊥ }
+    ensures is { result ≡ true → (s : Spec) (attr : AttrId) (ent : EntId) → IsOneOf s question.now
+        (verdict.NotSame rel attr ent) }
+    ensures other { result ≡ false → (s : Spec) (attr : AttrId) (ent : EntId) → IsOneOf s question.now
+        (verdict.NotSame rel attr ent) → ⊥ }
 {
     match question {
         Question::Same(rels) => rels.as_slice().contains(&rel),

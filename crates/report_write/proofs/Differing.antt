@@ -32,7 +32,8 @@ differing_list first c rel attr ent h =
 
 -- a list that is the same is left out, and another one stays
 pub left_out : (first c : Rankings) (rel attr ent : ℕ) → AreAlike first c
-    → same_rows (ranking_of first rel attr ent) (ranking_of c rel attr ent) ≡ true → ranking_of (differing first c) rel attr ent ≡ []
+    → same_rows (ranking_of first rel attr ent) (ranking_of c rel attr ent) ≡ true → ranking_of (differing first c)
+    rel attr ent ≡ []
 left_out first c rel attr ent h same =
     differing_list first c rel attr ent h ∙ ap (λ (b : Bool). if b then [] else ranking_of c rel attr ent) same
 
@@ -46,14 +47,17 @@ stays first c rel attr ent h other =
 pub same_relations : (first c : Rankings) → AreAlike first c → length (differing first c) ≡ length c
 same_relations first c h = length-merged (merged (merged list_unless)) first c h.per_relation
 
-pub same_attrs : (first c : Rankings) (rel : ℕ) → AreAlike first c → length (get_or (differing first c) rel []) ≡ length (get_or c rel [])
+pub same_attrs : (first c : Rankings) (rel : ℕ) → AreAlike first c → length (get_or (differing first c) rel []) ≡
+    length (get_or c rel [])
 same_attrs first c rel h =
-    ap length (differing_attrs first c rel h) ∙ length-merged (merged list_unless) (get_or first rel []) (get_or c rel []) (h.per_attr rel)
+    ap length (differing_attrs first c rel h) ∙ length-merged (merged list_unless) (get_or first rel [])
+    (get_or c rel []) (h.per_attr rel)
 
 pub same_entities : (first c : Rankings) (rel attr : ℕ) → AreAlike first c
     → length (lists_of (differing first c) rel attr) ≡ length (lists_of c rel attr)
 same_entities first c rel attr h =
-    ap length (differing_lists first c rel attr h) ∙ length-merged list_unless (lists_of first rel attr) (lists_of c rel attr) (h.per_entity rel attr)
+    ap length (differing_lists first c rel attr h) ∙ length-merged list_unless (lists_of first rel attr)
+    (lists_of c rel attr) (h.per_entity rel attr)
 
 -- the shape stays
 pub differing_shape : (relations : List Relation) (first c : Rankings) → AreAlike first c → HasShape relations c
@@ -79,12 +83,18 @@ differing_on relations first c of_first h =
     let both = alike relations first c of_first h.shape in
     record {
       shape = differing_shape relations first c both h.shape;
-      rows = λ rel attr ent r at. rw (differing_list first c rel attr ent both) (rows_unless (λ row. IsRowOf relations rel row.0) _ _ (h.rows rel attr ent r at));
+      rows = λ rel attr ent r at. rw (differing_list first c rel attr ent both)
+          (rows_unless (λ row. IsRowOf relations rel row.0) _ _ (h.rows rel attr ent r at));
     }
 
 -- a completion that can be written is on its relations
 pub writable_on : (relations : List Relation) (c : Rankings) → IsWritableCompletion relations c → AreOn relations c
 writable_on relations c h = record {
   shape = h.shape;
-  rows = λ rel attr ent r at k d below. record { relation = r; is_relation = at; within = (h.rows rel attr ent r at).each k d below };
+  rows = λ rel attr ent r at k d below. record {
+    relation = r;
+    is_relation = at;
+    within =
+        (h.rows rel attr ent r at).each k d below;
+  };
 }

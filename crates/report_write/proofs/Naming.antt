@@ -32,12 +32,15 @@ attr_named relations rel attr r item at is = rw at (named_at (λ (a : Attr). a.n
 -- what is there is within the relation that is read
 pub entity_within : (relations : List Relation) (rel ent : ℕ) (r : Relation) → slice_get relations rel ≡ Some r
     → IsEntityOf relations rel ent → ent < length r.entities
-entity_within relations rel ent r at h = subst (λ (s : Relation). ent < length s.entities) (same_Some _ _ (sym h.is_relation ∙ at)) h.within
+entity_within relations rel ent r at h = subst (λ (s : Relation). ent < length s.entities)
+    (same_Some _ _ (sym h.is_relation ∙ at)) h.within
 
 pub row_within : (relations : List Relation) (rel row : ℕ) (r : Relation) → slice_get relations rel ≡ Some r
     → IsRowOf relations rel row → row < length r.rows
-row_within relations rel row r at h = subst (λ (s : Relation). row < length s.rows) (same_Some _ _ (sym h.is_relation ∙ at)) h.within
+row_within relations rel row r at h = subst (λ (s : Relation). row < length s.rows)
+    (same_Some _ _ (sym h.is_relation ∙ at)) h.within
 
 pub attr_within : (relations : List Relation) (rel attr : ℕ) (r : Relation) → slice_get relations rel ≡ Some r
     → IsAttrOf relations rel attr → attr < length r.attrs
-attr_within relations rel attr r at h = subst (λ (s : Relation). attr < length s.attrs) (same_Some _ _ (sym h.is_relation ∙ at)) h.within
+attr_within relations rel attr r at h = subst (λ (s : Relation). attr < length s.attrs)
+    (same_Some _ _ (sym h.is_relation ∙ at)) h.within

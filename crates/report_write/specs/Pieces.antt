@@ -64,13 +64,15 @@ claim_pieces relations Consistent = word (codes "consistent") ++ symbol (codes "
 claim_pieces relations Certain = word (codes "certain") ++ symbol (codes ";")
 claim_pieces relations (NotCertain p) =
     word (codes "not") ++ word (codes "certain") ++ attribute_pieces relations p.rel.0 p.pair.attr.0 ++ symbol (codes ":")
-    ++ row_pieces relations p.rel.0 p.pair.earlier ++ symbol (codes "<") ++ row_pieces relations p.rel.0 p.pair.later ++ symbol (codes ";")
+    ++ row_pieces relations p.rel.0 p.pair.earlier ++ symbol (codes "<") ++ row_pieces relations p.rel.0 p.pair.later
+    ++ symbol (codes ";")
 claim_pieces relations (Same items) = word (codes "same") ++ symbol (codes ";") ++ many_pieces (current_pieces relations) items
 claim_pieces relations (NotSame rel attr ent) =
     word (codes "not") ++ word (codes "same") ++ attribute_pieces relations rel.0 attr.0 ++ word (codes "of")
     ++ entity_pieces relations rel.0 ent.0 ++ symbol (codes ";")
 claim_pieces relations (Answers tuples) =
-    word (codes "answers") ++ symbol (codes ";") ++ many_pieces (λ tuple. word (codes "answer") ++ values_pieces tuple ++ symbol (codes ";")) tuples
+    word (codes "answers") ++ symbol (codes ";") ++ many_pieces (λ tuple. word (codes "answer")
+    ++ values_pieces tuple ++ symbol (codes ";")) tuples
 claim_pieces relations (Undecided counted) = word (codes "undecided") ++ (word_piece (decimal counted) ∷ symbol (codes ";"))
 
 -- ---- completions
@@ -84,7 +86,8 @@ abbrev pub ranking_pieces : List Relation → ℕ → ℕ → ℕ → List RowId
 ranking_pieces relations rel attr ent [] = []
 ranking_pieces relations rel attr ent (row ∷ rows) =
     word (codes "ranking") ++ attribute_pieces relations rel attr ++ word (codes "of") ++ entity_pieces relations rel ent
-    ++ symbol (codes ":") ++ row_pieces relations rel row ++ many_pieces (further_row_pieces relations rel) rows ++ symbol (codes ";")
+    ++ symbol (codes ":") ++ row_pieces relations rel row ++ many_pieces (further_row_pieces relations rel) rows
+    ++ symbol (codes ";")
 
 -- the rankings of an attribute of a relation, from an entity on
 abbrev pub entity_rankings : List Relation → ℕ → ℕ → ℕ → List (List RowId) → List Piece

@@ -34,7 +34,8 @@ pub fn write_later(
 ) -> Result<(), NoMemory>
     requires first { HasShape spec.now.relations first.now }
     requires later { IsWritableCompletion spec.now.relations completion.now }
-    ensures { OnOk result (into.new ≡ writes_all into.old (completion_pieces spec.now.relations (differing first.now completion.now))) }
+    ensures { OnOk result (into.new ≡ writes_all into.old
+        (completion_pieces spec.now.relations (differing first.now completion.now))) }
 {
     write_shown(into, spec, &Shown::differing(first, completion))
 }
@@ -78,7 +79,8 @@ fn write_relation(
 ) -> Result<(), NoMemory>
     requires shown { AreOn spec.now.relations shown.now }
     requires rel { rel.0 < length spec.now.relations }
-    ensures { OnOk result (into.new ≡ writes_all into.old (attr_rankings spec.now.relations rel.0 0 (slice_index_or shown.now rel.0 []))) }
+    ensures { OnOk result (into.new ≡ writes_all into.old (attr_rankings spec.now.relations rel.0 0
+        (slice_index_or shown.now rel.0 []))) }
 {
     for attr in 0..relation_at(spec.relations(), rel).attrs.len() {
         write_attribute(into, spec, shown, rel, AttrId(attr as u32))?;
@@ -96,7 +98,8 @@ fn write_attribute(
 ) -> Result<(), NoMemory>
     requires shown { AreOn spec.now.relations shown.now }
     requires attr { IsAttrOf spec.now.relations rel.0 attr.0 }
-    ensures { OnOk result (into.new ≡ writes_all into.old (entity_rankings spec.now.relations rel.0 attr.0 0 (lists_of shown.now rel.0 attr.0))) }
+    ensures { OnOk result (into.new ≡ writes_all into.old (entity_rankings spec.now.relations rel.0 attr.0 0
+        (lists_of shown.now rel.0 attr.0))) }
 {
     let relations = spec.relations();
     for ent in 0..relation_at(relations, rel).entities.len() {

@@ -12,6 +12,6 @@ mod shown;
 mod verdict;
 mod writing;
 
-pub use completion::write_completion;
+pub use completion::{write_completion, write_later};
 pub use names::{write_attribute, write_row};
 pub use writing::{write_brief, write_report};

@@ -43,7 +43,8 @@ fn write_rows(
     requires place { IsPlaceOf relations.now rel.0 attr.0 ent.0 }
     requires oldest { IsRowOf relations.now rel.0 oldest.0 }
     requires newer { All (λ row. IsRowOf relations.now rel.0 row.0) newer.now }
-    ensures { OnOk result (into.new ≡ writes_all into.old (ranking_pieces relations.now rel.0 attr.0 ent.0 (oldest ∷ newer.now))) }
+    ensures { OnOk result (into.new ≡ writes_all into.old (ranking_pieces relations.now rel.0 attr.0 ent.0
+        (oldest ∷ newer.now))) }
 {
     into.word("ranking")?;
     write_attribute(into, relations, rel, attr)?;

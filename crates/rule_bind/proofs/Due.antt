@@ -26,21 +26,25 @@ names_few : (before : List (List ℕ)) (vars : List Named) → length (names_of_
 names_few before [] = omega arith
 names_few before (v ∷ vars) = omega (arith, with_name_few before v.name, names_few (with_name before v.name) vars)
 
-pub few_names : (names : List (List ℕ)) (vars listed : List Named) → names ≡ names_of_vars [] vars → vars ≡ listed → length names ≤ length listed
+pub few_names : (names : List (List ℕ)) (vars listed : List Named) → names ≡ names_of_vars [] vars → vars ≡ listed
+    → length names ≤ length listed
 few_names names vars listed is same = omega (arith, ap length is, ap (length {A = Named}) same, names_few [] vars)
 
 -- ---- the parts of a rule
 
 -- the names, attributes and predicates that a rule's parts are looked up in
-pub record AreOf (r : Relation) (tree : RuleTree) (names attrs : List (List ℕ)) (vars : List Named) (trees : List PredicateTree) : Type 0 where
+pub record AreOf (r : Relation) (tree : RuleTree) (names attrs : List (List ℕ)) (vars : List Named)
+    (trees : List PredicateTree) : Type 0 where
   pub is_names : names ≡ names_of_vars [] vars
   pub is_vars : vars ≡ tree.vars
   pub is_attrs : attrs ≡ names_of_attrs r
   pub is_trees : trees ≡ tree.predicates
 
-pub predicates_are : (r : Relation) (tree : RuleTree) (names attrs : List (List ℕ)) (vars : List Named) (trees : List PredicateTree)
+pub predicates_are : (r : Relation) (tree : RuleTree) (names attrs : List (List ℕ)) (vars : List Named)
+    (trees : List PredicateTree)
     → AreOf r tree names attrs vars trees
-    → all_of (predicate_of (names_of_vars [] tree.vars) (names_of_attrs r)) tree.predicates ≡ all_of (predicate_of names attrs) trees
+    → all_of (predicate_of (names_of_vars [] tree.vars) (names_of_attrs r)) tree.predicates ≡ all_of
+    (predicate_of names attrs) trees
 predicates_are r tree names attrs vars trees are =
     let named : names ≡ names_of_vars [] tree.vars = are.is_names ∙ ap (names_of_vars []) are.is_vars in
     ap (λ n. all_of (predicate_of n (names_of_attrs r)) tree.predicates) (sym named)
@@ -48,22 +52,27 @@ predicates_are r tree names attrs vars trees are =
     ∙ ap (all_of (predicate_of names attrs)) (sym are.is_trees)
 
 -- a predicate that is refused
-pub predicates_fault : (rules : List (List ℕ)) (rel : ℕ) (r : Relation) (tree : RuleTree) (names attrs : List (List ℕ)) (vars : List Named)
-    (trees : List PredicateTree) (e : BindFault) → AreOf r tree names attrs vars trees → IsDue (all_of (predicate_of names attrs) trees) (Err e)
+pub predicates_fault : (rules : List (List ℕ)) (rel : ℕ) (r : Relation) (tree : RuleTree)
+    (names attrs : List (List ℕ)) (vars : List Named)
+    (trees : List PredicateTree) (e : BindFault) → AreOf r tree names attrs vars trees
+    → IsDue (all_of (predicate_of names attrs) trees) (Err e)
     → IsDue (ruled_on rules rel r tree) (Err e)
 unfolding ruled_on
 predicates_fault rules rel r tree names attrs vars trees e are due =
     due_through (all_of (predicate_of names attrs) trees) (ruled_on rules rel r tree) e due
-    (λ is. ap (λ p. and_then p (λ predicates. and_then (conclusion_of (names_of_vars [] tree.vars) (names_of_attrs r) tree.conclusion)
+    (λ is. ap (λ p. and_then p (λ predicates. and_then (conclusion_of (names_of_vars [] tree.vars) (names_of_attrs r)
+    tree.conclusion)
     (λ conclusion. unless (refused_later rules r tree) (Ok (rule_of tree rel predicates conclusion)))))
     (predicates_are r tree names attrs vars trees are ∙ is))
 
 -- what is due once the predicates are there
-predicates_there : (rules : List (List ℕ)) (rel : ℕ) (r : Relation) (tree : RuleTree) (names attrs : List (List ℕ)) (vars : List Named)
+predicates_there : (rules : List (List ℕ)) (rel : ℕ) (r : Relation) (tree : RuleTree) (names attrs : List (List ℕ))
+    (vars : List Named)
     (trees : List PredicateTree) (predicates : List Predicate) → AreOf r tree names attrs vars trees
     → all_of (predicate_of names attrs) trees ≡ Ok predicates
     → ruled_on rules rel r tree
-    ≡ and_then (conclusion_of names attrs tree.conclusion) (λ conclusion. unless (refused_later rules r tree) (Ok (rule_of tree rel predicates conclusion)))
+    ≡ and_then (conclusion_of names attrs tree.conclusion) (λ conclusion. unless (refused_later rules r tree)
+    (Ok (rule_of tree rel predicates conclusion)))
 unfolding ruled_on
 predicates_there rules rel r tree names attrs vars trees predicates are is =
     let named : names ≡ names_of_vars [] tree.vars = are.is_names ∙ ap (names_of_vars []) are.is_vars in
@@ -76,19 +85,23 @@ predicates_there rules rel r tree names attrs vars trees predicates are is =
     (λ conclusion. unless (refused_later rules r tree) (Ok (rule_of tree rel predicates conclusion)))) (sym are.is_attrs)
 
 -- a conclusion that is refused
-pub conclusion_fault : (rules : List (List ℕ)) (rel : ℕ) (r : Relation) (tree : RuleTree) (names attrs : List (List ℕ)) (vars : List Named)
+pub conclusion_fault : (rules : List (List ℕ)) (rel : ℕ) (r : Relation) (tree : RuleTree)
+    (names attrs : List (List ℕ)) (vars : List Named)
     (trees : List PredicateTree) (predicates : List Predicate) (e : BindFault) → AreOf r tree names attrs vars trees
     → all_of (predicate_of names attrs) trees ≡ Ok predicates → Err e ≡ conclusion_of names attrs tree.conclusion
     → ruled_on rules rel r tree ≡ Err e
 conclusion_fault rules rel r tree names attrs vars trees predicates e are is refused =
     predicates_there rules rel r tree names attrs vars trees predicates are is
-    ∙ ap (λ c. and_then c (λ conclusion. unless (refused_later rules r tree) (Ok (rule_of tree rel predicates conclusion)))) (sym refused)
+    ∙ ap (λ c. and_then c (λ conclusion. unless (refused_later rules r tree)
+    (Ok (rule_of tree rel predicates conclusion)))) (sym refused)
 
 -- what is due once predicates and conclusion are there
-pub parts_there : (rules : List (List ℕ)) (rel : ℕ) (r : Relation) (tree : RuleTree) (names attrs : List (List ℕ)) (vars : List Named)
+pub parts_there : (rules : List (List ℕ)) (rel : ℕ) (r : Relation) (tree : RuleTree) (names attrs : List (List ℕ))
+    (vars : List Named)
     (trees : List PredicateTree) (predicates : List Predicate) (conclusion : Conclusion) → AreOf r tree names attrs vars trees
     → all_of (predicate_of names attrs) trees ≡ Ok predicates → Ok conclusion ≡ conclusion_of names attrs tree.conclusion
     → ruled_on rules rel r tree ≡ unless (refused_later rules r tree) (Ok (rule_of tree rel predicates conclusion))
 parts_there rules rel r tree names attrs vars trees predicates conclusion are is concluded =
     predicates_there rules rel r tree names attrs vars trees predicates are is
-    ∙ ap (λ c. and_then c (λ conclusion. unless (refused_later rules r tree) (Ok (rule_of tree rel predicates conclusion)))) (sym concluded)
+    ∙ ap (λ c. and_then c (λ conclusion. unless (refused_later rules r tree)
+    (Ok (rule_of tree rel predicates conclusion)))) (sym concluded)

@@ -80,7 +80,8 @@ field_fits : (vars attrs : List (List ℕ)) (n : ℕ) (kinds : List Kind) (var a
     → length attrs ≤ length kinds → field_of vars attrs var attr ≡ Ok operand
     → IsFitting n kinds (kind_at kinds (place_of attrs attr.name)) operand
 field_fits vars attrs n kinds var attr operand few as_many is =
-    let a = and_then_ok (named_in vars var) (λ v. and_then (named_in attrs attr) (λ k. Ok (an_operand.Field v (record { 0 = k })))) operand is in
+    let a = and_then_ok (named_in vars var)
+    (λ v. and_then (named_in attrs attr) (λ k. Ok (an_operand.Field v (record { 0 = k })))) operand is in
     let b = and_then_ok (named_in attrs attr) (λ k. Ok (an_operand.Field a.0 (record { 0 = k }))) operand a.2 in
     let made : an_operand.Field a.0 (record { 0 = b.0 }) ≡ operand = cc in
     let low = named_within attrs attr b.0 (length kinds) as_many b.1 in
@@ -95,11 +96,14 @@ field_fits vars attrs n kinds var attr operand few as_many is =
     ])
 
 operand_fits : (vars attrs : List (List ℕ)) (n : ℕ) (kinds : List Kind) (tree : TermTree) (operand : Operand) → length vars ≤ n
-    → length attrs ≤ length kinds → operand_of vars attrs tree ≡ Ok operand → IsFitting n kinds (term_kind attrs kinds tree) operand
-operand_fits vars attrs n kinds (term_tree.Field var attr) operand few as_many is = field_fits vars attrs n kinds var attr operand few as_many is
+    → length attrs ≤ length kinds → operand_of vars attrs tree ≡ Ok operand → IsFitting n kinds
+    (term_kind attrs kinds tree) operand
+operand_fits vars attrs n kinds (term_tree.Field var attr) operand few as_many is = field_fits vars attrs n kinds var
+    attr operand few as_many is
 operand_fits vars attrs n kinds (term_tree.Constant constant) operand few as_many is =
     let made : an_operand.Constant constant.value ≡ operand = cc in
-    subst (IsFitting n kinds (Some (kind_of constant.value))) made (record { is_operand = tt; kind = kind_of constant.value; has_kind = refl; same_kind = refl })
+    subst (IsFitting n kinds (Some (kind_of constant.value))) made
+    (record { is_operand = tt; kind = kind_of constant.value; has_kind = refl; same_kind = refl })
 
 -- kinds that do not differ are one
 one_kind : (a b : Kind) → differ (Some a) (Some b) ≡ false → a ≡ b
@@ -113,8 +117,10 @@ if_none true fault is = absurd (cc)
 if_none false fault is = refl
 
 -- a predicate fits, where it does not compare two kinds
-predicate_fits : (vars attrs : List (List ℕ)) (n : ℕ) (kinds : List Kind) (tree : PredicateTree) (predicate : Predicate) → length vars ≤ n
-    → length attrs ≤ length kinds → predicate_of vars attrs tree ≡ Ok predicate → mismatch attrs kinds tree ≡ None → IsPredicate n kinds predicate
+predicate_fits : (vars attrs : List (List ℕ)) (n : ℕ) (kinds : List Kind) (tree : PredicateTree)
+    (predicate : Predicate) → length vars ≤ n
+    → length attrs ≤ length kinds → predicate_of vars attrs tree ≡ Ok predicate → mismatch attrs kinds tree ≡ None
+    → IsPredicate n kinds predicate
 predicate_fits vars attrs n kinds (predicate_tree.Order tree) predicate few as_many is fine =
     let a = and_then_ok (atom_of vars attrs tree) _ predicate is in
     let made : a_predicate.Order a.0 ≡ predicate = cc in
@@ -141,7 +147,8 @@ neither None b is = (refl, is)
 neither (Some fault) b is = absurd (cc)
 
 -- all predicates fit, where none of them compares two kinds
-predicates_fit : (vars attrs : List (List ℕ)) (n : ℕ) (kinds : List Kind) (trees : List PredicateTree) (predicates : List Predicate)
+predicates_fit : (vars attrs : List (List ℕ)) (n : ℕ) (kinds : List Kind) (trees : List PredicateTree)
+    (predicates : List Predicate)
     → length vars ≤ n → length attrs ≤ length kinds → all_of (predicate_of vars attrs) trees ≡ Ok predicates
     → first_of (mismatch attrs kinds) trees ≡ None → All (IsPredicate n kinds) predicates
 predicates_fit vars attrs n kinds [] predicates few as_many is fine =
@@ -157,7 +164,8 @@ predicates_fit vars attrs n kinds (tree ∷ trees) predicates few as_many is fin
     (predicates_fit vars attrs n kinds trees b.0 few as_many b.1 both.1))
 
 -- a conclusion fits
-conclusion_fits : (vars attrs : List (List ℕ)) (n : ℕ) (kinds : List Kind) (tree : ConclusionTree) (made : Conclusion) → length vars ≤ n
+conclusion_fits : (vars attrs : List (List ℕ)) (n : ℕ) (kinds : List Kind) (tree : ConclusionTree)
+    (made : Conclusion) → length vars ≤ n
     → length attrs ≤ length kinds → conclusion_of vars attrs tree ≡ Ok made → IsConclusion n kinds made
 conclusion_fits vars attrs n kinds conclusion_tree.Never made few as_many is =
     let same : a_conclusion.Never ≡ made = cc in
@@ -172,7 +180,8 @@ none_mapped f None is = refl
 none_mapped f (Some a) is = absurd (cc)
 
 -- a rule that is not refused has a name of its own
-pub is_fresh : (rules : List (List ℕ)) (r : Relation) (tree : RuleTree) (name : List ℕ) → name ≡ tree.name.name → None ≡ refused_later rules r tree
+pub is_fresh : (rules : List (List ℕ)) (r : Relation) (tree : RuleTree) (name : List ℕ) → name ≡ tree.name.name
+    → None ≡ refused_later rules r tree
     → Contains rules name → ⊥
 is_fresh rules r tree name same fine there =
     let both = neither (taken rules tree.name) _ (sym fine) in
@@ -181,7 +190,8 @@ is_fresh rules r tree name same fine there =
 -- a rule that is not refused fits its relation, where it is short enough
 pub rule_fits : (rules : List (List ℕ)) (r : Relation) (tree : RuleTree) (names attrs : List (List ℕ)) (vars : List Named)
     (trees : List PredicateTree) (rule : Rule) → AreOf r tree names attrs vars trees
-    → all_of (predicate_of names attrs) trees ≡ Ok rule.predicates → Ok rule.conclusion ≡ conclusion_of names attrs tree.conclusion
+    → all_of (predicate_of names attrs) trees ≡ Ok rule.predicates → Ok rule.conclusion ≡ conclusion_of names attrs
+    tree.conclusion
     → None ≡ refused_later rules r tree → 0 < length tree.vars → rule.vars ≡ length tree.vars
     → rule.vars ≤ 4 → length rule.predicates ≤ 16 → IsRuleOn (kinds_of r) rule
 rule_fits rules r tree names attrs vars trees rule are is concluded fine some listed few_vars few_predicates =
@@ -191,7 +201,8 @@ rule_fits rules r tree names attrs vars trees rule are is concluded fine some li
     let later = neither (repeated [] tree.vars) (first_of (mismatch (names_of_attrs r) (kinds_of r)) tree.predicates)
     (neither (taken rules tree.name) _ (sym fine)).1 in
     let apart : first_of (mismatch attrs (kinds_of r)) trees ≡ None =
-    ap (λ a. first_of (mismatch a (kinds_of r)) trees) are.is_attrs ∙ ap (first_of (mismatch (names_of_attrs r) (kinds_of r))) are.is_trees ∙ later.1 in
+    ap (λ a. first_of (mismatch a (kinds_of r)) trees) are.is_attrs
+    ∙ ap (first_of (mismatch (names_of_attrs r) (kinds_of r))) are.is_trees ∙ later.1 in
     record {
       some_var = omega arith;
       few_vars = few_vars;

@@ -6,7 +6,8 @@ use Rattle.spec_names.specs.Names.{place_of}
 use Rattle.rule_bind.specs.Ruled.{names_of_vars, repeated, taken, with_name}
 use Rattle.rule_bind.proofs.Fitting.{neither, none_mapped}
 
-with_untaken : (names : List (List ℕ)) (named : Named) → taken names named ≡ None → with_name names named.name ≡ names ++ named.name ∷ []
+with_untaken : (names : List (List ℕ)) (named : Named) → taken names named ≡ None → with_name names named.name ≡
+    names ++ named.name ∷ []
 with_untaken names named is = rw (none_mapped _ (place_of names named.name) is) refl
 
 listed_after : (before : List (List ℕ)) (vars : List Named) → repeated before vars ≡ None

@@ -63,5 +63,6 @@ pub known : (names : List (List ℕ)) (named : Named) (place : ℕ) → slice_ge
     → taken names named ≡ Some (refused_at DuplicateName named)
 known names named place at = rw ((present names named.name place at).1) refl
 
-pub with_known : (names : List (List ℕ)) (name : List ℕ) (place : ℕ) → slice_get names place ≡ Some name → with_name names name ≡ names
+pub with_known : (names : List (List ℕ)) (name : List ℕ) (place : ℕ) → slice_get names place ≡ Some name
+    → with_name names name ≡ names
 with_known names name place at = rw ((present names name place at).1) refl

@@ -53,18 +53,21 @@ atom_reads vars attrs tree h =
 
 operand_reads : (vars attrs : List (List ℕ)) (tree : TermTree) → Reads (operand_of vars attrs tree)
 operand_reads vars attrs (term_tree.Field var attr) h =
-    then_reads (named_in vars var) _ (named_reads vars var) (λ v. then_reads (named_in attrs attr) _ (named_reads attrs attr) (λ a h. h)) h
+    then_reads (named_in vars var) _ (named_reads vars var) (λ v. then_reads (named_in attrs attr) _
+    (named_reads attrs attr) (λ a h. h)) h
 operand_reads vars attrs (term_tree.Constant constant) h = h
 
 predicate_reads : (vars attrs : List (List ℕ)) (tree : PredicateTree) → Reads (predicate_of vars attrs tree)
-predicate_reads vars attrs (predicate_tree.Order tree) h = then_reads (atom_of vars attrs tree) _ (atom_reads vars attrs tree) (λ atom h. h) h
+predicate_reads vars attrs (predicate_tree.Order tree) h = then_reads (atom_of vars attrs tree) _
+    (atom_reads vars attrs tree) (λ atom h. h) h
 predicate_reads vars attrs (predicate_tree.Compare left cmp right) h =
     then_reads (operand_of vars attrs left) _ (operand_reads vars attrs left)
     (λ l. then_reads (operand_of vars attrs right) _ (operand_reads vars attrs right) (λ r h. h)) h
 
 conclusion_reads : (vars attrs : List (List ℕ)) (tree : ConclusionTree) → Reads (conclusion_of vars attrs tree)
 conclusion_reads vars attrs conclusion_tree.Never h = h
-conclusion_reads vars attrs (conclusion_tree.Order tree) h = then_reads (atom_of vars attrs tree) _ (atom_reads vars attrs tree) (λ atom h. h) h
+conclusion_reads vars attrs (conclusion_tree.Order tree) h = then_reads (atom_of vars attrs tree) _
+    (atom_reads vars attrs tree) (λ atom h. h) h
 
 place_refuses : (place : Option ℕ) (named : Named) → Refuses (option_map (λ k. refused_at DuplicateName named) place)
 place_refuses None named = tt
@@ -76,9 +79,11 @@ taken_refuses names named = place_refuses (place_of names named.name) named
 repeated_refuses : (before : List (List ℕ)) (named : List Named) → Refuses (repeated before named)
 repeated_refuses before [] = tt
 repeated_refuses before (n ∷ named) =
-    else_refuses (taken before n) (repeated (with_name before n.name) named) (taken_refuses before n) (repeated_refuses (with_name before n.name) named)
+    else_refuses (taken before n) (repeated (with_name before n.name) named) (taken_refuses before n)
+    (repeated_refuses (with_name before n.name) named)
 
-test_refuses : (b : Bool) (fault : BindFault) → (IsReadFault {A = Spec} (Err fault) → ⊥) → Refuses (if b then Some fault else None)
+test_refuses : (b : Bool) (fault : BindFault) → (IsReadFault {A = Spec} (Err fault) → ⊥)
+    → Refuses (if b then Some fault else None)
 test_refuses true fault none = none
 test_refuses false fault none = tt
 
@@ -101,10 +106,12 @@ ruled_on_reads : (rules : List (List ℕ)) (rel : ℕ) (r : Relation) (tree : Ru
 unfolding ruled_on
 ruled_on_reads rules rel r tree h =
     then_reads (all_of (predicate_of (names_of_vars [] tree.vars) (names_of_attrs r)) tree.predicates) _
-    (all_reads (predicate_of (names_of_vars [] tree.vars) (names_of_attrs r)) (predicate_reads (names_of_vars [] tree.vars) (names_of_attrs r)) tree.predicates)
+    (all_reads (predicate_of (names_of_vars [] tree.vars) (names_of_attrs r))
+    (predicate_reads (names_of_vars [] tree.vars) (names_of_attrs r)) tree.predicates)
     (λ predicates. then_reads (conclusion_of (names_of_vars [] tree.vars) (names_of_attrs r) tree.conclusion) _
     (conclusion_reads (names_of_vars [] tree.vars) (names_of_attrs r) tree.conclusion)
-    (λ conclusion. unless_reads (refused_later rules r tree) (rule_of tree rel predicates conclusion) (later_refuses rules r tree))) h
+    (λ conclusion. unless_reads (refused_later rules r tree) (rule_of tree rel predicates conclusion)
+    (later_refuses rules r tree))) h
 
 ruled_at_reads : (rules : List (List ℕ)) (rel : ℕ) (r : Option Relation) (tree : RuleTree) → Reads (ruled_at rules rel r tree)
 ruled_at_reads rules rel None tree h = h
@@ -113,9 +120,11 @@ ruled_at_reads rules rel (Some r) tree h = ruled_on_reads rules rel r tree h
 ruled_reads : (s : Spec) (tree : RuleTree) → Reads (ruled s tree)
 unfolding ruled
 ruled_reads s tree h =
-    then_reads (named_in (map (λ r. r.name) s.relations) tree.relation) _ (named_reads (map (λ r. r.name) s.relations) tree.relation)
+    then_reads (named_in (map (λ r. r.name) s.relations) tree.relation) _
+    (named_reads (map (λ r. r.name) s.relations) tree.relation)
     (λ rel. ruled_at_reads (map (λ rule. rule.name) s.rules) rel (slice_get s.relations rel) tree) h
 
 -- a fault of a rule is none of reading
-pub rule_reads : (s : Spec) (tree : RuleTree) (fault : BindFault) → IsDue (ruled s tree) (Err fault) → IsReadFault {A = Rule} (Err fault) → ⊥
+pub rule_reads : (s : Spec) (tree : RuleTree) (fault : BindFault) → IsDue (ruled s tree) (Err fault)
+    → IsReadFault {A = Rule} (Err fault) → ⊥
 rule_reads s tree fault is = due_reads Rule (ruled s tree) fault (ruled_reads s tree) is

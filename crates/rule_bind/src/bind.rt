@@ -78,7 +78,8 @@ fn bind_at(
     requires few { length place.now.attrs.now < 4294967296 }
     ensures due { IsDue (ruled_on rules.now place.now.rel.0 place.now.relation.now tree.now) result }
     ensures of { IfOk result (λ rule. rule.relation ≡ place.now.rel) }
-    ensures fits { IfOk result (λ rule. rule.vars ≤ 4 → length rule.predicates ≤ 16 → IsRuleOn (kinds_of place.now.relation.now) rule) }
+    ensures fits { IfOk result (λ rule. rule.vars ≤ 4 → length rule.predicates ≤ 16
+        → IsRuleOn (kinds_of place.now.relation.now) rule) }
     ensures fresh { IfOk result (λ rule. Contains rules.now rule.name → ⊥) }
 {
     // No text spells a rule with no variable, and none has room for 2^32 of them.

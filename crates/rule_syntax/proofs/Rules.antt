@@ -30,7 +30,8 @@ use Rattle.rule_syntax.specs.Reading.{all_of, atom_after, atom_at, field_after, 
 
 -- what follows the first variable of an atom
 abbrev AtomAfter : Named → OrderAtomTree → Language
-AtomAfter v = Image (λ (x : Named × Named). record { earlier = v; later = x.0; attr = x.1 }) (λ x. IsWord (codes "before") ⋅ SpellsVariable x.0 ⋅ IsWord (codes "in") ⋅ SpellsName x.1)
+AtomAfter v = Image (λ (x : Named × Named). record { earlier = v; later = x.0; attr = x.1 })
+    (λ x. IsWord (codes "before") ⋅ SpellsVariable x.0 ⋅ IsWord (codes "in") ⋅ SpellsName x.1)
 
 reads_atom_after : (v : Named) → IsReader (AtomAfter v) always (atom_after v)
 unfolding atom_after
@@ -40,12 +41,25 @@ reads_atom_after v =
 
 atom_spelled : (a : OrderAtomTree) (tokens : List Lexeme) → Continues SpellsVariable AtomAfter a tokens → SpellsAtom a tokens
 atom_spelled a tokens h = subst (λ (a : OrderAtomTree). SpellsAtom a tokens) h.spelled.second.is
-    (record { front = h.spelled.front; rest = h.spelled.rest; split = h.spelled.split; first = h.spelled.first; second = h.spelled.second.spelled })
+    (record {
+      front = h.spelled.front;
+      rest = h.spelled.rest;
+      split = h.spelled.split;
+      first = h.spelled.first;
+      second = h.spelled.second.spelled;
+    })
 
 spelled_atom : (a : OrderAtomTree) (tokens : List Lexeme) → SpellsAtom a tokens → Continues SpellsVariable AtomAfter a tokens
 spelled_atom a tokens h = record {
   tree = a.earlier;
-  spelled = record { front = h.front; rest = h.rest; split = h.split; first = h.first; second = record { tree = (a.later, a.attr); is = refl; spelled = h.second } };
+  spelled = record {
+    front = h.front;
+    rest = h.rest;
+    split = h.split;
+    first = h.first;
+    second =
+        record { tree = (a.later, a.attr); is = refl; spelled = h.second };
+  };
 }
 
 reads_atom : IsReader SpellsAtom always atom_at
@@ -77,24 +91,41 @@ begins_variable : Begins is_variable_token true SpellsVariable
 begins_variable = first_says is_variable_token true variable_is
 
 begins_constant : Begins is_variable_token false ConstantTerm
-begins_constant = begins_image (λ (c : Const). Constant c) SpellsConst is_variable_token false (first_says is_variable_token false constant_is_no_variable)
+begins_constant = begins_image (λ (c : Const). Constant c) SpellsConst is_variable_token false
+    (first_says is_variable_token false constant_is_no_variable)
 
-term_spelled : (x : TermTree) (tokens : List Lexeme) → Either (Continues SpellsVariable FieldAfter) ConstantTerm x tokens → SpellsTerm x tokens
+term_spelled : (x : TermTree) (tokens : List Lexeme) → Either (Continues SpellsVariable FieldAfter) ConstantTerm x
+    tokens → SpellsTerm x tokens
 term_spelled x tokens (inl h) = subst (λ (x : TermTree). SpellsTerm x tokens) h.spelled.second.is
-    (record { front = h.spelled.front; rest = h.spelled.rest; split = h.spelled.split; first = h.spelled.first; second = h.spelled.second.spelled })
+    (record {
+      front = h.spelled.front;
+      rest = h.spelled.rest;
+      split = h.spelled.split;
+      first = h.spelled.first;
+      second = h.spelled.second.spelled;
+    })
 term_spelled x tokens (inr h) = subst (λ (x : TermTree). SpellsTerm x tokens) h.is h.spelled
 
-spelled_term : (x : TermTree) (tokens : List Lexeme) → SpellsTerm x tokens → Either (Continues SpellsVariable FieldAfter) ConstantTerm x tokens
+spelled_term : (x : TermTree) (tokens : List Lexeme) → SpellsTerm x tokens
+    → Either (Continues SpellsVariable FieldAfter) ConstantTerm x tokens
 spelled_term (Field v attr) tokens h = inl (record {
   tree = v;
-  spelled = record { front = h.front; rest = h.rest; split = h.split; first = h.first; second = record { tree = attr; is = refl; spelled = h.second } };
+  spelled = record {
+    front = h.front;
+    rest = h.rest;
+    split = h.split;
+    first = h.first;
+    second =
+        record { tree = attr; is = refl; spelled = h.second };
+  };
 })
 spelled_term (Constant c) tokens h = inr (record { tree = c; is = refl; spelled = h })
 
 reads_term : IsReader SpellsTerm always term_at
 unfolding term_at
 reads_term = reads_same
-    (reads_choose reads_field reads_constant_term is_variable_token (begins_continues SpellsVariable FieldAfter is_variable_token true begins_variable) begins_constant)
+    (reads_choose reads_field reads_constant_term is_variable_token
+    (begins_continues SpellsVariable FieldAfter is_variable_token true begins_variable) begins_constant)
     term_spelled spelled_term
 
 -- ---- predicates
@@ -104,7 +135,8 @@ first_chosen true x y e = refl
 first_chosen false x y e = absurd (cc)
 
 reads_cmp : IsReader (Says cmp_named) always (one cmp_named)
-reads_cmp = reads_one cmp_named (a_fixed Symbol (codes "=")) Eq (first_chosen (is_symbol (codes "=") (a_fixed Symbol (codes "="))) (Some Eq) _ (a_fixed_is Symbol (codes "=")))
+reads_cmp = reads_one cmp_named (a_fixed Symbol (codes "=")) Eq
+    (first_chosen (is_symbol (codes "=") (a_fixed Symbol (codes "="))) (Some Eq) _ (a_fixed_is Symbol (codes "=")))
 
 -- what follows the first term of a comparison
 abbrev ComparisonAfter : TermTree → PredicateTree → Language
@@ -112,9 +144,11 @@ ComparisonAfter left = Image (λ (x : Cmp × TermTree). predicate.Compare left x
 
 reads_comparison_after : (left : TermTree) → IsReader (ComparisonAfter left) always (comparison_after left)
 unfolding comparison_after
-reads_comparison_after left = reads_mapped (reads_two reads_cmp reads_term) (λ (x : Cmp × TermTree). predicate.Compare left x.0 x.1) always (λ a t. refl)
+reads_comparison_after left = reads_mapped (reads_two reads_cmp reads_term)
+    (λ (x : Cmp × TermTree). predicate.Compare left x.0 x.1) always (λ a t. refl)
 
-comparison_spelled : (left : TermTree) (p : PredicateTree) (tokens : List Lexeme) → (SpellsTerm left ⋅ ComparisonAfter left p) tokens → SpellsPredicate p tokens
+comparison_spelled : (left : TermTree) (p : PredicateTree) (tokens : List Lexeme) →
+    (SpellsTerm left ⋅ ComparisonAfter left p) tokens → SpellsPredicate p tokens
 comparison_spelled left p tokens h = subst (λ (p : PredicateTree). SpellsPredicate p tokens) h.second.is
     (record { front = h.front; rest = h.rest; split = h.split; first = h.first; second = h.second.spelled })
 
@@ -130,19 +164,22 @@ PredicateAfter v = Either (OrderAfter v) (CompareAfter v)
 
 begins_order_after : (v : Named) → Begins (is_word (codes "before")) true (OrderAfter v)
 begins_order_after v p tokens h =
-    begins_fixed (λ (x : Named × Named). SpellsVariable x.0 ⋅ IsWord (codes "in") ⋅ SpellsName x.1) Word (codes "before") (is_word (codes "before")) true (λ t e. e)
+    begins_fixed (λ (x : Named × Named). SpellsVariable x.0 ⋅ IsWord (codes "in") ⋅ SpellsName x.1) Word
+    (codes "before") (is_word (codes "before")) true (λ t e. e)
     h.spelled.tree tokens h.spelled.spelled
 
 begins_field_after : (v : Named) → Begins (is_word (codes "before")) false (FieldAfter v)
 begins_field_after v x tokens h =
-    begins_fixed SpellsName Symbol (codes ".") (is_word (codes "before")) false (apart Symbol (codes ".") Word (codes "before") refl) h.tree tokens h.spelled
+    begins_fixed SpellsName Symbol (codes ".") (is_word (codes "before")) false
+    (apart Symbol (codes ".") Word (codes "before") refl) h.tree tokens h.spelled
 
 reads_predicate_after : (v : Named) → IsReader (PredicateAfter v) always (predicate_after v)
 unfolding predicate_after
 reads_predicate_after v = reads_choose
     (reads_mapped (reads_atom_after v) (λ (a : OrderAtomTree). predicate.Order a) always (λ a t. refl))
     (reads_continued (reads_field_after v) reads_comparison_after)
-    (is_word (codes "before")) (begins_order_after v) (begins_continues (FieldAfter v) ComparisonAfter (is_word (codes "before")) false (begins_field_after v))
+    (is_word (codes "before")) (begins_order_after v) (begins_continues (FieldAfter v) ComparisonAfter
+    (is_word (codes "before")) false (begins_field_after v))
 
 abbrev FromVariable : PredicateTree → Language
 FromVariable = Continues SpellsVariable PredicateAfter
@@ -150,15 +187,29 @@ FromVariable = Continues SpellsVariable PredicateAfter
 abbrev FromConstant : PredicateTree → Language
 FromConstant = Continues ConstantTerm ComparisonAfter
 
-predicate_spelled : (p : PredicateTree) (tokens : List Lexeme) → Either FromVariable FromConstant p tokens → SpellsPredicate p tokens
+predicate_spelled : (p : PredicateTree) (tokens : List Lexeme) → Either FromVariable FromConstant p tokens
+    → SpellsPredicate p tokens
 predicate_spelled p tokens (inl h) = elim h.spelled.second [
   | inl o ↦ subst (λ (p : PredicateTree). SpellsPredicate p tokens) o.is (atom_spelled o.tree tokens (record {
     tree = h.tree;
-    spelled = record { front = h.spelled.front; rest = h.spelled.rest; split = h.spelled.split; first = h.spelled.first; second = o.spelled };
+    spelled = record {
+      front = h.spelled.front;
+      rest = h.spelled.rest;
+      split = h.spelled.split;
+      first =
+          h.spelled.first;
+      second = o.spelled;
+    };
   }))
   | inr c ↦ (let parts : ((SpellsVariable h.tree ⋅ FieldAfter h.tree c.tree) ⋅ ComparisonAfter c.tree p) tokens =
       first_two {L = SpellsVariable h.tree} {M = FieldAfter h.tree c.tree} {N = ComparisonAfter c.tree p}
-      (record { front = h.spelled.front; rest = h.spelled.rest; split = h.spelled.split; first = h.spelled.first; second = c.spelled }) in
+      (record {
+        front = h.spelled.front;
+        rest = h.spelled.rest;
+        split = h.spelled.split;
+        first = h.spelled.first;
+        second = c.spelled;
+      }) in
       comparison_spelled c.tree p tokens (record {
         front = parts.front;
         rest = parts.rest;
@@ -175,7 +226,8 @@ predicate_spelled p tokens (inr h) = comparison_spelled h.tree p tokens (record 
   second = h.spelled.second;
 })
 
-spelled_predicate : (p : PredicateTree) (tokens : List Lexeme) → SpellsPredicate p tokens → Either FromVariable FromConstant p tokens
+spelled_predicate : (p : PredicateTree) (tokens : List Lexeme) → SpellsPredicate p tokens → Either FromVariable
+    FromConstant p tokens
 spelled_predicate (predicate.Order a) tokens h =
     let c : Continues SpellsVariable AtomAfter a tokens = spelled_atom a tokens h in
     inl (record {
@@ -224,7 +276,8 @@ spelled_predicate (predicate.Compare (Constant c) cmp right) tokens h = inr (rec
 pub reads_predicate : IsReader SpellsPredicate always predicate_at
 unfolding predicate_at
 reads_predicate = reads_same
-    (reads_choose (reads_continued reads_variable reads_predicate_after) (reads_continued reads_constant_term reads_comparison_after) is_variable_token
+    (reads_choose (reads_continued reads_variable reads_predicate_after)
+    (reads_continued reads_constant_term reads_comparison_after) is_variable_token
     (begins_continues SpellsVariable PredicateAfter is_variable_token true begins_variable)
     (begins_continues ConstantTerm ComparisonAfter is_variable_token false begins_constant))
     predicate_spelled spelled_predicate
@@ -234,26 +287,31 @@ reads_predicate = reads_same
 abbrev If : List PredicateTree → Language
 If ps = IsWord (codes "if") ⋅ Listed (IsWord (codes "and")) SpellsPredicate ps ⋅ IsWord (codes "then")
 
-reads_if : IsReader If always (after (is_word (codes "if")) (before (listed (is_word (codes "and")) predicate_at) (is_word (codes "then"))))
+reads_if : IsReader If always (after (is_word (codes "if")) (before (listed (is_word (codes "and")) predicate_at)
+    (is_word (codes "then"))))
 reads_if = after_word (codes "if")
-    (before_word (codes "then") (listed_word (codes "and") reads_predicate) (λ a t e. ap not (apart Word (codes "then") Word (codes "and") refl t e)))
+    (before_word (codes "then") (listed_word (codes "and") reads_predicate)
+    (λ a t e. ap not (apart Word (codes "then") Word (codes "and") refl t e)))
 
 -- what ends conditions: any token, but the word `if` begins some
 abbrev ends_conditions : List PredicateTree → Lexeme → Bool
 ends_conditions [] t = not (is_word (codes "if") t)
 ends_conditions (p ∷ ps) t = true
 
-same_end : (o : Option (List PredicateTree)) (tokens : List Lexeme) (t : Lexeme) → Maybe If o tokens → ends_conditions (all_of o) t ≡ maybe_ends always (is_word (codes "if")) o t
+same_end : (o : Option (List PredicateTree)) (tokens : List Lexeme) (t : Lexeme) → Maybe If o tokens
+    → ends_conditions (all_of o) t ≡ maybe_ends always (is_word (codes "if")) o t
 same_end None tokens t h = refl
 same_end (Some []) tokens t h = absurd h.second.first
 same_end (Some (p ∷ ps)) tokens t h = refl
 
-conditions_spelled : (o : Option (List PredicateTree)) (tokens : List Lexeme) → Maybe If o tokens → SpellsConditions (all_of o) tokens
+conditions_spelled : (o : Option (List PredicateTree)) (tokens : List Lexeme) → Maybe If o tokens → SpellsConditions
+    (all_of o) tokens
 conditions_spelled None tokens h = h
 conditions_spelled (Some []) tokens h = absurd h.second.first
 conditions_spelled (Some (p ∷ ps)) tokens h = h
 
-spelled_conditions : (ps : List PredicateTree) (tokens : List Lexeme) → SpellsConditions ps tokens → Image all_of (Maybe If) ps tokens
+spelled_conditions : (ps : List PredicateTree) (tokens : List Lexeme) → SpellsConditions ps tokens → Image all_of
+    (Maybe If) ps tokens
 spelled_conditions [] tokens h = record { tree = None; is = refl; spelled = h }
 spelled_conditions (p ∷ ps) tokens h = record { tree = Some (p ∷ ps); is = refl; spelled = h }
 
@@ -263,7 +321,8 @@ reads_conditions =
     reads_made
     (reads_until {stop' = λ o. ends_conditions (all_of o)}
     (reads_maybe reads_if (is_word (codes "if"))
-    (begins_fixed (λ (ps : List PredicateTree). Listed (IsWord (codes "and")) SpellsPredicate ps ⋅ IsWord (codes "then")) Word (codes "if") (is_word (codes "if")) true (λ t e. e)))
+    (begins_fixed (λ (ps : List PredicateTree). Listed (IsWord (codes "and")) SpellsPredicate ps ⋅ IsWord
+    (codes "then")) Word (codes "if") (is_word (codes "if")) true (λ t e. e)))
     same_end)
     all_of ends_conditions (λ a t. refl) conditions_spelled spelled_conditions
 
@@ -283,11 +342,14 @@ spelled_conclusion : (c : ConclusionTree) (tokens : List Lexeme) → SpellsConcl
 spelled_conclusion conclusion.Never tokens h = inl (record { tree = tt; is = refl; spelled = h })
 spelled_conclusion (conclusion.Order a) tokens h = inr (record { tree = a; is = refl; spelled = h })
 
-begins_false : (test : Lexeme → Bool) (b : Bool) → ((t : Lexeme) → is_word (codes "false") t ≡ true → test t ≡ b) → Begins test b False
+begins_false : (test : Lexeme → Bool) (b : Bool) → ((t : Lexeme) → is_word (codes "false") t ≡ true → test t ≡ b)
+    → Begins test b False
 begins_false test b goes c tokens h = first_passes (is_word (codes "false")) test b goes tokens h.spelled
 
-begins_atom : (test : Lexeme → Bool) (b : Bool) → ((t : Lexeme) → is_variable_token t ≡ true → test t ≡ b) → Begins test b Concludes
-begins_atom test b goes c tokens h = first_then test b (first_says test b (λ t v e. goes t (variable_is t v e)) h.tree.earlier) h.spelled
+begins_atom : (test : Lexeme → Bool) (b : Bool) → ((t : Lexeme) → is_variable_token t ≡ true → test t ≡ b)
+    → Begins test b Concludes
+begins_atom test b goes c tokens h = first_then test b (first_says test b (λ t v e. goes t (variable_is t v e))
+    h.tree.earlier) h.spelled
 
 pub reads_conclusion : IsReader SpellsConclusion always conclusion_at
 unfolding conclusion_at
@@ -295,7 +357,8 @@ reads_conclusion = reads_same
     (reads_choose
     (reads_mapped (reads_word (codes "false")) (λ (u : Unit {0}). conclusion.Never) always (λ a t. refl))
     (reads_mapped reads_atom (λ (a : OrderAtomTree). conclusion.Order a) always (λ a t. refl))
-    (is_word (codes "false")) (begins_false (is_word (codes "false")) true (λ t e. e)) (begins_atom (is_word (codes "false")) false variable_not_false))
+    (is_word (codes "false")) (begins_false (is_word (codes "false")) true (λ t e. e))
+    (begins_atom (is_word (codes "false")) false variable_not_false))
     conclusion_spelled spelled_conclusion
 
 -- no conclusion begins with the word `if`
@@ -330,21 +393,27 @@ Vars x = Listed (IsSymbol (codes ",")) SpellsVariable x.0 ⋅ IsSymbol (codes ")
 reads_body : IsReader Body always (both conditions_at conclusion_at)
 reads_body = reads_then reads_conditions reads_conclusion no_if begins_conclusion ends_at_conclusion
 
-reads_vars : IsReader Vars always (both (listed (is_symbol (codes ",")) (one variable)) (after (is_symbol (codes ")")) (after (is_symbol (codes ":")) (both conditions_at conclusion_at))))
-reads_vars = reads_then (listed_symbol (codes ",") reads_variable) (after_symbol (codes ")") (after_symbol (codes ":") reads_body)) (is_symbol (codes ")"))
-    (begins_fixed (λ (x : List PredicateTree × ConclusionTree). IsSymbol (codes ":") ⋅ Body x) Symbol (codes ")") (is_symbol (codes ")")) true (λ t e. e))
+reads_vars : IsReader Vars always (both (listed (is_symbol (codes ",")) (one variable))
+    (after (is_symbol (codes ")")) (after (is_symbol (codes ":")) (both conditions_at conclusion_at))))
+reads_vars = reads_then (listed_symbol (codes ",") reads_variable)
+    (after_symbol (codes ")") (after_symbol (codes ":") reads_body)) (is_symbol (codes ")"))
+    (begins_fixed (λ (x : List PredicateTree × ConclusionTree). IsSymbol (codes ":") ⋅ Body x) Symbol (codes ")")
+    (is_symbol (codes ")")) true (λ t e. e))
     (λ a t e. ap not (apart Symbol (codes ")") Symbol (codes ",") refl t e))
 
 -- a rule ends at any token
 pub reads_rule : IsReader SpellsRule always rule_at
 unfolding rule_at
 reads_rule =
-    reads_made (after_word (codes "rule") (reads_two reads_name (after_word (codes "on") (reads_two reads_name (after_symbol (codes "(") reads_vars)))))
+    reads_made (after_word (codes "rule")
+    (reads_two reads_name (after_word (codes "on") (reads_two reads_name (after_symbol (codes "(") reads_vars)))))
     rule_of always (λ a t. refl) (λ x tokens h. h)
     (λ r tokens h. record { tree = (r.name, (r.relation, (r.vars, (r.predicates, r.conclusion)))); is = refl; spelled = h })
 
 -- a rule begins with the word `rule`
-pub begins_rule : (test : Lexeme → Bool) (b : Bool) → ((t : Lexeme) → is_word (codes "rule") t ≡ true → test t ≡ b) → Begins test b SpellsRule
+pub begins_rule : (test : Lexeme → Bool) (b : Bool) → ((t : Lexeme) → is_word (codes "rule") t ≡ true → test t ≡ b)
+    → Begins test b SpellsRule
 begins_rule test b goes = begins_fixed
-    (λ (r : RuleTree). SpellsName r.name ⋅ IsWord (codes "on") ⋅ SpellsName r.relation ⋅ IsSymbol (codes "(") ⋅ Vars (r.vars, (r.predicates, r.conclusion)))
+    (λ (r : RuleTree). SpellsName r.name ⋅ IsWord (codes "on") ⋅ SpellsName r.relation ⋅ IsSymbol (codes "(") ⋅ Vars
+    (r.vars, (r.predicates, r.conclusion)))
     Word (codes "rule") test b goes

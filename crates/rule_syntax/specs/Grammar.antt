@@ -27,13 +27,16 @@ SpellsConst c = Says constant c
 -- the comparison that a symbol names
 abbrev pub cmp_named : Lexeme → Option Cmp
 cmp_named t =
-    if is_symbol (codes "=") t then Some Eq else (if is_symbol (codes "!=") t then Some Ne else (if is_symbol (codes "<") t then Some Lt
-    else (if is_symbol (codes "<=") t then Some Le else (if is_symbol (codes ">") t then Some Gt else (if is_symbol (codes ">=") t then Some Ge
+    if is_symbol (codes "=") t then Some Eq else (if is_symbol (codes "!=") t then Some Ne else
+    (if is_symbol (codes "<") t then Some Lt
+    else (if is_symbol (codes "<=") t then Some Le else (if is_symbol (codes ">") t then Some Gt else
+    (if is_symbol (codes ">=") t then Some Ge
     else None)))))
 
 -- atomorder = variable "before" variable "in" name
 abbrev pub SpellsAtom : OrderAtomTree → Language
-SpellsAtom a = SpellsVariable a.earlier ⋅ IsWord (codes "before") ⋅ SpellsVariable a.later ⋅ IsWord (codes "in") ⋅ SpellsName a.attr
+SpellsAtom a = SpellsVariable a.earlier ⋅ IsWord (codes "before") ⋅ SpellsVariable a.later ⋅ IsWord (codes "in") ⋅
+    SpellsName a.attr
 
 -- term = variable "." name | constant
 abbrev pub SpellsTerm : TermTree → Language

@@ -45,7 +45,8 @@ comparison_after left = mapped (λ x. predicate.Compare left x.0 x.1) (both (one
 
 -- the predicate that a variable begins: the word `before` goes on with an atom, and a dot with a term
 unfoldable pub predicate_after : Named → Parser PredicateTree
-predicate_after v = choose (is_word (codes "before")) (mapped (λ a. predicate.Order a) (atom_after v)) (continued (field_after v) comparison_after)
+predicate_after v = choose (is_word (codes "before")) (mapped (λ a. predicate.Order a) (atom_after v))
+    (continued (field_after v) comparison_after)
 
 -- a predicate, by what begins it
 unfoldable pub predicate_at : Parser PredicateTree
@@ -60,11 +61,13 @@ all_of (Some predicates) = predicates
 unfoldable pub conditions_at : Parser (List PredicateTree)
 conditions_at =
     mapped all_of
-    (maybe (is_word (codes "if")) (after (is_word (codes "if")) (before (listed (is_word (codes "and")) predicate_at) (is_word (codes "then")))))
+    (maybe (is_word (codes "if")) (after (is_word (codes "if")) (before (listed (is_word (codes "and")) predicate_at)
+    (is_word (codes "then")))))
 
 -- what a rule concludes
 unfoldable pub conclusion_at : Parser ConclusionTree
-conclusion_at = choose (is_word (codes "false")) (mapped (λ u. conclusion.Never) (passing (is_word (codes "false")))) (mapped (λ a. conclusion.Order a) atom_at)
+conclusion_at = choose (is_word (codes "false")) (mapped (λ u. conclusion.Never) (passing (is_word (codes "false"))))
+    (mapped (λ a. conclusion.Order a) atom_at)
 
 -- a rule, from its word on
 unfoldable pub rule_at : Parser RuleTree

@@ -61,7 +61,8 @@ answered n (Answer first ∷ statements) (values ∷ answers) up only all =
     let low = (only first (inl refl)).0 in
     let is : first ≡ n = ⊎_elim
     (λ (e : Answer first ≡ Answer n). answer_same first n e)
-    (λ (there : IsIn statements (Answer n)). let less = answer_less first n (up.0 (Answer n) there) in absurd (omega (arith, less, low)))
+    (λ (there : IsIn statements (Answer n)). let less = answer_less first n (up.0 (Answer n) there) in absurd
+    (omega (arith, less, low)))
     (all n (omega arith) (omega arith)) in (
       is,
       answered (n + 1) statements answers up.1

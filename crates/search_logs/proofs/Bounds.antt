@@ -36,10 +36,12 @@ module _ (relations : List Relation) (are : AreRelations relations) where
       let few = are.few in
       omega (arith, within, few)
 
-  pub attr_place : (rel : RelId) (r : Relation) (attr : AttrId) → slice_get relations rel.0 ≡ Some r → attr.0 < length r.attrs → IsPlace attr.0
+  pub attr_place : (rel : RelId) (r : Relation) (attr : AttrId) → slice_get relations rel.0 ≡ Some r
+      → attr.0 < length r.attrs → IsPlace attr.0
   attr_place rel r attr at within = let few = (facts_of rel r at).few_attrs in omega (arith, within, few)
 
-  pub row_place : (rel : RelId) (r : Relation) (row : RowId) (ent : ℕ) → slice_get relations rel.0 ≡ Some r → entity_of r.rows row.0 ≡ Some ent
+  pub row_place : (rel : RelId) (r : Relation) (row : RowId) (ent : ℕ) → slice_get relations rel.0 ≡ Some r
+      → entity_of r.rows row.0 ≡ Some ent
       → IsPlace row.0
   row_place rel r row ent at of =
       let few = (facts_of rel r at).few_rows in

@@ -18,9 +18,11 @@ use Rattle.order_clauses.proofs.Members.{row_within}
 
 -- no earlier row of the entity passes the test
 abbrev NoEarlier : (RowId → Bool) → ℕ → List Row → ℕ → ℕ → Type 0
-NoEarlier p first rows ent k = (i : ℕ) (other : RowId) → i < k → entity_of rows i ≡ Some ent → other.0 ≡ first + i → p other ≡ false
+NoEarlier p first rows ent k = (i : ℕ) (other : RowId) → i < k → entity_of rows i ≡ Some ent → other.0 ≡ first + i
+    → p other ≡ false
 
-first_kept : (p : RowId → Bool) (first : ℕ) (rows : List Row) (ent k : ℕ) (row : RowId) → row.0 ≡ first + k → entity_of rows k ≡ Some ent
+first_kept : (p : RowId → Bool) (first : ℕ) (rows : List Row) (ent k : ℕ) (row : RowId) → row.0 ≡ first + k
+    → entity_of rows k ≡ Some ent
     → p row ≡ true → NoEarlier p first rows ent k → is_first row (filter p (members_from first rows ent)) ≡ true
 first_kept p first [] ent k row is of passes none = absurd (none-some ent of)
 first_kept p first (x ∷ rows) ent zero row is of passes none =
@@ -49,7 +51,8 @@ first_kept p first (x ∷ rows) ent (suc k) row is of passes none =
 
 -- ---- values
 
-alike_is : (rows : List Row) (attr : ℕ) (row other : RowId) (ent : ℕ) → entity_of rows row.0 ≡ Some ent → entity_of rows other.0 ≡ Some ent
+alike_is : (rows : List Row) (attr : ℕ) (row other : RowId) (ent : ℕ) → entity_of rows row.0 ≡ Some ent
+    → entity_of rows other.0 ≡ Some ent
     → are_alike rows attr row other ≡ same_value rows attr row other
 alike_is rows attr row other ent of_row of_other = rw (of_row, of_other, eq-eqb ent ent refl) refl
 
@@ -61,7 +64,8 @@ module _ (r : Relation) (attr : ℕ) (row : RowId) (ent : ℕ) (facts : IsRelati
       let of_it : entity_of r.rows other.0 ≡ Some ent = ap (entity_of r.rows) same ∙ of_other in
       go of_it (cases_Bool (same_value r.rows attr row other))
     where
-      go : entity_of r.rows other.0 ≡ Some ent → (same_value r.rows attr row other ≡ true) ⊎ (same_value r.rows attr row other ≡ false)
+      go : entity_of r.rows other.0 ≡ Some ent → (same_value r.rows attr row other ≡ true) ⊎
+          (same_value r.rows attr row other ≡ false)
           → same_value r.rows attr row other ≡ false
       go of_it (inr fails) = fails
       go of_it (inl passes) =

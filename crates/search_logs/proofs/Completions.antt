@@ -80,7 +80,8 @@ few_lists [] = omega arith
 few_lists ([] ∷ lists) = let rest = few_lists lists in omega (arith, rest)
 few_lists ((row ∷ rows) ∷ lists) = let rest = few_lists lists in omega (arith, rest)
 
-few_in_attrs : (m : ℕ) (attrs : List (List (List RowId))) → ((k : ℕ) (lists : List (List RowId)) → slice_get attrs k ≡ Some lists → length lists ≤ m)
+few_in_attrs : (m : ℕ) (attrs : List (List (List RowId))) →
+    ((k : ℕ) (lists : List (List RowId)) → slice_get attrs k ≡ Some lists → length lists ≤ m)
     → ranked_attrs attrs ≤ length attrs * m
 few_in_attrs m [] each = omega arith
 few_in_attrs m (lists ∷ more) each =
@@ -89,7 +90,8 @@ few_in_attrs m (lists ∷ more) each =
     let rest = few_in_attrs m more (λ k other at. each (suc k) other at) in
     omega (arith, here, small, rest, suc-mul (length more) m)
 
-few_in_all : (m : ℕ) (c : Rankings) → ((k : ℕ) (attrs : List (List (List RowId))) → slice_get c k ≡ Some attrs → ranked_attrs attrs ≤ m)
+few_in_all : (m : ℕ) (c : Rankings) → ((k : ℕ) (attrs : List (List (List RowId))) → slice_get c k ≡ Some attrs
+    → ranked_attrs attrs ≤ m)
     → ranked_places c ≤ length c * m
 few_in_all m [] each = omega arith
 few_in_all m (attrs ∷ more) each =
@@ -114,7 +116,8 @@ module _ (s : Spec) (c : Rankings) (within : IsWithin s) (is : IsCompletion s.re
       let lists_long : (attr : ℕ) (lists : List (List RowId)) → slice_get attrs attr ≡ Some lists → length lists ≤ 100000 =
       (λ attr lists there.
       let attr_in : attr < length r.attrs = omega (arith, long, slice_get_within attrs attr lists there) in
-      let these : lists_of c rel attr ≡ lists = ap (λ a. slice_index_or a attr []) mine ∙ get_or_from_slice_get attrs attr lists [] there in
+      let these : lists_of c rel attr ≡ lists = ap (λ a. slice_index_or a attr []) mine ∙ get_or_from_slice_get attrs
+      attr lists [] there in
       let entities : length lists ≡ length r.entities = ap length (sym these) ∙ is.shape.per_entity rel r one.1 attr attr_in in
       omega (arith, entities, entities_few r (facts_at rel r one.1), few_rows_of s r within.parts in_all)) in
       let ranked = few_in_attrs 100000 attrs lists_long in

@@ -68,7 +68,8 @@ answers_below : (answers : List (List Value)) → AreAscending answers → (a b 
     → is_below answers (Answer a) (Answer b) ≡ true
 answers_below answers up a b below within =
     ap is_lt
-    (up a b (slice_index_or answers a []) (slice_index_or answers b []) below (slice_get-get_or answers a [] (omega (arith, below, within)))
+    (up a b (slice_index_or answers a []) (slice_index_or answers b []) below
+    (slice_get-get_or answers a [] (omega (arith, below, within)))
     (slice_get-get_or answers b [] within))
 
 -- a greater number does not come first
@@ -87,21 +88,25 @@ below_passes relations answers up (Answer tuple) (Top rel attr row) on below =
     absurd (not_first 3 1 (tuple ∷ []) (rel.0 ∷ attr.0 ∷ row.0 ∷ []) (omega arith) below)
 below_passes relations answers up (Answer tuple) (Last rel attr row) on below =
     absurd (not_first 3 2 (tuple ∷ []) (rel.0 ∷ attr.0 ∷ row.0 ∷ []) (omega arith) below)
-below_passes relations answers up (Answer tuple) (Answer other) on below = answers_below answers up tuple other (answer_less tuple other below) on
+below_passes relations answers up (Answer tuple) (Answer other) on below = answers_below answers up tuple other
+    (answer_less tuple other below) on
 
 -- ---- one statement
 
-rows_are : (relations : List Relation) (rel : RelId) (r : Relation) → slice_get relations rel.0 ≡ Some r → rows_of relations rel ≡ r.rows
+rows_are : (relations : List Relation) (rel : RelId) (r : Relation) → slice_get relations rel.0 ≡ Some r
+    → rows_of relations rel ≡ r.rows
 rows_are relations rel r at = rw at refl
 
-attr_passes : (relations : List Relation) (rel : RelId) (attr : AttrId) (r : Relation) → slice_get relations rel.0 ≡ Some r → attr.0 < length r.attrs
+attr_passes : (relations : List Relation) (rel : RelId) (attr : AttrId) (r : Relation) → slice_get relations rel.0 ≡
+    Some r → attr.0 < length r.attrs
     → has_attr relations rel attr ≡ true
 attr_passes relations rel attr r at within = rw at (lt-ltb attr.0 (length r.attrs) within)
 
 row_passes : (relations : List Relation) (rel : RelId) (row : RowId) (r : Relation) (ent : ℕ) → slice_get relations rel.0 ≡ Some r
     → entity_of r.rows row.0 ≡ Some ent → is_row (rows_of relations rel) row ≡ true
 row_passes relations rel row r ent at of =
-    ap (λ (rows : List Row). is_row rows row) (rows_are relations rel r at) ∙ lt-ltb row.0 (length r.rows) (row_within r.rows row.0 ent of)
+    ap (λ (rows : List Row). is_row rows row) (rows_are relations rel r at) ∙ lt-ltb row.0 (length r.rows)
+    (row_within r.rows row.0 ent of)
 
 one_passes : (a b : Option ℕ) (n : ℕ) → a ≡ Some n → b ≡ Some n → is_one a b ≡ true
 one_passes a b n e f = rw (e, f) (eq-eqb n n refl)
@@ -113,7 +118,8 @@ record Passes (relations : List Relation) (st : Statement) : Type 0 where
   rows : has_rows relations st ≡ true
   pair : is_pair relations st ≡ true
 
-passes : (relations : List Relation) → AreRelations relations → (answers : ℕ) (st : Statement) → IsOnRows relations answers st → Passes relations st
+passes : (relations : List Relation) → AreRelations relations → (answers : ℕ) (st : Statement) → IsOnRows relations
+    answers st → Passes relations st
 passes relations are answers (Before rel attr a b) on =
     let r = on.relation in
     let at = on.is_relation in
@@ -141,7 +147,8 @@ passes relations are answers (Last rel attr row) on =
     record {
       known = attr_passes relations rel attr r its.is_relation its.attr_in;
       canonical = ap (λ (rows : List Row). is_first_alike rows attr.0 row) (rows_are relations rel r its.is_relation)
-          ∙ canonical.is_canonical r attr.0 row its.ent (facts_of relations are rel r its.is_relation) its.attr_in its.row_of on.itself;
+          ∙ canonical.is_canonical r attr.0 row its.ent (facts_of relations are rel r its.is_relation) its.attr_in
+          its.row_of on.itself;
       rows = row_passes relations rel row r its.ent its.is_relation its.row_of;
       pair = refl;
     }
@@ -160,17 +167,22 @@ checked a b c d e =
 all_checked : (a b c d e : Bool) → a ≡ true → b ≡ true → c ≡ true → d ≡ true → e ≡ true → checked a b c d e ≡ None
 all_checked a b c d e p q r s t = rw (p, q, r, s, t) refl
 
-no_fault : (relations : List Relation) → AreRelations relations → (answers : List (List Value)) (before : Option Statement) (st : Statement)
-    → is_above answers before st ≡ true → IsOnRows relations (length answers) st → statement_fault relations answers before st ≡ None
+no_fault : (relations : List Relation) → AreRelations relations → (answers : List (List Value))
+    (before : Option Statement) (st : Statement)
+    → is_above answers before st ≡ true → IsOnRows relations (length answers) st → statement_fault relations answers
+    before st ≡ None
 no_fault relations are answers before st above on =
     let its = passes relations are (length answers) st on in
-    all_checked (is_known relations st) (is_above answers before st) (is_canonical relations st) (has_rows relations st) (is_pair relations st)
+    all_checked (is_known relations st) (is_above answers before st) (is_canonical relations st)
+    (has_rows relations st) (is_pair relations st)
     its.known above its.canonical its.rows its.pair
 
 -- ---- all statements
 
-pub no_statement_fault : (relations : List Relation) → AreRelations relations → (answers : List (List Value)) → AreAscending answers → (at : ℕ)
-    (before : Option Statement) (statements : List Statement) → ((st : Statement) → IsIn statements st → is_above answers before st ≡ true)
+pub no_statement_fault : (relations : List Relation) → AreRelations relations → (answers : List (List Value))
+    → AreAscending answers → (at : ℕ)
+    (before : Option Statement) (statements : List Statement) →
+    ((st : Statement) → IsIn statements st → is_above answers before st ≡ true)
     → Ascends IsBelow statements → ((st : Statement) → IsIn statements st → IsOnRows relations (length answers) st)
     → statements_fault relations answers at before statements ≡ None
 no_statement_fault relations are answers tuples at before [] above up on = refl
@@ -178,7 +190,8 @@ no_statement_fault relations are answers tuples at before (st ∷ statements) ab
     let here = no_fault relations are answers before st (above st (inl refl)) (on st (inl refl)) in
     let rest =
     no_statement_fault relations are answers tuples (at + 1) (Some st) statements
-    (λ later there. below_passes relations answers tuples st later (on later (inr there)) (up.0 later there)) up.1 (λ later there. on later (inr there)) in
+    (λ later there. below_passes relations answers tuples st later (on later (inr there)) (up.0 later there)) up.1
+    (λ later there. on later (inr there)) in
     rw (here, rest) refl
 
 -- ---- steps
@@ -187,7 +200,8 @@ lits_pass : (n : ℕ) (lits : List Lit) → All (λ lit. var_of lit < n) lits �
 lits_pass n [] within = refl
 lits_pass n (lit ∷ lits) within =
     and_from (nat_lt (var_of lit) n) (list_all (λ l. nat_lt (var_of l) n) lits)
-    (lt-ltb (var_of lit) n (All-head (λ l. var_of l < n) lit lits within)) (lits_pass n lits (All-tail (λ l. var_of l < n) lit lits within))
+    (lt-ltb (var_of lit) n (All-head (λ l. var_of l < n) lit lits within))
+    (lits_pass n lits (All-tail (λ l. var_of l < n) lit lits within))
 
 pub no_step_fault : (n at : ℕ) (steps : List Step) → AreWithin n steps → steps_fault n at steps ≡ None
 no_step_fault n at [] within = refl
@@ -198,8 +212,10 @@ no_step_fault n at (step ∷ steps) within =
 
 -- ---- a log
 
-pub well_formed : (relations : List Relation) → AreRelations relations → (log : Log) → AreAscending log.answers → Ascends IsBelow log.statements
-    → ((st : Statement) → IsIn log.statements st → IsOnRows relations (length log.answers) st) → AreWithin (length log.statements) log.steps
+pub well_formed : (relations : List Relation) → AreRelations relations → (log : Log) → AreAscending log.answers
+    → Ascends IsBelow log.statements
+    → ((st : Statement) → IsIn log.statements st → IsOnRows relations (length log.answers) st)
+    → AreWithin (length log.statements) log.steps
     → first_fault relations log ≡ None
 well_formed relations are log tuples up on within =
     let statements = no_statement_fault relations are log.answers tuples 0 None log.statements (λ st there. refl) up on in

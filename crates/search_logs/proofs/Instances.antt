@@ -26,7 +26,8 @@ two_pass rows a b two =
     (not_from_false (a.0 == b.0) (ne_eqb a.0 b.0 (λ same. two.differ (row_is a b same))))
     (rw (two.a_of, two.b_of) (eq-eqb two.ent two.ent refl))
 
-rows_are : (relations : List Relation) (rel : RelId) (r : Relation) → slice_get relations rel.0 ≡ Some r → rows_at relations rel ≡ r.rows
+rows_are : (relations : List Relation) (rel : RelId) (r : Relation) → slice_get relations rel.0 ≡ Some r
+    → rows_at relations rel ≡ r.rows
 rows_are relations rel r at = ap (λ (o : Option Relation). option_map_or (λ (q : Relation). q.rows) o []) at
 
 module _ (copy : CopyFunction) (target source : List Row) (first second first_source second_source : RowId) where
@@ -58,15 +59,18 @@ module _ (copy : CopyFunction) (target source : List Row) (first second first_so
       omega (arith, some, counted)
 
 -- each place of a copy function counts where two rows do
-places_count : (relations : List Relation) (copy : CopyFunction) → 1 ≤ copy_pairs copy (rows_at relations copy.target) (rows_at relations copy.source)
+places_count : (relations : List Relation) (copy : CopyFunction) → 1 ≤ copy_pairs copy
+    (rows_at relations copy.target) (rows_at relations copy.source)
     → length copy.places ≤ copy_instances relations copy
 unfolding copy_instances
-places_count relations copy some = by (length copy.places) (copy_pairs copy (rows_at relations copy.target) (rows_at relations copy.source)) some
+places_count relations copy some = by (length copy.places) (copy_pairs copy (rows_at relations copy.target)
+    (rows_at relations copy.source)) some
   where
     by : (n m : ℕ) → 1 ≤ m → n ≤ n * m
     by n m some = let more = mul-le-mul_left n some in omega (arith, more)
 
-instances_count : (s : Spec) (k : CopyId) (copy : CopyFunction) → slice_get s.copies k.0 ≡ Some copy → copy_instances s.relations copy ≤ instances s
+instances_count : (s : Spec) (k : CopyId) (copy : CopyFunction) → slice_get s.copies k.0 ≡ Some copy
+    → copy_instances s.relations copy ≤ instances s
 unfolding instances
 instances_count s k copy at =
     let counted = one_of_sum (copy_instances s.relations) s.copies copy (in_at s.copies k.0 copy at) in
@@ -76,25 +80,31 @@ few_instances : (s : Spec) → too_many_instances s ≡ None → instances s ≤
 unfolding too_many_instances
 few_instances s none = by (ltb 8000000 (instances s)) refl none
   where
-    by : (b : Bool) → ltb 8000000 (instances s) ≡ b → ◌≡◌ {A = Option ℕ} (if b then Some 11 else None) None → instances s ≤ 8000000
+    by : (b : Bool) → ltb 8000000 (instances s) ≡ b → ◌≡◌ {A = Option ℕ} (if b then Some 11 else None) None
+        → instances s ≤ 8000000
     by true is found = cc
     by false is found = ltb-false 8000000 (instances s) is
 
 -- so a copy function whose place a label names has few places
-pub few_places : (s : Spec) (k : CopyId) (copy : CopyFunction) (place : ℕ) (first second : RowId) (clause : List Said) → too_many_instances s ≡ None
+pub few_places : (s : Spec) (k : CopyId) (copy : CopyFunction) (place : ℕ) (first second : RowId)
+    (clause : List Said) → too_many_instances s ≡ None
     → slice_get s.copies k.0 ≡ Some copy → IsCopyAxiom s copy place first second clause → length copy.places ≤ 8000000
 few_places s k copy place first second clause none at is =
     let target = is.target.rows in
     let source = is.source.rows in
     let counts =
-    is_instance copy target source first second is.first_source is.second_source is.first_from is.second_from is.targets is.sources in
+    is_instance copy target source first second is.first_source is.second_source is.first_from is.second_from
+    is.targets is.sources in
     let partner =
-    has_partner copy target source first second is.first_source is.second_source counts (row_within target second.0 is.targets.ent is.targets.b_of) in
+    has_partner copy target source first second is.first_source is.second_source counts
+    (row_within target second.0 is.targets.ent is.targets.b_of) in
     let pairs : 1 ≤ copy_pairs copy target source =
-    has_pairs copy target source first second is.first_source is.second_source partner (row_within target first.0 is.targets.ent is.targets.a_of) in
+    has_pairs copy target source first second is.first_source is.second_source partner
+    (row_within target first.0 is.targets.ent is.targets.a_of) in
     let of_target = rows_are s.relations copy.target is.target is.is_target in
     let of_source = rows_are s.relations copy.source is.source is.is_source in
-    let there : 1 ≤ copy_pairs copy (rows_at s.relations copy.target) (rows_at s.relations copy.source) = rw (of_target, of_source) pairs in
+    let there : 1 ≤ copy_pairs copy (rows_at s.relations copy.target) (rows_at s.relations copy.source) =
+    rw (of_target, of_source) pairs in
     let places = places_count s.relations copy there in
     let all = instances_count s k copy at in
     let few = few_instances s none in

@@ -25,18 +25,22 @@ module _ (s : Spec) (within : IsWithin s) where
   rel_in : (rel : RelId) (r : Relation) → slice_get s.relations rel.0 ≡ Some r → IsPlace rel.0
   rel_in = rel_place s.relations within.specification.relations
 
-  attr_in : (rel : RelId) (r : Relation) (attr : AttrId) → slice_get s.relations rel.0 ≡ Some r → attr.0 < length r.attrs → IsPlace attr.0
+  attr_in : (rel : RelId) (r : Relation) (attr : AttrId) → slice_get s.relations rel.0 ≡ Some r
+      → attr.0 < length r.attrs → IsPlace attr.0
   attr_in = attr_place s.relations within.specification.relations
 
-  row_in : (rel : RelId) (r : Relation) (row : RowId) (ent : ℕ) → slice_get s.relations rel.0 ≡ Some r → entity_of r.rows row.0 ≡ Some ent
+  row_in : (rel : RelId) (r : Relation) (row : RowId) (ent : ℕ) → slice_get s.relations rel.0 ≡ Some r
+      → entity_of r.rows row.0 ≡ Some ent
       → IsPlace row.0
   row_in = row_place s.relations within.specification.relations
 
   -- of a row that is there
-  row_there : (rel : RelId) (r : Relation) (row : RowId) → slice_get s.relations rel.0 ≡ Some r → row.0 < length r.rows → IsPlace row.0
+  row_there : (rel : RelId) (r : Relation) (row : RowId) → slice_get s.relations rel.0 ≡ Some r
+      → row.0 < length r.rows → IsPlace row.0
   row_there rel r row at below = let of = entity_there r.rows row.0 below in row_in rel r row of.0 at of.1
 
-  rows_few : (rel : RelId) (r : Relation) (vars : ℕ) (rows : List RowId) → slice_get s.relations rel.0 ≡ Some r → vars ≤ 4 → IsChoice r.rows vars rows
+  rows_few : (rel : RelId) (r : Relation) (vars : ℕ) (rows : List RowId) → slice_get s.relations rel.0 ≡ Some r
+      → vars ≤ 4 → IsChoice r.rows vars rows
       → AreFew (λ (row : RowId). IsPlace row.0) rows
   rows_few rel r vars rows at few choice =
       let many = choice.one_each in
@@ -51,8 +55,13 @@ module _ (s : Spec) (within : IsWithin s) where
       let at = is.1 in
       let given : IsGivenPair r (record { attr = attr; earlier = earlier; later = later }) =
       All-contains (IsGivenPair r) r.given (record { attr = attr; earlier = earlier; later = later })
-      (facts_of s.relations within.specification.relations rel r at).given is.2.0 in
-      (rel_in rel r at, attr_in rel r attr at given.attr, row_there rel r earlier at given.earlier, row_there rel r later at given.later)
+      (facts_of s.relations within.specification.relations rel r at).given is.2.0 in (
+        rel_in rel r at,
+        attr_in rel r attr at given.attr,
+        row_there rel r earlier at given.earlier,
+        row_there rel r
+            later at given.later,
+      )
   writable_label (label.Transitive rel attr first second third) clause is =
       let r = is.0 in
       let at = is.1 in
@@ -85,8 +94,13 @@ module _ (s : Spec) (within : IsWithin s) where
   writable_label (label.Above rel attr row other) clause is =
       let r = is.0 in
       let at = is.1 in
-      let two = is.2.1 in
-      (rel_in rel r at, attr_in rel r attr at is.2.0, row_in rel r row two.ent at two.a_of, row_in rel r other two.ent at two.b_of)
+      let two = is.2.1 in (
+        rel_in rel r at,
+        attr_in rel r attr at is.2.0,
+        row_in rel r row two.ent at two.a_of,
+        row_in rel r other
+            two.ent at two.b_of,
+      )
   writable_label (label.Top rel attr row) clause is =
       let r = is.0 in
       let at = is.1 in

@@ -74,7 +74,8 @@ record IsTableOf (relations : List Relation) (currents : List RelId) (rel : ℕ)
   is_relation : slice_get relations rel ≡ Some relation
   is : numbered currents rel relation ≡ t
 
-table_of : (currents : List RelId) (relations : List Relation) (rel : ℕ) (t : Numbered) → slice_get (tables_from currents 0 relations) rel ≡ Some t
+table_of : (currents : List RelId) (relations : List Relation) (rel : ℕ) (t : Numbered)
+    → slice_get (tables_from currents 0 relations) rel ≡ Some t
     → IsTableOf relations currents rel t
 table_of currents relations rel t at =
     let found = table_from currents 0 relations rel t at in
@@ -100,7 +101,8 @@ named_within r attr row e =
     let within = slice_get_within (names_of r.rows attr) row.0 row e in
     omega (arith, within, names_counted r.rows attr)
 
-names_are : (test : Bool) (r : Relation) (names : List (List RowId)) → (if test then Some (value_names_of r) else None) ≡ Some names
+names_are : (test : Bool) (r : Relation) (names : List (List RowId)) →
+    (if test then Some (value_names_of r) else None) ≡ Some names
     → value_names_of r ≡ names
 names_are true r names e = same_Some (value_names_of r) names e
 names_are false r names e = absurd (none-some names e)
@@ -121,10 +123,12 @@ module _ (relations : List Relation) (wanted : Wanted) where
         below = below;
       }
 
-  on_row : (rel : RelId) (attr : AttrId) (row : RowId) → IsRowOf (numbers_of relations wanted) rel.0 attr.0 row → IsOnRow relations rel attr row
+  on_row : (rel : RelId) (attr : AttrId) (row : RowId) → IsRowOf (numbers_of relations wanted) rel.0 attr.0 row
+      → IsOnRow relations rel attr row
   on_row rel attr row is =
       let of = table_of wanted.currents relations rel.0 is.table is.is_table in
-      let counted : row.0 < length (entities_of of.relation.rows) = subst (λ (t : Numbered). row.0 < length t.rows.entities) (sym of.is) is.row_within in
+      let counted : row.0 < length (entities_of of.relation.rows) =
+      subst (λ (t : Numbered). row.0 < length t.rows.entities) (sym of.is) is.row_within in
       let there = entity_there of.relation.rows row.0 (omega (arith, counted, length_entities of.relation.rows)) in
       record {
         relation = of.relation;
@@ -134,7 +138,8 @@ module _ (relations : List Relation) (wanted : Wanted) where
         row_of = there.1;
       }
 
-  on_name : (rel : RelId) (attr : AttrId) (row : RowId) → IsNameOf (numbers_of relations wanted) rel.0 attr.0 row → IsOnName relations rel attr row
+  on_name : (rel : RelId) (attr : AttrId) (row : RowId) → IsNameOf (numbers_of relations wanted) rel.0 attr.0 row
+      → IsOnName relations rel attr row
   on_name rel attr row is =
       let of = table_of wanted.currents relations rel.0 is.table is.is_table in
       let r = of.relation in
@@ -153,7 +158,8 @@ module _ (relations : List Relation) (wanted : Wanted) where
       }
 
   -- each statement that is numbered is on what is there
-  pub numbered_on : (st : Statement) → IsIn (statements_of (numbers_of relations wanted)) st → IsOnRows relations wanted.answers st
+  pub numbered_on : (st : Statement) → IsIn (statements_of (numbers_of relations wanted)) st → IsOnRows relations
+      wanted.answers st
   numbered_on (Before rel attr t u) at =
       let is = before_in (numbers_of relations wanted) rel attr t u at in
       on_pair rel attr t u is.0 is.1

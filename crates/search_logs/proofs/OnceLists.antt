@@ -20,7 +20,8 @@ all_placed P xs each k d below = each k (get_or xs k d) (slice_get-get_or xs k d
 pub all_in : {X : Type 0} (P : X → Type 0) (xs : List X) (x : X) → All P xs → IsIn xs x → P x
 all_in P xs x all at = All-contains P xs x all (contained xs x at)
 
-pub mapped_at : {A B : Type 0} (f : A → B) (xs : List A) (k : ℕ) (x : A) → slice_get xs k ≡ Some x → slice_get (map f xs) k ≡ Some (f x)
+pub mapped_at : {A B : Type 0} (f : A → B) (xs : List A) (k : ℕ) (x : A) → slice_get xs k ≡ Some x
+    → slice_get (map f xs) k ≡ Some (f x)
 mapped_at f xs k x at = slice_get-map f xs k ∙ ap (option_map f) at
 
 pub from_mapped : {A B : Type 0} (f : A → B) (xs : List A) (k : ℕ) (y : B) → slice_get (map f xs) k ≡ Some y
@@ -30,7 +31,8 @@ from_mapped f (x ∷ xs) zero y at = (x, refl, same_Some (f x) y at)
 from_mapped f (x ∷ xs) (suc k) y at = from_mapped f xs k y at
 
 -- what a list of lists has for the item at a place
-pub list_at : {A B : Type 0} (f : A → List B) (xs : List A) (n : ℕ) (x : A) → slice_get xs n ≡ Some x → get_or (map f xs) n [] ≡ f x
+pub list_at : {A B : Type 0} (f : A → List B) (xs : List A) (n : ℕ) (x : A) → slice_get xs n ≡ Some x
+    → get_or (map f xs) n [] ≡ f x
 list_at f xs n x at = get_or_from_slice_get (map f xs) n (f x) [] (mapped_at f xs n x at)
 
 -- ---- no item twice

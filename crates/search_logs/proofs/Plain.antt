@@ -44,7 +44,8 @@ pub record IsPlain (relations : List Relation) (log : Log) : Type 0 where
 
 -- ---- statements
 
-writable_statement : (relations : List Relation) → AreRelations relations → (answers : ℕ) (st : Statement) → IsOnRows relations answers st → IsWritableStatement st
+writable_statement : (relations : List Relation) → AreRelations relations → (answers : ℕ) (st : Statement)
+    → IsOnRows relations answers st → IsWritableStatement st
 writable_statement relations are answers (Before rel attr a b) on =
     let r = on.relation in
     let at = on.is_relation in (
@@ -55,13 +56,21 @@ writable_statement relations are answers (Before rel attr a b) on =
     )
 writable_statement relations are answers (Top rel attr row) on =
     let r = on.relation in
-    let at = on.is_relation in
-    (rel_place relations are rel r at, attr_place relations are rel r attr at on.attr_in, row_place relations are rel r row on.ent at on.row_of)
+    let at = on.is_relation in (
+      rel_place relations are rel r at,
+      attr_place relations are rel r attr at on.attr_in,
+      row_place relations are rel
+          r row on.ent at on.row_of,
+    )
 writable_statement relations are answers (Last rel attr row) on =
     let its = on.on in
     let r = its.relation in
-    let at = its.is_relation in
-    (rel_place relations are rel r at, attr_place relations are rel r attr at its.attr_in, row_place relations are rel r row its.ent at its.row_of)
+    let at = its.is_relation in (
+      rel_place relations are rel r at,
+      attr_place relations are rel r attr at its.attr_in,
+      row_place relations are
+          rel r row its.ent at its.row_of,
+    )
 writable_statement relations are answers (Answer tuple) on = tt
 
 -- ---- steps
@@ -71,7 +80,8 @@ lits_few n lits few within once =
     let count = few_lits lits n once within in
     record { few = omega (arith, count, few); each = λ k d below. (let low = within k d below in omega (arith, low, few)) }
 
-hints_few : (place : ℕ) (hints : List ℕ) → place < 4294967295 → All (λ hint. hint < place) hints → OnlyOnce hints → AreFew IsPlace hints
+hints_few : (place : ℕ) (hints : List ℕ) → place < 4294967295 → All (λ hint. hint < place) hints → OnlyOnce hints
+    → AreFew IsPlace hints
 hints_few place hints few earlier once =
     let count = few_numbers hints place once earlier in
     record { few = omega (arith, count, few); each = λ k d below. (let low = earlier k d below in omega (arith, low, few)) }
@@ -87,14 +97,17 @@ writable_step n place (Learn lits hints counted) few early within earlier plain 
 
 module _ (relations : List Relation) (are : AreRelations relations) (log : Log) (goals : List ℕ) (plain : IsPlain relations log)
     (inside : AreInPlace log goals) where
-  lits_in : (place : ℕ) (step : Step) → slice_get log.steps place ≡ Some step → All (λ lit. var_of lit < length log.statements) (clause_of step)
+  lits_in : (place : ℕ) (step : Step) → slice_get log.steps place ≡ Some step
+      → All (λ lit. var_of lit < length log.statements) (clause_of step)
   lits_in place step at =
-      subst (λ (lits : List Lit). All (λ lit. var_of lit < length log.statements) lits) (list_at clause_of log.steps place step at)
+      subst (λ (lits : List Lit). All (λ lit. var_of lit < length log.statements) lits)
+      (list_at clause_of log.steps place step at)
       (inside.vars_in place)
 
   hints_in : (place : ℕ) (step : Step) → slice_get log.steps place ≡ Some step → All (λ hint. hint < place) (hints_of step)
   hints_in place step at =
-      subst (λ (hints : List ℕ). All (λ hint. hint < place) hints) (list_at hints_of log.steps place step at) (inside.hints_in place)
+      subst (λ (hints : List ℕ). All (λ hint. hint < place) hints) (list_at hints_of log.steps place step at)
+      (inside.hints_in place)
 
   step_written : (place : ℕ) (step : Step) → slice_get log.steps place ≡ Some step → IsWritableStep step
   step_written place step at =
@@ -112,7 +125,8 @@ module _ (relations : List Relation) (are : AreRelations relations) (log : Log) 
         statements = record {
           few = omega (arith, few);
           each = all_placed IsWritableStatement log.statements
-              (λ k st at. writable_statement relations are (length log.answers) st (plain.statements st (in_at log.statements k st at)));
+              (λ k st at. writable_statement relations are (length log.answers) st
+              (plain.statements st (in_at log.statements k st at)));
         };
         steps = record { few = plain.few_steps; each = all_placed IsWritableStep log.steps step_written };
       }

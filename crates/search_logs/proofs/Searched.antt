@@ -41,14 +41,16 @@ use Rattle.search_logs.proofs.Plain.{IsPlainStep, IsPlain}
 
 -- ---- a step
 
-lits_of_axiom : (s : Spec) (posed : Posed) (statements : List Statement) (l : Label) (lits : List Lit) → IsAxiomTaken s posed statements l lits
+lits_of_axiom : (s : Spec) (posed : Posed) (statements : List Statement) (l : Label) (lits : List Lit)
+    → IsAxiomTaken s posed statements l lits
     → All (λ lit. var_of lit < length statements) lits
 lits_of_axiom s posed statements l lits (inl is) k d below =
     let one = is.are_lits.each k d below in
     says_within statements _ one.said one.says
 lits_of_axiom s posed statements l lits (inr is) k d below = is.within k d below
 
-plain_axiom : (s : Spec) (posed : Posed) (statements : List Statement) (l : Label) (lits : List Lit) → IsWithin s → IsAxiomTaken s posed statements l lits
+plain_axiom : (s : Spec) (posed : Posed) (statements : List Statement) (l : Label) (lits : List Lit) → IsWithin s
+    → IsAxiomTaken s posed statements l lits
     → IsWritableLabel l × OnlyOnce lits
 plain_axiom s posed statements l lits within (inl is) = (writable_label s within l is.clause is.is_axiom, is.are_lits.once)
 plain_axiom s posed statements l lits within (inr is) = (is.writable, is.once)
@@ -59,7 +61,8 @@ judged_axiom made s posed wanted l lits within (inl is) = made s posed wanted l 
 judged_axiom made s posed wanted l lits within (inr is) = is.judged
 
 module _ (s : Spec) (posed : Posed) (statements : List Statement) (earlier : List (List Lit)) where
-  lits_within : (step : Step) → IsSearchStep s posed statements earlier step → All (λ lit. var_of lit < length statements) (clause_of step)
+  lits_within : (step : Step) → IsSearchStep s posed statements earlier step
+      → All (λ lit. var_of lit < length statements) (clause_of step)
   lits_within (Axiom l lits) is = lits_of_axiom s posed statements l lits is
   lits_within (OnDemand l lits) is = lits_of_axiom s posed statements l lits is
   lits_within (Learn lits hints counted) is = is.within
@@ -81,7 +84,8 @@ module _ (s : Spec) (posed : Posed) (statements : List Statement) (earlier : Lis
   plain_step within (OnDemand l lits) is = plain_axiom s posed statements l lits within is
   plain_step within (Learn lits hints counted) is = (is.lits_once, is.hints_once)
 
-accepted_step : StepsAreAxioms → (s : Spec) (posed : Posed) (wanted : Wanted) (earlier : List (List Lit)) → IsWithin s → (step : Step)
+accepted_step : StepsAreAxioms → (s : Spec) (posed : Posed) (wanted : Wanted) (earlier : List (List Lit))
+    → IsWithin s → (step : Step)
     → IsSearchStep s posed (variables s wanted) earlier step → IsAcceptedStep s posed (variables s wanted) earlier step
 accepted_step made s posed wanted earlier within (Axiom l lits) is = judged_axiom made s posed wanted l lits within is
 accepted_step made s posed wanted earlier within (OnDemand l lits) is = judged_axiom made s posed wanted l lits within is
@@ -96,13 +100,16 @@ earlier_count steps place step at =
 
 -- ---- the log
 
-module _ (s : Spec) (posed : Posed) (wanted : Wanted) (log : Log) (within : IsWithin s) (is : IsSearchLog s posed wanted log) where
+module _ (s : Spec) (posed : Posed) (wanted : Wanted) (log : Log) (within : IsWithin s)
+    (is : IsSearchLog s posed wanted log) where
   pub accepted : StepsAreAxioms → IsAccepted s posed.query log
   accepted made place step at =
       let own : Posed = posed_by posed.query log in
-      let same : posed ≡ own = ap (λ (answers : List (List Value)). let p : Posed = record { query = posed.query; answers = answers } in p) (sym is.answers) in
+      let same : posed ≡ own = ap (λ (answers : List (List Value)). let p : Posed =
+      record { query = posed.query; answers = answers } in p) (sym is.answers) in
       subst (λ (p : Posed). IsAcceptedStep s p log.statements (clauses_of (take place log.steps)) step) same
-      (subst (λ (statements : List Statement). IsAcceptedStep s posed statements (clauses_of (take place log.steps)) step) (sym is.statements)
+      (subst (λ (statements : List Statement). IsAcceptedStep s posed statements (clauses_of (take place log.steps))
+      step) (sym is.statements)
       (accepted_step made s posed wanted (clauses_of (take place log.steps)) within step (is.steps place step at)))
 
   searched : AreSearchSteps s posed log.statements log.steps
@@ -115,7 +122,8 @@ module _ (s : Spec) (posed : Posed) (wanted : Wanted) (log : Log) (within : IsWi
       subst (λ (statements : List Statement). length statements < 2 ^ 31) (sym is.statements)
       (few s wanted within.specification within.parts within.variables_few (omega (arith, many, most)))
 
-  lits_in : (place : ℕ) (step : Step) → slice_get log.steps place ≡ Some step → All (λ lit. var_of lit < length log.statements) (clause_of step)
+  lits_in : (place : ℕ) (step : Step) → slice_get log.steps place ≡ Some step
+      → All (λ lit. var_of lit < length log.statements) (clause_of step)
   lits_in place step at = lits_within s posed log.statements (clauses_of (take place log.steps)) step (searched place step at)
 
   hints_in : (place : ℕ) (step : Step) → slice_get log.steps place ≡ Some step → All (λ hint. hint < place) (hints_of step)
@@ -132,7 +140,8 @@ module _ (s : Spec) (posed : Posed) (wanted : Wanted) (log : Log) (within : IsWi
         few_steps = omega (arith, few_steps);
         few_hints = all_placed HasFewHints log.steps (λ place step at.
             let count = earlier_count log.steps place step at in
-            hints_few s posed log.statements (clauses_of (take place log.steps)) step (omega (arith, count.0, count.1, few_steps)) (searched place step at));
+            hints_few s posed log.statements (clauses_of (take place log.steps)) step
+            (omega (arith, count.0, count.1, few_steps)) (searched place step at));
       }
 
   counted : wanted.answers ≡ length log.answers
@@ -143,7 +152,8 @@ module _ (s : Spec) (posed : Posed) (wanted : Wanted) (log : Log) (within : IsWi
       subst (λ (n : ℕ). IsOnRows s.relations n st) counted
       (numbered_on s.relations wanted st (subst (λ (statements : List Statement). IsIn statements st) is.statements at))
 
-  pub in_place : StatementsAreFew → HasFewSteps log → (goals : List ℕ) → All (λ goal. goal < length log.steps) goals → AreInPlace log goals
+  pub in_place : StatementsAreFew → HasFewSteps log → (goals : List ℕ) → All (λ goal. goal < length log.steps) goals
+      → AreInPlace log goals
   in_place few few_steps goals goals_in =
       record {
         goals_in = goals_in;
@@ -156,7 +166,8 @@ module _ (s : Spec) (posed : Posed) (wanted : Wanted) (log : Log) (within : IsWi
       }
 
   ascends : Ascends IsBelow log.statements
-  ascends = subst (λ (statements : List Statement). Ascends IsBelow statements) (sym is.statements) (statements_ascend (numbers_of s.relations wanted))
+  ascends = subst (λ (statements : List Statement). Ascends IsBelow statements) (sym is.statements)
+      (statements_ascend (numbers_of s.relations wanted))
 
   -- its statements name the answers in order
   names_answers : AreAnswered 0 log.statements log.answers
@@ -177,5 +188,6 @@ module _ (s : Spec) (posed : Posed) (wanted : Wanted) (log : Log) (within : IsWi
         few_steps = few_steps;
         ascend = ascends;
         statements = on_rows;
-        steps = λ place step at. plain_step s posed log.statements (clauses_of (take place log.steps)) within step (searched place step at);
+        steps = λ place step at. plain_step s posed log.statements (clauses_of (take place log.steps)) within step
+            (searched place step at);
       }

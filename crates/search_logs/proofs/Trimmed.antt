@@ -91,7 +91,8 @@ not_below : (a y : ℕ) (ys : List ℕ) → y < 3 → Precedes (3 ∷ a ∷ []) 
 not_below a y ys low (inl below) = absurd (omega (arith, low, below))
 not_below a y ys low (inr more) = let e = more.0 in absurd (omega (arith, low, e))
 
-stays_below : (keep : ℕ → Bool) (s t : Statement) → IsKeptIn keep s → IsBelow s t → IsBelow (renumbered_statement keep s) (renumbered_statement keep t)
+stays_below : (keep : ℕ → Bool) (s t : Statement) → IsKeptIn keep s → IsBelow s t
+    → IsBelow (renumbered_statement keep s) (renumbered_statement keep t)
 stays_below keep (Before rel attr a b) (Before rel' attr' a' b') kept below = below
 stays_below keep (Before rel attr a b) (Top rel' attr' row') kept below = below
 stays_below keep (Before rel attr a b) (Last rel' attr' row') kept below = below
@@ -123,7 +124,8 @@ stays_on relations keep answers (Top rel attr row) kept on = on
 stays_on relations keep answers (Last rel attr row) kept on = on
 stays_on relations keep answers (Answer tuple) kept on =
     let there = slice_get-get_or answers tuple [] on in
-    slice_get_within (kept_of keep answers) (rank keep tuple) (slice_index_or answers tuple []) (kept_at keep answers tuple (slice_index_or answers tuple []) there kept)
+    slice_get_within (kept_of keep answers) (rank keep tuple) (slice_index_or answers tuple [])
+    (kept_at keep answers tuple (slice_index_or answers tuple []) there kept)
 
 -- ---- answers
 
@@ -143,7 +145,8 @@ kept_ascending keep answers up i j a b below at_i at_j =
     let from_j = kept_from keep answers j b at_j in
     let new_i = from_i.is_new in
     let new_j = from_j.is_new in
-    up from_i.place from_j.place a b (rank_below keep from_i.place from_j.place from_j.kept (omega (arith, below, new_i, new_j))) from_i.there from_j.there
+    up from_i.place from_j.place a b (rank_below keep from_i.place from_j.place from_j.kept
+    (omega (arith, below, new_i, new_j))) from_i.there from_j.there
 
 -- a statement on an answer that is there
 abbrev pub IsLessAnswer : List (List Value) → Statement → Type 0
@@ -158,7 +161,8 @@ module _ (log : Log) (goals : List ℕ) (trimmed : Trimmed) (t : IsTrimmed log g
       → IsIn (clause_of step) lit → t.statement_kept (var_of lit) ≡ true
   lit_kept place step at kept lit is_in =
       let there : Contains (lits_at log.steps place) lit =
-      subst (λ (lits : List Lit). Contains lits lit) (sym (list_at clause_of log.steps place step at)) (contained (clause_of step) lit is_in) in
+      subst (λ (lits : List Lit). Contains lits lit) (sym (list_at clause_of log.steps place step at))
+      (contained (clause_of step) lit is_in) in
       (t.kept_statements (var_of lit)).1
       (record { place = place; reached = (t.kept_steps place).0 kept; lit = lit; is_in = there; is_var = refl })
 
@@ -167,27 +171,35 @@ module _ (log : Log) (goals : List ℕ) (trimmed : Trimmed) (t : IsTrimmed log g
       → IsIn (hints_of step) hint → t.step_kept hint ≡ true
   hint_kept place step at kept hint is_in =
       let there : Contains (hints_at log.steps place) hint =
-      subst (λ (hints : List ℕ). Contains hints hint) (sym (list_at hints_of log.steps place step at)) (contained (hints_of step) hint is_in) in
+      subst (λ (hints : List ℕ). Contains hints hint) (sym (list_at hints_of log.steps place step at))
+      (contained (hints_of step) hint is_in) in
       (t.kept_steps hint).1 (is_hint place hint ((t.kept_steps place).0 kept) there)
 
-  new_lits_once : (place : ℕ) (step : Step) → slice_get log.steps place ≡ Some step → t.step_kept place ≡ true → OnlyOnce (clause_of step)
+  new_lits_once : (place : ℕ) (step : Step) → slice_get log.steps place ≡ Some step → t.step_kept place ≡ true
+      → OnlyOnce (clause_of step)
       → OnlyOnce (map (renumbered_lit t.statement_kept) (clause_of step))
   new_lits_once place step at kept once =
       once_mapped (renumbered_lit t.statement_kept) (clause_of step) once
-      (λ a b in_a in_b same. renumbered_same t.statement_kept a b (lit_kept place step at kept a in_a) (lit_kept place step at kept b in_b) same)
+      (λ a b in_a in_b same. renumbered_same t.statement_kept a b (lit_kept place step at kept a in_a)
+      (lit_kept place step at kept b in_b) same)
 
-  new_hints_once : (place : ℕ) (step : Step) → slice_get log.steps place ≡ Some step → t.step_kept place ≡ true → OnlyOnce (hints_of step)
+  new_hints_once : (place : ℕ) (step : Step) → slice_get log.steps place ≡ Some step → t.step_kept place ≡ true
+      → OnlyOnce (hints_of step)
       → OnlyOnce (map (rank t.step_kept) (hints_of step))
   new_hints_once place step at kept once =
       once_mapped (rank t.step_kept) (hints_of step) once
-      (λ a b in_a in_b same. rank_same t.step_kept a b (hint_kept place step at kept a in_a) (hint_kept place step at kept b in_b) same)
+      (λ a b in_a in_b same. rank_same t.step_kept a b (hint_kept place step at kept a in_a)
+      (hint_kept place step at kept b in_b) same)
 
   new_step_plain : (place : ℕ) (step : Step) → slice_get log.steps place ≡ Some step → t.step_kept place ≡ true → IsPlainStep step
       → IsPlainStep (renumbered_step t.step_kept t.statement_kept step)
   new_step_plain place (Axiom l lits) at kept plain = (plain.0, new_lits_once place (Axiom l lits) at kept plain.1)
   new_step_plain place (OnDemand l lits) at kept plain = (plain.0, new_lits_once place (OnDemand l lits) at kept plain.1)
-  new_step_plain place (Learn lits hints counted) at kept plain =
-      (new_lits_once place (Learn lits hints counted) at kept plain.0, new_hints_once place (Learn lits hints counted) at kept plain.1)
+  new_step_plain place (Learn lits hints counted) at kept plain = (
+    new_lits_once place (Learn lits hints counted) at kept plain.0,
+    new_hints_once place
+        (Learn lits hints counted) at kept plain.1,
+  )
 
   -- the answer that a kept statement names is kept
   answer_stays : (st : Statement) → IsIn (kept_of t.statement_kept log.statements) st → IsKeptIn t.answer_kept st
@@ -197,7 +209,12 @@ module _ (log : Log) (goals : List ℕ) (trimmed : Trimmed) (t : IsTrimmed log g
   answer_stays (Answer tuple) at =
       let place = place_of (kept_of t.statement_kept log.statements) (Answer tuple) at in
       let from = kept_from t.statement_kept log.statements place.0 (Answer tuple) place.1 in
-      (t.kept_answers tuple).1 (record { var = from.place; used = (t.kept_statements from.place).0 from.kept; names = from.there })
+      (t.kept_answers tuple).1 (record {
+        var = from.place;
+        used = (t.kept_statements from.place).0 from.kept;
+        names =
+            from.there;
+      })
 
   module _ (relations : List Relation) (plain : IsPlain relations log) where
     count_answers : length trimmed.log.answers ≡ length (kept_of t.answer_kept log.answers)
@@ -207,9 +224,11 @@ module _ (log : Log) (goals : List ℕ) (trimmed : Trimmed) (t : IsTrimmed log g
     on_kept : (st : Statement) → IsIn trimmed.log.statements st → IsOnRows relations (length trimmed.log.answers) st
     on_kept st at =
         let kept = kept_of t.statement_kept log.statements in
-        let made : IsIn (map (renumbered_statement t.answer_kept) kept) st = subst (λ (statements : List Statement). IsIn statements st) t.statements at in
+        let made : IsIn (map (renumbered_statement t.answer_kept) kept) st =
+        subst (λ (statements : List Statement). IsIn statements st) t.statements at in
         let from = from_map (renumbered_statement t.answer_kept) kept st made in
-        let on = stays_on relations t.answer_kept log.answers from.0 (answer_stays from.0 from.1) (plain.statements from.0 (kept_in t.statement_kept log.statements from.0 from.1)) in
+        let on = stays_on relations t.answer_kept log.answers from.0 (answer_stays from.0 from.1)
+        (plain.statements from.0 (kept_in t.statement_kept log.statements from.0 from.1)) in
         subst (λ (x : Statement). IsOnRows relations (length trimmed.log.answers) x) from.2
         (subst (λ (n : ℕ). IsOnRows relations n (renumbered_statement t.answer_kept from.0)) (sym count_answers) on)
 
@@ -229,9 +248,11 @@ module _ (log : Log) (goals : List ℕ) (trimmed : Trimmed) (t : IsTrimmed log g
         let at = slice_get-get_or (kept_of t.answer_kept log.answers) tuple [] within in
         let from = kept_from t.answer_kept log.answers tuple (slice_index_or (kept_of t.answer_kept log.answers) tuple []) at in
         let used = (t.kept_answers from.place).0 from.kept in
-        let stands = kept_at t.statement_kept log.statements used.var (Answer from.place) used.names ((t.kept_statements used.var).1 used.used) in
+        let stands = kept_at t.statement_kept log.statements used.var (Answer from.place) used.names
+        ((t.kept_statements used.var).1 used.used) in
         let there = in_at (kept_of t.statement_kept log.statements) (rank t.statement_kept used.var) (Answer from.place) stands in
-        let made = in_map (renumbered_statement t.answer_kept) (kept_of t.statement_kept log.statements) (Answer from.place) there in
+        let made = in_map (renumbered_statement t.answer_kept) (kept_of t.statement_kept log.statements)
+        (Answer from.place) there in
         let same : Answer (rank t.answer_kept from.place) ≡ Answer tuple = ap Answer from.is_new in
         subst (λ (statements : List Statement). IsIn statements (Answer tuple)) (sym t.statements)
         (subst (IsIn (map (renumbered_statement t.answer_kept) (kept_of t.statement_kept log.statements))) same made)
@@ -240,10 +261,12 @@ module _ (log : Log) (goals : List ℕ) (trimmed : Trimmed) (t : IsTrimmed log g
     pub still_plain : IsPlain relations trimmed.log
     still_plain =
         let count : length trimmed.log.steps ≡ length (kept_of t.step_kept log.steps) =
-        ap (λ (steps : List Step). length steps) t.steps ∙ length-map (kept_of t.step_kept log.steps) (renumbered_step t.step_kept t.statement_kept) in
+        ap (λ (steps : List Step). length steps) t.steps ∙ length-map (kept_of t.step_kept log.steps)
+        (renumbered_step t.step_kept t.statement_kept) in
         let few = plain.few_steps in
         record {
-          ascending = subst (λ (answers : List (List Value)). AreAscending answers) (sym t.answers) (kept_ascending t.answer_kept log.answers plain.ascending);
+          ascending = subst (λ (answers : List (List Value)). AreAscending answers) (sym t.answers)
+              (kept_ascending t.answer_kept log.answers plain.ascending);
           values = subst (λ (answers : List (List Value)). All (AreFew IsValue) answers) (sym t.answers)
               (all_placed (AreFew IsValue) (kept_of t.answer_kept log.answers) (λ k x at.
               let from = kept_from t.answer_kept log.answers k x at in
@@ -255,23 +278,27 @@ module _ (log : Log) (goals : List ℕ) (trimmed : Trimmed) (t : IsTrimmed log g
           ascend = still_ascends;
           statements = on_kept;
           steps = λ place step at.
-              let was = changed_from (renumbered_step t.step_kept t.statement_kept) t.step_kept log.steps trimmed.log.steps place step t.steps at in
+              let was = changed_from (renumbered_step t.step_kept t.statement_kept) t.step_kept log.steps
+              trimmed.log.steps place step t.steps at in
               let from = was.1 in
-              subst IsPlainStep was.2 (new_step_plain from.place was.0 from.there from.kept (plain.steps from.place was.0 from.there));
+              subst IsPlainStep was.2 (new_step_plain from.place was.0 from.there from.kept
+              (plain.steps from.place was.0 from.there));
         }
 
     -- its statements stood in the log, the numbers of answers aside, which are less
     pub still_among : (st : Statement) → IsIn trimmed.log.statements st → IsIn log.statements st ⊎ IsLessAnswer log.answers st
     still_among st at =
         let kept = kept_of t.statement_kept log.statements in
-        let made : IsIn (map (renumbered_statement t.answer_kept) kept) st = subst (λ (statements : List Statement). IsIn statements st) t.statements at in
+        let made : IsIn (map (renumbered_statement t.answer_kept) kept) st =
+        subst (λ (statements : List Statement). IsIn statements st) t.statements at in
         let from = from_map (renumbered_statement t.answer_kept) kept st made in
         let stood = kept_in t.statement_kept log.statements from.0 from.1 in
         subst (λ (x : Statement). IsIn log.statements x ⊎ IsLessAnswer log.answers x) from.2
         (go from.0 stood (plain.statements from.0 stood))
       where
         go : (x : Statement) → IsIn log.statements x → IsOnRows relations (length log.answers) x
-            → IsIn log.statements (renumbered_statement t.answer_kept x) ⊎ IsLessAnswer log.answers (renumbered_statement t.answer_kept x)
+            → IsIn log.statements (renumbered_statement t.answer_kept x) ⊎ IsLessAnswer log.answers
+            (renumbered_statement t.answer_kept x)
         go (Before rel attr a b) stood on = inl stood
         go (Top rel attr row) stood on = inl stood
         go (Last rel attr row) stood on = inl stood
@@ -279,7 +306,8 @@ module _ (log : Log) (goals : List ℕ) (trimmed : Trimmed) (t : IsTrimmed log g
 
   -- ---- steps that are reached
 
-  new_hints : (step : Step) → hints_of (renumbered_step t.step_kept t.statement_kept step) ≡ map (rank t.step_kept) (hints_of step)
+  new_hints : (step : Step) → hints_of (renumbered_step t.step_kept t.statement_kept step) ≡ map (rank t.step_kept)
+      (hints_of step)
   new_hints (Axiom l lits) = refl
   new_hints (OnDemand l lits) = refl
   new_hints (Learn lits hints counted) = refl
@@ -292,12 +320,15 @@ module _ (log : Log) (goals : List ℕ) (trimmed : Trimmed) (t : IsTrimmed log g
         | inl one ↦
             let step = one.0 in
             let there : IsIn (hints_of step) used =
-            in_contained (hints_of step) used (subst (λ (hints : List ℕ). Contains hints used) (list_at hints_of log.steps place step one.2) is_in) in
+            in_contained (hints_of step) used (subst (λ (hints : List ℕ). Contains hints used)
+            (list_at hints_of log.steps place step one.2) is_in) in
             let stands = steps_keep log goals trimmed t place step reached one.2 in
             let new : hints_at trimmed.log.steps (rank t.step_kept place) ≡ map (rank t.step_kept) (hints_of step) =
-            list_at hints_of trimmed.log.steps (rank t.step_kept place) (renumbered_step t.step_kept t.statement_kept step) stands ∙ new_hints step in
+            list_at hints_of trimmed.log.steps (rank t.step_kept place)
+            (renumbered_step t.step_kept t.statement_kept step) stands ∙ new_hints step in
             subst (λ (hints : List ℕ). Contains hints (rank t.step_kept used)) (sym new)
-            (contained (map (rank t.step_kept) (hints_of step)) (rank t.step_kept used) (in_map (rank t.step_kept) (hints_of step) used there))
+            (contained (map (rank t.step_kept) (hints_of step)) (rank t.step_kept used)
+            (in_map (rank t.step_kept) (hints_of step) used there))
         | inr past ↦
             let none : hints_at log.steps place ≡ [] =
             get_or_past (map hints_of log.steps) place [] (omega (arith, past.0, length-map log.steps hints_of)) in
@@ -307,7 +338,8 @@ module _ (log : Log) (goals : List ℕ) (trimmed : Trimmed) (t : IsTrimmed log g
   new_goal : (goal : ℕ) → Contains goals goal → Contains trimmed.goals (rank t.step_kept goal)
   new_goal goal is_in =
       subst (λ (new : List ℕ). Contains new (rank t.step_kept goal)) (sym t.new_goals)
-      (contained (map (rank t.step_kept) goals) (rank t.step_kept goal) (in_map (rank t.step_kept) goals goal (in_contained goals goal is_in)))
+      (contained (map (rank t.step_kept) goals) (rank t.step_kept goal)
+      (in_map (rank t.step_kept) goals goal (in_contained goals goal is_in)))
 
   still_reached : (place : ℕ) → Reaches log.steps goals place → Reaches trimmed.log.steps trimmed.goals (rank t.step_kept place)
   still_reached place (is_goal _ is_in) = is_goal _ (new_goal _ is_in)
@@ -318,7 +350,8 @@ module _ (log : Log) (goals : List ℕ) (trimmed : Trimmed) (t : IsTrimmed log g
   all_reached place within =
       elim ((slice_get_cases trimmed.log.steps place).1) [
         | inl one ↦
-            let was = changed_from (renumbered_step t.step_kept t.statement_kept) t.step_kept log.steps trimmed.log.steps place one.0 t.steps one.2 in
+            let was = changed_from (renumbered_step t.step_kept t.statement_kept) t.step_kept log.steps
+            trimmed.log.steps place one.0 t.steps one.2 in
             let from = was.1 in
             subst (λ (p : ℕ). Reaches trimmed.log.steps trimmed.goals p) from.is_new
             (still_reached from.place ((t.kept_steps from.place).0 from.kept))

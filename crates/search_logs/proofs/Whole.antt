@@ -32,11 +32,15 @@ pub trimmed_logs_writable : StatementsAreFew → TrimmedAreWritable
 trimmed_logs_writable few s posed wanted log goals trimmed within is few_steps goals_in t =
     let relations = within.specification.relations in
     let mine = still_plain log goals trimmed t s.relations (plain s posed wanted log within is few_steps) in
-    let inside = stays_in_place log goals trimmed t (in_place s posed wanted log within is few few_steps goals goals_in) in
-    (written s.relations relations trimmed.log trimmed.goals mine inside, formed s.relations relations trimmed.log trimmed.goals mine inside)
+    let inside = stays_in_place log goals trimmed t (in_place s posed wanted log within is few few_steps goals goals_in) in (
+      written s.relations relations trimmed.log trimmed.goals mine inside,
+      formed s.relations relations trimmed.log
+          trimmed.goals mine inside,
+    )
 
 -- an answer that is there is numbered
-answer_numbered : (s : Spec) (posed : Posed) (wanted : Wanted) (log : Log) → IsSearchLog s posed wanted log → (st : Statement) → IsLessAnswer log.answers st
+answer_numbered : (s : Spec) (posed : Posed) (wanted : Wanted) (log : Log) → IsSearchLog s posed wanted log →
+    (st : Statement) → IsLessAnswer log.answers st
     → IsIn (variables s wanted) st
 answer_numbered s posed wanted log is (Answer tuple) below =
     let many = ap (λ (answers : List (List Value)). length answers) is.answers in
@@ -52,4 +56,5 @@ trimmed_logs_among s posed wanted log goals trimmed within is few_steps t =
     contained (variables s wanted) st (⊎_elim
     (λ (stood : IsIn log.statements st). subst (λ (statements : List Statement). IsIn statements st) is.statements stood)
     (λ (less : IsLessAnswer log.answers st). answer_numbered s posed wanted log is st less)
-    (still_among log goals trimmed t s.relations (plain s posed wanted log within is few_steps) st (in_at trimmed.log.statements place st at))))
+    (still_among log goals trimmed t s.relations (plain s posed wanted log within is few_steps) st
+    (in_at trimmed.log.statements place st at))))

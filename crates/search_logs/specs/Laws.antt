@@ -17,12 +17,14 @@ use Rattle.search_logs.specs.SearchLogs.{IsSearchLog, IsWithin, HasFewSteps, var
 -- it is accepted
 abbrev pub LogsAreAccepted : Type 0
 LogsAreAccepted =
-    (s : Spec) (posed : Posed) (wanted : Wanted) (log : Log) → IsWithin s → IsSearchLog s posed wanted log → IsAccepted s posed.query log
+    (s : Spec) (posed : Posed) (wanted : Wanted) (log : Log) → IsWithin s → IsSearchLog s posed wanted log
+    → IsAccepted s posed.query log
 
 -- it can be checked, and trimmed to any steps of it
 abbrev pub LogsAreInPlace : Type 0
 LogsAreInPlace =
-    (s : Spec) (posed : Posed) (wanted : Wanted) (log : Log) (goals : List ℕ) → IsWithin s → IsSearchLog s posed wanted log → HasFewSteps log
+    (s : Spec) (posed : Posed) (wanted : Wanted) (log : Log) (goals : List ℕ) → IsWithin s → IsSearchLog s posed
+    wanted log → HasFewSteps log
     → All (λ goal. goal < length log.steps) goals → IsNumbered log.statements log.steps × AreInPlace log goals
 
 -- it can be written, and is well formed
@@ -34,14 +36,16 @@ LogsAreWritable =
 -- and so can what it is trimmed to
 abbrev pub TrimmedAreWritable : Type 0
 TrimmedAreWritable =
-    (s : Spec) (posed : Posed) (wanted : Wanted) (log : Log) (goals : List ℕ) (trimmed : Trimmed) → IsWithin s → IsSearchLog s posed wanted log → HasFewSteps log
+    (s : Spec) (posed : Posed) (wanted : Wanted) (log : Log) (goals : List ℕ) (trimmed : Trimmed) → IsWithin s
+    → IsSearchLog s posed wanted log → HasFewSteps log
     → All (λ goal. goal < length log.steps) goals → IsTrimmed log goals trimmed
     → IsWritable trimmed.log × (first_fault s.relations trimmed.log ≡ None)
 
 -- the statements of what a log is trimmed to are among those that are numbered
 abbrev pub TrimmedAreAmong : Type 0
 TrimmedAreAmong =
-    (s : Spec) (posed : Posed) (wanted : Wanted) (log : Log) (goals : List ℕ) (trimmed : Trimmed) → IsWithin s → IsSearchLog s posed wanted log → HasFewSteps log
+    (s : Spec) (posed : Posed) (wanted : Wanted) (log : Log) (goals : List ℕ) (trimmed : Trimmed) → IsWithin s
+    → IsSearchLog s posed wanted log → HasFewSteps log
     → IsTrimmed log goals trimmed → All (Contains (variables s wanted)) trimmed.log.statements
 
 -- each step of what a log is trimmed to is reached from its goals

@@ -33,7 +33,8 @@ variables s wanted = statements_of (numbers_of s.relations wanted)
 
 -- a clause that is derived: it follows from the clauses before it with its hints, its literals are of the statements, and
 -- no literal and no hint stands twice
-pub record IsDerivedStep (statements : List Statement) (earlier : List (List Lit)) (lits : List Lit) (hints : List ℕ) : Type 0 where
+pub record IsDerivedStep (statements : List Statement) (earlier : List (List Lit)) (lits : List Lit)
+    (hints : List ℕ) : Type 0 where
   pub follows : FollowsFrom earlier lits hints
   pub within : All (λ lit. var_of lit < length statements) lits
   pub lits_once : OnlyOnce lits
@@ -58,7 +59,8 @@ pub record IsMatchStep (s : Spec) (posed : Posed) (statements : List Statement) 
 
 -- literals that are the axiom of a label: of the specification, or of a match
 abbrev pub IsAxiomTaken : Spec → Posed → List Statement → Label → List Lit → Type 0
-IsAxiomTaken s posed statements l lits = IsAxiomStep s statements l lits (step.Axiom l lits) ⊎ IsMatchStep s posed statements l lits
+IsAxiomTaken s posed statements l lits = IsAxiomStep s statements l lits (step.Axiom l lits) ⊎ IsMatchStep s posed
+    statements l lits
 
 -- a step that a search adds after these clauses: the axiom of a label, or a clause that is derived
 abbrev pub IsSearchStep : Spec → Posed → List Statement → List (List Lit) → Step → Type 0
@@ -69,7 +71,8 @@ IsSearchStep s posed statements earlier (step.Learn lits hints counted) = IsDeri
 -- each step is one that a search adds after the steps before it
 abbrev pub AreSearchSteps : Spec → Posed → List Statement → List Step → Type 0
 AreSearchSteps s posed statements steps =
-    (place : ℕ) (taken : Step) → slice_get steps place ≡ Some taken → IsSearchStep s posed statements (clauses_of (take place steps)) taken
+    (place : ℕ) (taken : Step) → slice_get steps place ≡ Some taken → IsSearchStep s posed statements
+    (clauses_of (take place steps)) taken
 
 -- the log of a search in which these answers are posed
 pub record IsSearchLog (s : Spec) (posed : Posed) (wanted : Wanted) (log : Log) : Type 0 where

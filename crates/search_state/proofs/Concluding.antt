@@ -38,7 +38,8 @@ module _ (a : Arena) (t : Trail) (l : Learned) (learned : IsLearned a t l) (are 
             is_in = learned.unit_back.is_in;
             is_open = record {
               not_true = λ c. learned.unit_back.is_open.not_true (undone_less t 0 l.back learned.first are (omega arith) c);
-              not_false = λ c. learned.unit_back.is_open.not_false (undone_less t 0 l.back (negation learned.first) are (omega arith) c);
+              not_false = λ c. learned.unit_back.is_open.not_false (undone_less t 0 l.back (negation learned.first)
+                  are (omega arith) c);
             };
             others = λ other c d. absurd (d (alone other (subst (λ (ls : List Lit). Contains ls other) only c)));
           }
@@ -66,9 +67,12 @@ module _ (a : Arena) (t : Trail) (l : Learned) (learned : IsLearned a t l) (are 
       go false = learned.lower
       go true = omega (arith, learned.lower)
 
-pub learned_of : (s new : State) (a : Arena) (l : Learned) (learned : IsLearned a s.trail l) → AreReordered (clauses_of s.steps) a.clauses → s.trail.vars ≡ vars_of s
-    → AreEntries s.trail → All (IsAtRest (lits_below s.trail)) (clauses_of s.steps) → new.frame ≡ s.frame → new.refuted ≡ s.refuted
-    → new.steps ≡ s.steps ++ Learn l.lits l.hints true ∷ [] → new.trail ≡ implied (undone s.trail (lowest_back l)) learned.first (length s.steps) → HasLearned s new
+pub learned_of : (s new : State) (a : Arena) (l : Learned) (learned : IsLearned a s.trail l) → AreReordered
+    (clauses_of s.steps) a.clauses → s.trail.vars ≡ vars_of s
+    → AreEntries s.trail → All (IsAtRest (lits_below s.trail)) (clauses_of s.steps) → new.frame ≡ s.frame
+    → new.refuted ≡ s.refuted
+    → new.steps ≡ s.steps ++ Learn l.lits l.hints true ∷ [] → new.trail ≡ implied (undone s.trail (lowest_back l))
+    learned.first (length s.steps) → HasLearned s new
 learned_of s new a l learned re vars are quiet frame refuted steps trail =
     record {
       lits = l.lits;
@@ -77,7 +81,8 @@ learned_of s new a l learned re vars are quiet frame refuted steps trail =
       refuted = refuted;
       steps = steps;
       derived = derived_of s a s.trail l.lits l.hints re vars learned.derived;
-      is_new = new_clause (lits_below s.trail) l.lits learned.first (front_of_trail_consistent s.trail (entries_up_to s.trail (length s.trail.starts - 1)) are) learned.unit_below
+      is_new = new_clause (lits_below s.trail) l.lits learned.first
+          (front_of_trail_consistent s.trail (entries_up_to s.trail (length s.trail.starts - 1)) are) learned.unit_below
           (clauses_of s.steps) l.hints quiet;
       back = lowest_back l;
       lower = learned_lower a s.trail l learned are;
@@ -85,17 +90,30 @@ learned_of s new a l learned re vars are quiet frame refuted steps trail =
       trail = trail;
     }
 
-pub concluded_of : (s new : State) (a : Arena) (lits : List Lit) (hints : List ℕ) → AreReordered (clauses_of s.steps) a.clauses → s.trail.vars ≡ vars_of s
-    → IsDerived a s.trail lits hints → new.frame ≡ s.frame → new.steps ≡ s.steps ++ Learn lits hints false ∷ [] → new.trail.starts ≡ [] → HasConcluded s new lits
+pub concluded_of : (s new : State) (a : Arena) (lits : List Lit) (hints : List ℕ) → AreReordered (clauses_of s.steps)
+    a.clauses → s.trail.vars ≡ vars_of s
+    → IsDerived a s.trail lits hints → new.frame ≡ s.frame → new.steps ≡ s.steps ++ Learn lits hints false ∷ []
+    → new.trail.starts ≡ [] → HasConcluded s new lits
 concluded_of s new a lits hints re vars derived frame steps starts =
-    record { hints = hints; frame = frame; steps = steps; derived = derived_of s a s.trail lits hints re vars derived; starts = starts }
+    record {
+      hints = hints;
+      frame = frame;
+      steps = steps;
+      derived = derived_of s a s.trail lits hints re vars
+          derived;
+      starts = starts;
+    }
 
 -- by other names
 pub learned_as : (s old new : State) → s ≡ old → HasLearned s new → HasLearned old new
 learned_as s old new same h = subst (λ (u : State). HasLearned u new) same h
 
-pub concluded_as : (s old new : State) (lits clause : List Lit) → s ≡ old → lits ≡ clause → HasConcluded s new lits → HasConcluded old new clause
-concluded_as s old new lits clause same is h = subst (HasConcluded old new) is (subst (λ (u : State). HasConcluded u new lits) same h)
+pub concluded_as : (s old new : State) (lits clause : List Lit) → s ≡ old → lits ≡ clause → HasConcluded s new lits
+    → HasConcluded old new clause
+concluded_as s old new lits clause same is h = subst (HasConcluded old new) is
+    (subst (λ (u : State). HasConcluded u new lits) same h)
 
-pub refuted_as : (s old new : State) (lits : List Lit) → s ≡ old → HasConcluded s new lits → AreOfAssumed s.trail lits → HasRefuted old new
-refuted_as s old new lits same h assumed = subst (λ (u : State). HasRefuted u new) same (record { lits = lits; concluded = h; assumed = assumed })
+pub refuted_as : (s old new : State) (lits : List Lit) → s ≡ old → HasConcluded s new lits → AreOfAssumed s.trail
+    lits → HasRefuted old new
+refuted_as s old new lits same h assumed = subst (λ (u : State). HasRefuted u new) same
+    (record { lits = lits; concluded = h; assumed = assumed })

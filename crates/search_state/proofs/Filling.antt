@@ -18,15 +18,18 @@ pub record AreIn (vars : ℕ) (steps : List Step) (place : ℕ) (a : Arena) (t :
   pub ground : t.starts ≡ []
   pub arena_vars : length a.watchers ≡ 2 * vars
 
-pub in_begun : (vars : ℕ) (steps : List Step) (a : Arena) (t : Trail) (refuted : Option ℕ) → AreHeld [] a t refuted → t.vars ≡ vars → t.starts ≡ [] → length a.watchers ≡ 2 * vars
+pub in_begun : (vars : ℕ) (steps : List Step) (a : Arena) (t : Trail) (refuted : Option ℕ) → AreHeld [] a t refuted
+    → t.vars ≡ vars → t.starts ≡ [] → length a.watchers ≡ 2 * vars
     → AreIn vars steps 0 a t refuted
 in_begun vars steps a t refuted held trail_vars ground arena_vars =
     record { held = held; trail_vars = trail_vars; ground = ground; arena_vars = arena_vars }
 
 -- one more
-pub in_more : (vars : ℕ) (steps : List Step) (place : ℕ) (lits : List Lit) (a b : Arena) (t u : Trail) (refuted found : Option ℕ) → slice_get (clauses_of steps) place ≡ Some lits
+pub in_more : (vars : ℕ) (steps : List Step) (place : ℕ) (lits : List Lit) (a b : Arena) (t u : Trail)
+    (refuted found : Option ℕ) → slice_get (clauses_of steps) place ≡ Some lits
     → (AreHeld (take place (clauses_of steps)) a t refuted → AreHeld (take place (clauses_of steps) ++ lits ∷ []) b u found)
-    → u.vars ≡ t.vars → u.starts ≡ [] → length b.watchers ≡ length a.watchers → AreIn vars steps place a t refuted → AreIn vars steps (place + 1) b u found
+    → u.vars ≡ t.vars → u.starts ≡ [] → length b.watchers ≡ length a.watchers → AreIn vars steps place a t refuted
+    → AreIn vars steps (place + 1) b u found
 in_more vars steps place lits a b t u refuted found is put same_vars ground same_watchers before =
     record {
       held = subst (λ (cs : List (List Lit)). AreHeld cs b u found) (sym more) (put before.held);
@@ -38,16 +41,20 @@ in_more vars steps place lits a b t u refuted found is put same_vars ground same
     more : take (place + 1) (clauses_of steps) ≡ take place (clauses_of steps) ++ lits ∷ []
     more =
         take_more (clauses_of steps) place lits (slice_get_within (clauses_of steps) place lits is)
-        ∙ ap (λ (y : List Lit). take place (clauses_of steps) ++ y ∷ []) (get_or_from_slice_get (clauses_of steps) place lits lits is)
+        ∙ ap (λ (y : List Lit). take place (clauses_of steps) ++ y ∷ [])
+        (get_or_from_slice_get (clauses_of steps) place lits lits is)
 
 -- all
-pub in_all : (vars : ℕ) (steps : List Step) (place : ℕ) (a : Arena) (t : Trail) (refuted : Option ℕ) → length steps ≤ place → AreIn vars steps place a t refuted
+pub in_all : (vars : ℕ) (steps : List Step) (place : ℕ) (a : Arena) (t : Trail) (refuted : Option ℕ)
+    → length steps ≤ place → AreIn vars steps place a t refuted
     → AreHeld (clauses_of steps) a t refuted
 in_all vars steps place a t refuted h all_in =
-    subst (λ (cs : List (List Lit)). AreHeld cs a t refuted) (take_all place (clauses_of steps) (omega (arith, h, length-map steps clause_of))) all_in.held
+    subst (λ (cs : List (List Lit)). AreHeld cs a t refuted)
+    (take_all place (clauses_of steps) (omega (arith, h, length-map steps clause_of))) all_in.held
 
 -- the literals of a step are fit
-pub fit_at : (vars : ℕ) (steps : List Step) (place : ℕ) (lits : List Lit) → All (λ step. IsFit vars (clause_of step)) steps → slice_get (clauses_of steps) place ≡ Some lits → IsFit vars lits
+pub fit_at : (vars : ℕ) (steps : List Step) (place : ℕ) (lits : List Lit) → All (λ step. IsFit vars (clause_of step))
+    steps → slice_get (clauses_of steps) place ≡ Some lits → IsFit vars lits
 fit_at vars steps place lits fit is =
     subst (IsFit vars) (get_or_from_slice_get (clauses_of steps) place lits lits is)
     (All-map (IsFit vars) clause_of steps fit place lits (slice_get_within (clauses_of steps) place lits is))

@@ -21,14 +21,21 @@ false_same falses x y same are lit c = are lit (same.none_new lit c)
 
 only_same : (falses x y : List Lit) (lit : Lit) → AreSameLits x y → IsOnlyOpen falses x lit → IsOnlyOpen falses y lit
 only_same falses x y lit same only =
-    record { is_in = same.none_lost lit only.is_in; is_open = only.is_open; others = λ other c d. only.others other (same.none_new other c) d }
+    record {
+      is_in = same.none_lost lit only.is_in;
+      is_open = only.is_open;
+      others = λ other c d. only.others other
+          (same.none_new other c) d;
+    }
 
 -- the same clauses falsify the same literals
-falsifies_same : (falses : List Lit) (xs ys : List (List Lit)) (all : List Lit) → AreSame xs ys → Falsifies falses xs all → Falsifies falses ys all
+falsifies_same : (falses : List Lit) (xs ys : List (List Lit)) (all : List Lit) → AreSame xs ys → Falsifies falses xs
+    all → Falsifies falses ys all
 falsifies_same falses [] [] all same f = f
 falsifies_same falses [] (y ∷ ys) all same f = absurd same
 falsifies_same falses (x ∷ xs) [] all same f = absurd same
-falsifies_same falses (x ∷ xs) (y ∷ ys) all same (inl f) = inl (false_same falses x y same.0 f.0, falsifies_same falses xs ys all same.1 f.1)
+falsifies_same falses (x ∷ xs) (y ∷ ys) all same (inl f) =
+    inl (false_same falses x y same.0 f.0, falsifies_same falses xs ys all same.1 f.1)
 falsifies_same falses (x ∷ xs) (y ∷ ys) all same (inr f) =
     inr (f.0, only_same falses x y f.0 same.0 f.1, falsifies_same (falses ++ negation f.0 ∷ []) xs ys all same.1 f.2)
 
@@ -40,7 +47,8 @@ record EndsSame (front : List (List Lit)) (last : List Lit) (ys : List (List Lit
   pub same_before : AreSame front before
   pub same_end : AreSameLits last end
 
-ends_same : (front : List (List Lit)) (last : List Lit) (ys : List (List Lit)) → AreSame (front ++ last ∷ []) ys → EndsSame front last ys
+ends_same : (front : List (List Lit)) (last : List Lit) (ys : List (List Lit)) → AreSame (front ++ last ∷ []) ys
+    → EndsSame front last ys
 ends_same [] last [] same = absurd same
 ends_same [] last (y ∷ []) same = record { before = []; end = y; is = refl; same_before = tt; same_end = same.0 }
 ends_same [] last (y ∷ z ∷ ys) same = absurd same.1
@@ -69,10 +77,12 @@ follows_same clause xs ys same f =
     }
 
 -- the clauses of the same numbers
-clauses_same : (old new : List (List Lit)) (hints : List ℕ) → AreReordered new old → AreEarlier old hints → AreSame (clauses_at old hints) (clauses_at new hints)
+clauses_same : (old new : List (List Lit)) (hints : List ℕ) → AreReordered new old → AreEarlier old hints
+    → AreSame (clauses_at old hints) (clauses_at new hints)
 clauses_same old new [] re known = tt
 clauses_same old new (hint ∷ hints) re known = (
-  same_back (clause_at new hint) (clause_at old hint) (re.same hint (clause_at new hint) (clause_at old hint) (slice_get-get_or new hint [] within) (slice_get-get_or old hint [] here)),
+  same_back (clause_at new hint) (clause_at old hint) (re.same hint (clause_at new hint) (clause_at old hint)
+      (slice_get-get_or new hint [] within) (slice_get-get_or old hint [] here)),
   clauses_same old new hints re (All-tail (λ (h : ℕ). h < length old) hint hints known),
 )
   where
@@ -83,7 +93,8 @@ clauses_same old new (hint ∷ hints) re known = (
     within = omega (arith, here, re.as_many)
 
 -- a clause that follows from the clauses of an arena follows from those that it holds
-pub follows_reordered : (old new : List (List Lit)) (clause : List Lit) (hints : List ℕ) → AreReordered new old → AreEarlier old hints
+pub follows_reordered : (old new : List (List Lit)) (clause : List Lit) (hints : List ℕ) → AreReordered new old
+    → AreEarlier old hints
     → Follows clause (clauses_at old hints) → FollowsFrom new clause hints
 follows_reordered old new clause hints re known follows =
     record {

@@ -46,9 +46,11 @@ module _ (truths clause : List Lit) (lit : Lit) (consistent : IsConsistent truth
   no_subset : (c : List Lit) → IsAtRest truths c → ((x : Lit) → Contains c x → Contains clause x) → ⊥
   no_subset c (inl h) among = none_true h.lit (among h.lit h.is_in) h.is_true
   no_subset c (inr h) among =
-      h.differ (the_open h.first (among h.first h.first_in) h.first_open.not_false ∙ sym (the_open h.second (among h.second h.second_in) h.second_open.not_false))
+      h.differ (the_open h.first (among h.first h.first_in) h.first_open.not_false
+      ∙ sym (the_open h.second (among h.second h.second_in) h.second_open.not_false))
 
-  pub new_clause : (earlier : List (List Lit)) (hints : List ℕ) → All (IsAtRest truths) earlier → IsNew earlier (Learn clause hints true)
+  pub new_clause : (earlier : List (List Lit)) (hints : List ℕ) → All (IsAtRest truths) earlier → IsNew earlier
+      (Learn clause hints true)
   new_clause earlier hints at_rest = (
     record { truths = truths; consistent = consistent; lit = lit; unit = unit; at_rest = at_rest },
     record {

@@ -18,11 +18,13 @@ use Rattle.search_state.specs.Held.{AreHeld, AreSettled, BeginsOpen, BeginsTrue,
 use Rattle.search_state.proofs.Grounds.{ground_all, ground_assumed, ground_more, ground_undone, undone_none}
 
 -- more literals are true
-has_true_more : (truths more lits : List Lit) → ((x : Lit) → Contains truths x → Contains more x) → HasTrue truths lits → HasTrue more lits
+has_true_more : (truths more lits : List Lit) → ((x : Lit) → Contains truths x → Contains more x)
+    → HasTrue truths lits → HasTrue more lits
 has_true_more truths more lits grows h = record { lit = h.lit; is_in = h.is_in; is_true = grows h.lit h.is_true }
 
 -- the same clauses, where those that hold at level 0 hold still
-settled_more : (a : Arena) (t u : Trail) → ((x : Lit) → Contains (ground_lits t) x → Contains (ground_lits u) x) → AreSettled a t → AreSettled a u
+settled_more : (a : Arena) (t u : Trail) → ((x : Lit) → Contains (ground_lits t) x → Contains (ground_lits u) x)
+    → AreSettled a t → AreSettled a u
 settled_more a t u grows settled clause lits is = go (settled clause lits is)
   where
     go : IsWatched a clause ⊎ HasTrue (ground_lits t) lits → IsWatched a clause ⊎ HasTrue (ground_lits u) lits
@@ -41,7 +43,8 @@ held_begun a t clauses entries starts =
       reasons = λ place e clause is. absurd (no_entry place e (ap (λ (es : List Entry). slice_get es place) (sym entries) ∙ is));
       goes_on = λ e. record {
         rule = keeps_begun a t entries starts;
-        settled = λ clause lits is. absurd (none lits clause (ap (λ (cs : List (List Lit)). slice_get cs clause) (sym clauses) ∙ is));
+        settled = λ clause lits is. absurd
+            (none lits clause (ap (λ (cs : List (List Lit)). slice_get cs clause) (sym clauses) ∙ is));
       };
       stuck = λ clause e. absurd (no_clause clause e);
     }
@@ -54,7 +57,8 @@ held_begun a t clauses entries starts =
 
 -- ---- the same clauses
 
-pub held_propagated : (clauses : List (List Lit)) (old new : Arena) (was is : Trail) → AreEntries was → IsRewatched old new → Implies new was is → KeepsWatch new is
+pub held_propagated : (clauses : List (List Lit)) (old new : Arena) (was is : Trail) → AreEntries was
+    → IsRewatched old new → Implies new was is → KeepsWatch new is
     → AreHeld clauses old was None → AreHeld clauses new is None
 held_propagated clauses old new was is are re implies rule held =
     record {
@@ -74,7 +78,8 @@ held_propagated clauses old new was is are re implies rule held =
             by (inl w) = inl (re.still clause w)
             by (inr h) =
                 inr (has_true_same (ground_lits is) xs lits (re.clauses.same clause xs lits before there)
-                (has_true_more (ground_lits was) (ground_lits is) xs (λ x c. ground_more was is implies.added x are implies.starts implies.entries c) h))
+                (has_true_more (ground_lits was) (ground_lits is) xs
+                (λ x c. ground_more was is implies.added x are implies.starts implies.entries c) h))
 
 pub held_assumed : (clauses : List (List Lit)) (a : Arena) (t : Trail) (lit : Lit) → AreEntries t → t.gone ≡ length t.entries
     → AreHeld clauses a t None → AreHeld clauses a (assumed t lit) None
@@ -106,7 +111,8 @@ held_undone clauses a t refuted level are held =
 
 -- ---- one clause more
 
-reordered_push : (clauses : List (List Lit)) (old new : Arena) (xs ys : List Lit) → AreReordered clauses old.clauses → AreSameLits xs ys → HasAdded old new ys
+reordered_push : (clauses : List (List Lit)) (old new : Arena) (xs ys : List Lit) → AreReordered clauses old.clauses
+    → AreSameLits xs ys → HasAdded old new ys
     → AreReordered (clauses ++ xs ∷ []) new.clauses
 reordered_push clauses old new xs ys re same added =
     record {
@@ -123,7 +129,8 @@ reordered_push clauses old new xs ys re same added =
     go clause us vs (inr a) (inl b) = absurd (omega (arith, slice_get_within old.clauses clause vs b, a.0, re.as_many))
     go clause us vs (inr a) (inr b) = subst (λ (zs : List Lit). AreSameLits zs vs) a.1 (subst (AreSameLits xs) b.1 same)
 
-settled_push : (old new : Arena) (lits : List Lit) (t u : Trail) → HasAdded old new lits → ((x : Lit) → Contains (ground_lits t) x → Contains (ground_lits u) x)
+settled_push : (old new : Arena) (lits : List Lit) (t u : Trail) → HasAdded old new lits →
+    ((x : Lit) → Contains (ground_lits t) x → Contains (ground_lits u) x)
     → AreSettled old t → IsWatched new (length old.clauses) ⊎ HasTrue (ground_lits u) lits → AreSettled new u
 settled_push old new lits t u added grows settled last clause xs is =
     go (get_push old.clauses lits clause xs (ap (λ (cs : List (List Lit)). slice_get cs clause) (sym added.clauses) ∙ is))
@@ -132,26 +139,30 @@ settled_push old new lits t u added grows settled last clause xs is =
     before (inl w) = inl (watched_added old new lits clause added w)
     before (inr h) = inr (has_true_more (ground_lits t) (ground_lits u) xs grows h)
 
-    go : (slice_get old.clauses clause ≡ Some xs) ⊎ ((clause ≡ length old.clauses) × (lits ≡ xs)) → IsWatched new clause ⊎ HasTrue (ground_lits u) xs
+    go : (slice_get old.clauses clause ≡ Some xs) ⊎ ((clause ≡ length old.clauses) × (lits ≡ xs))
+        → IsWatched new clause ⊎ HasTrue (ground_lits u) xs
     go (inl there) = before (settled clause xs there)
     go (inr h) =
         subst (λ (zs : List Lit). IsWatched new clause ⊎ HasTrue (ground_lits u) zs) h.1
         (subst (λ (n : ℕ). IsWatched new n ⊎ HasTrue (ground_lits u) lits) (sym h.0) last)
 
 -- a clause that is watched, if it has two literals
-watched_or_short : (old new : Arena) (truths lits : List Lit) (first : Lit) → HasAdded old new lits → AreWithin old lits → slice_get lits 0 ≡ Some first
+watched_or_short : (old new : Arena) (truths lits : List Lit) (first : Lit) → HasAdded old new lits
+    → AreWithin old lits → slice_get lits 0 ≡ Some first
     → (lits ≡ first ∷ [] → HasTrue truths lits) → IsWatched new (length old.clauses) ⊎ HasTrue truths lits
 watched_or_short old new truths lits first added within head short = go lits refl
   where
     go : (ls : List Lit) → lits ≡ ls → IsWatched new (length old.clauses) ⊎ HasTrue truths lits
-    go [] e = let none : slice_get [] 0 ≡ Some first = ap (λ (zs : List Lit). slice_get zs 0) (sym e) ∙ head in let no : ⊥ = cc in absurd no
+    go [] e = let none : slice_get [] 0 ≡ Some first = ap (λ (zs : List Lit). slice_get zs 0) (sym e)
+        ∙ head in let no : ⊥ = cc in absurd no
     go (x ∷ []) e =
         let same : x ≡ first = same_Some x first (ap (λ (zs : List Lit). slice_get zs 0) (sym e) ∙ head) in
         inr (short (e ∙ ap (λ (z : Lit). z ∷ []) same))
     go (x ∷ y ∷ rest) e = inl (added_is_watched old new lits x y rest added e within)
 
 -- a clause was found false before
-pub held_stuck : (clauses : List (List Lit)) (old new : Arena) (xs ys : List Lit) (t : Trail) (found : ℕ) → AreSameLits xs ys → HasAdded old new ys
+pub held_stuck : (clauses : List (List Lit)) (old new : Arena) (xs ys : List Lit) (t : Trail) (found : ℕ)
+    → AreSameLits xs ys → HasAdded old new ys
     → AreHeld clauses old t (Some found) → AreHeld (clauses ++ xs ∷ []) new t (Some found)
 held_stuck clauses old new xs ys t found same added held =
     record {
@@ -164,14 +175,16 @@ held_stuck clauses old new xs ys t found same added held =
             starts = r.starts;
             falsified = record {
               lits = r.falsified.lits;
-              is_clause = ap (λ (cs : List (List Lit)). slice_get cs clause) added.clauses ∙ get_left old.clauses (ys ∷ []) clause r.falsified.lits r.falsified.is_clause;
+              is_clause = ap (λ (cs : List (List Lit)). slice_get cs clause) added.clauses ∙ get_left old.clauses
+                  (ys ∷ []) clause r.falsified.lits r.falsified.is_clause;
               all_false = r.falsified.all_false;
             };
           };
     }
 
 -- it is the added one
-pub held_fails : (clauses : List (List Lit)) (old new : Arena) (xs ys : List Lit) (t : Trail) → t.starts ≡ [] → AreSameLits xs ys → HasAdded old new ys
+pub held_fails : (clauses : List (List Lit)) (old new : Arena) (xs ys : List Lit) (t : Trail) → t.starts ≡ []
+    → AreSameLits xs ys → HasAdded old new ys
     → IsAllFalse (lits_of t) ys → AreHeld clauses old t None → AreHeld (clauses ++ xs ∷ []) new t (Some (length old.clauses))
 held_fails clauses old new xs ys t starts same added fails held =
     record {
@@ -192,8 +205,10 @@ held_fails clauses old new xs ys t starts same added fails held =
     }
 
 -- unit propagation is at rest on it
-pub held_rests : (clauses : List (List Lit)) (old new : Arena) (xs ys : List Lit) (t : Trail) → AreEntries t → t.starts ≡ [] → AreSameLits xs ys → HasAdded old new ys
-    → AreWithin old ys → BeginsTrue (lits_of t) ys ⊎ BeginsOpen (lits_of t) ys → AreHeld clauses old t None → AreHeld (clauses ++ xs ∷ []) new t None
+pub held_rests : (clauses : List (List Lit)) (old new : Arena) (xs ys : List Lit) (t : Trail) → AreEntries t
+    → t.starts ≡ [] → AreSameLits xs ys → HasAdded old new ys
+    → AreWithin old ys → BeginsTrue (lits_of t) ys ⊎ BeginsOpen (lits_of t) ys → AreHeld clauses old t None
+    → AreHeld (clauses ++ xs ∷ []) new t None
 held_rests clauses old new xs ys t are starts same added within begins held =
     record {
       reordered = reordered_push clauses old new xs ys held.reordered same added;
@@ -223,11 +238,14 @@ held_rests clauses old new xs ys t are starts same added within begins held =
         })
     last (inr b) =
         watched_or_short old new (ground_lits t) ys b.first added within b.is_first
-        (λ e. let none : slice_get (b.first ∷ []) 1 ≡ Some b.second = ap (λ (zs : List Lit). slice_get zs 1) (sym e) ∙ b.is_second in let no : ⊥ = cc in absurd no)
+        (λ e. let none : slice_get (b.first ∷ []) 1 ≡ Some b.second = ap (λ (zs : List Lit). slice_get zs 1) (sym e)
+        ∙ b.is_second in let no : ⊥ = cc in absurd no)
 
 -- and it implies its first literal
-pub held_implied : (clauses : List (List Lit)) (old new : Arena) (xs ys : List Lit) (first : Lit) (t : Trail) → AreEntries t → AreSameLits xs ys → HasAdded old new ys
-    → AreWithin old ys → slice_get ys 0 ≡ Some first → IsUnit (lits_of t) ys first → IsDueTo t ys → (ys ≡ first ∷ [] → t.starts ≡ [])
+pub held_implied : (clauses : List (List Lit)) (old new : Arena) (xs ys : List Lit) (first : Lit) (t : Trail)
+    → AreEntries t → AreSameLits xs ys → HasAdded old new ys
+    → AreWithin old ys → slice_get ys 0 ≡ Some first → IsUnit (lits_of t) ys first → IsDueTo t ys →
+    (ys ≡ first ∷ [] → t.starts ≡ [])
     → AreHeld clauses old t None → AreHeld (clauses ++ xs ∷ []) new (implied t first (length old.clauses)) None
 held_implied clauses old new xs ys first t are same added within head unit due alone held =
     record {
@@ -235,7 +253,8 @@ held_implied clauses old new xs ys first t are same added within head unit due a
       reasons = reasons_implied new t first (length old.clauses) reason (reasons_added old new ys t.entries added held.reasons);
       goes_on = λ e. record {
         rule = keeps_learned old new ys t first (length old.clauses) are head added due (held.goes_on refl).rule;
-        settled = settled_push old new ys t after added (λ x c. ground_more t after (entry ∷ []) x are refl refl c) (held.goes_on refl).settled last;
+        settled = settled_push old new ys t after added (λ x c. ground_more t after (entry ∷ []) x are refl refl c)
+            (held.goes_on refl).settled last;
       };
       stuck = λ clause e. absurd (no_clause clause e);
     }
@@ -263,14 +282,17 @@ held_implied clauses old new xs ys first t are same added within head unit due a
         (λ e. record {
           lit = first;
           is_in = contains_at ys 0 first head;
-          is_true = subst (λ (zs : List Lit). Contains zs first) (sym (ground_all after (alone e) ∙ seen)) (Contains-push (lits_of t) first);
+          is_true = subst (λ (zs : List Lit). Contains zs first) (sym (ground_all after (alone e) ∙ seen))
+              (Contains-push (lits_of t) first);
         })
 
 -- where nothing is assumed a clause whose first literal is open and whose others are false is due
 pub due_on_ground : (t : Trail) (lits : List Lit) (begins : BeginsUnit (lits_of t) lits) → t.starts ≡ [] → IsDueTo t lits
 due_on_ground t lits begins starts first second rest is = (
-  subst (IsOpen (lits_of t)) (same_Some begins.first first (sym begins.is_first ∙ ap (λ (zs : List Lit). slice_get zs 0) is)) begins.unit.is_open,
-  λ i start at c. let none : slice_get [] i ≡ Some start = ap (λ (ss : List ℕ). slice_get ss i) (sym starts) ∙ at in let no : ⊥ = cc in no,
+  subst (IsOpen (lits_of t)) (same_Some begins.first first
+      (sym begins.is_first ∙ ap (λ (zs : List Lit). slice_get zs 0) is)) begins.unit.is_open,
+  λ i start at c. let none : slice_get [] i ≡ Some start = ap (λ (ss : List ℕ). slice_get ss i) (sym starts)
+      ∙ at in let no : ⊥ = cc in no,
 )
 
 -- ---- an arena with more room
@@ -295,7 +317,8 @@ module _ (a b : Arena) (clauses_same : b.clauses ≡ a.clauses) (watchers_same :
   rule_same t k = record { passed = k.passed; guarded = λ clause w. k.guarded clause (watched_same clause w) }
 
 -- an arena that differs in its room alone holds the same
-pub held_same : (clauses : List (List Lit)) (a b : Arena) (t : Trail) (refuted : Option ℕ) → b.clauses ≡ a.clauses → b.watchers ≡ a.watchers
+pub held_same : (clauses : List (List Lit)) (a b : Arena) (t : Trail) (refuted : Option ℕ) → b.clauses ≡ a.clauses
+    → b.watchers ≡ a.watchers
     → AreHeld clauses a t refuted → AreHeld clauses b t refuted
 held_same clauses a b t refuted same watchers held =
     record {
@@ -303,7 +326,8 @@ held_same clauses a b t refuted same watchers held =
       reasons = reasons_dropped a b t.entries same held.reasons;
       goes_on = λ e. record {
         rule = rule_same b a (sym same) (sym watchers) t (held.goes_on e).rule;
-        settled = λ clause lits is. go clause lits ((held.goes_on e).settled clause lits (ap (λ (cs : List (List Lit)). slice_get cs clause) (sym same) ∙ is));
+        settled = λ clause lits is. go clause lits
+            ((held.goes_on e).settled clause lits (ap (λ (cs : List (List Lit)). slice_get cs clause) (sym same) ∙ is));
       };
       stuck = λ clause e.
           let r = held.stuck clause e in
@@ -317,12 +341,14 @@ held_same clauses a b t refuted same watchers held =
           };
     }
   where
-    go : (clause : ℕ) (lits : List Lit) → IsWatched a clause ⊎ HasTrue (ground_lits t) lits → IsWatched b clause ⊎ HasTrue (ground_lits t) lits
+    go : (clause : ℕ) (lits : List Lit) → IsWatched a clause ⊎ HasTrue (ground_lits t) lits → IsWatched b clause ⊎
+        HasTrue (ground_lits t) lits
     go clause lits (inl w) = inl (watched_same a b same watchers clause w)
     go clause lits (inr h) = inr h
 
 -- by other names of the trail and of what was found
-pub held_as : (clauses : List (List Lit)) (a : Arena) (t u : Trail) (r s : Option ℕ) → u ≡ t → s ≡ r → AreHeld clauses a t r → AreHeld clauses a u s
+pub held_as : (clauses : List (List Lit)) (a : Arena) (t u : Trail) (r s : Option ℕ) → u ≡ t → s ≡ r
+    → AreHeld clauses a t r → AreHeld clauses a u s
 held_as clauses a t u r s trail found held =
     subst (AreHeld clauses a u) (sym found) (subst (λ (v : Trail). AreHeld clauses a v r) (sym trail) held)
 
@@ -331,7 +357,8 @@ none_found None e = refl
 none_found (Some n) e = let no : ⊥ = cc in absurd no
 
 -- a clause was found false before, whichever
-pub held_found : (clauses : List (List Lit)) (old new : Arena) (xs ys : List Lit) (t : Trail) (found : Option ℕ) → is_some found ≡ true → AreSameLits xs ys → HasAdded old new ys
+pub held_found : (clauses : List (List Lit)) (old new : Arena) (xs ys : List Lit) (t : Trail) (found : Option ℕ)
+    → is_some found ≡ true → AreSameLits xs ys → HasAdded old new ys
     → AreHeld clauses old t found → AreHeld (clauses ++ xs ∷ []) new t found
 held_found clauses old new xs ys t None e same added held = let no : ⊥ = cc in absurd no
 held_found clauses old new xs ys t (Some n) e same added held = held_stuck clauses old new xs ys t n same added held

@@ -18,7 +18,8 @@ use Rattle.search_state.proofs.Holding.{held_as, held_propagated, none_found}
 use Rattle.search_state.proofs.Showing.{quiet_below}
 
 -- the same steps
-pub kept_more : (vars : ℕ) (steps : List Step) (a b : Arena) (t u : Trail) (r s : Option ℕ) (n m : ℕ) → IsKept vars steps a t r n → AreHeld (clauses_of steps) b u s
+pub kept_more : (vars : ℕ) (steps : List Step) (a b : Arena) (t u : Trail) (r s : Option ℕ) (n m : ℕ)
+    → IsKept vars steps a t r n → AreHeld (clauses_of steps) b u s
     → u.vars ≡ t.vars → length b.watchers ≡ length a.watchers → m ≡ n → IsKept vars steps b u s m
 kept_more vars steps a b t u r s n m k held trail_vars arena_vars analysis_vars =
     record {
@@ -31,7 +32,8 @@ kept_more vars steps a b t u r s n m k held trail_vars arena_vars analysis_vars 
     }
 
 -- one step more
-pub kept_push : (vars : ℕ) (steps more : List Step) (step : Step) (a b : Arena) (t u : Trail) (r s : Option ℕ) (n m : ℕ) → IsKept vars steps a t r n
+pub kept_push : (vars : ℕ) (steps more : List Step) (step : Step) (a b : Arena) (t u : Trail) (r s : Option ℕ)
+    (n m : ℕ) → IsKept vars steps a t r n
     → more ≡ steps ++ step ∷ [] → IsFit vars (clause_of step) → AreHeld (clauses_of steps ++ clause_of step ∷ []) b u s
     → u.vars ≡ t.vars → length b.watchers ≡ length a.watchers → m ≡ n → IsKept vars more b u s m
 kept_push vars steps more step a b t u r s n m k is fit held trail_vars arena_vars analysis_vars =
@@ -40,14 +42,23 @@ kept_push vars steps more step a b t u r s n m k is fit held trail_vars arena_va
       trail_vars = trail_vars ∙ k.trail_vars;
       arena_vars = arena_vars ∙ k.arena_vars;
       analysis_vars = analysis_vars ∙ k.analysis_vars;
-      fit = subst (All (λ st. IsFit vars (clause_of st))) (sym is) (All-push (λ st. IsFit vars (clause_of st)) steps step k.fit fit);
-      held = subst (λ (cs : List (List Lit)). AreHeld cs b u s) (sym (ap clauses_of is ∙ map-append clause_of steps (step ∷ []))) held;
+      fit = subst (All (λ st. IsFit vars (clause_of st))) (sym is) (All-push (λ st. IsFit vars (clause_of st)) steps
+          step k.fit fit);
+      held = subst (λ (cs : List (List Lit)). AreHeld cs b u s)
+          (sym (ap clauses_of is ∙ map-append clause_of steps (step ∷ []))) held;
     }
 
 -- what is true of a state at any moment
-pub state_of : (answers : List (List Datum)) (statements : List Statement) (steps : List Step) (a : Arena) (t : Trail) (refuted : Option ℕ) (n : ℕ)
+pub state_of : (answers : List (List Datum)) (statements : List Statement) (steps : List Step) (a : Arena)
+    (t : Trail) (refuted : Option ℕ) (n : ℕ)
     → IsKept (length statements) steps a t refuted n → AreWatchers a → AreEntries t
-    → IsState (record { frame = record { answers = answers; statements = statements }; steps = steps; trail = t; refuted = is_some refuted })
+    → IsState (record {
+      frame = record { answers = answers; statements = statements };
+      steps = steps;
+      trail =
+          t;
+      refuted = is_some refuted;
+    })
 state_of answers statements steps a t refuted n k watchers are =
     record {
       few = k.few;
@@ -62,7 +73,8 @@ state_of answers statements steps a t refuted n k watchers are =
     stuck (Some clause) is e = (k.held.stuck clause is).starts
 
 -- what follows from the arena's clauses follows from those of the steps
-pub derived_of : (s : State) (a : Arena) (t : Trail) (lits : List Lit) (hints : List ℕ) → AreReordered (clauses_of s.steps) a.clauses → t.vars ≡ vars_of s
+pub derived_of : (s : State) (a : Arena) (t : Trail) (lits : List Lit) (hints : List ℕ) → AreReordered
+    (clauses_of s.steps) a.clauses → t.vars ≡ vars_of s
     → IsDerived a t lits hints → IsDerivedFrom s lits hints
 derived_of s a t lits hints re vars d =
     record {
@@ -72,22 +84,31 @@ derived_of s a t lits hints re vars d =
     }
 
 -- and its literals are fit
-pub fit_of : (a : Arena) (t : Trail) (lits : List Lit) (hints : List ℕ) (vars : ℕ) → t.vars ≡ vars → IsDerived a t lits hints → IsFit vars lits
-fit_of a t lits hints vars same d = record { within = λ k x h. let below = d.within k x h in omega (arith, below, same); once = d.lits_once }
+pub fit_of : (a : Arena) (t : Trail) (lits : List Lit) (hints : List ℕ) (vars : ℕ) → t.vars ≡ vars
+    → IsDerived a t lits hints → IsFit vars lits
+fit_of a t lits hints vars same d = record {
+  within = λ k x h. let below = d.within k x h in omega
+      (arith, below, same);
+  once = d.lits_once;
+}
 
 -- the same steps by another name
-pub kept_steps : (vars : ℕ) (steps more : List Step) (a : Arena) (t : Trail) (r : Option ℕ) (n : ℕ) → more ≡ steps → IsKept vars steps a t r n → IsKept vars more a t r n
+pub kept_steps : (vars : ℕ) (steps more : List Step) (a : Arena) (t : Trail) (r : Option ℕ) (n : ℕ) → more ≡ steps
+    → IsKept vars steps a t r n → IsKept vars more a t r n
 kept_steps vars steps more a t r n same k = subst (λ (ss : List Step). IsKept vars ss a t r n) (sym same) k
 
 -- after unit propagation
-pub kept_propagated : (vars : ℕ) (steps : List Step) (old new : Arena) (was is : Trail) (refuted : Option ℕ) (n : ℕ) → refuted ≡ None → AreEntries was → IsRewatched old new
+pub kept_propagated : (vars : ℕ) (steps : List Step) (old new : Arena) (was is : Trail) (refuted : Option ℕ) (n : ℕ)
+    → refuted ≡ None → AreEntries was → IsRewatched old new
     → Implies new was is → KeepsWatch new is → IsKept vars steps old was refuted n → IsKept vars steps new is refuted n
 kept_propagated vars steps old new was is refuted n none are re implies rule k =
     kept_more vars steps old new was is refuted refuted n n k
     (held_as (clauses_of steps) new is is None refuted refl none
-    (held_propagated (clauses_of steps) old new was is are re implies rule (held_as (clauses_of steps) old was was refuted None refl (sym none) k.held)))
+    (held_propagated (clauses_of steps) old new was is are re implies rule
+    (held_as (clauses_of steps) old was was refuted None refl (sym none) k.held)))
     implies.vars re.lists refl
 
 -- after a clause was learned or derived, the places of steps are those of clauses
-pub as_many_clauses : (steps : List Step) (a : Arena) → AreReordered (clauses_of steps) a.clauses → length a.clauses ≡ length steps
+pub as_many_clauses : (steps : List Step) (a : Arena) → AreReordered (clauses_of steps) a.clauses
+    → length a.clauses ≡ length steps
 as_many_clauses steps a re = re.as_many ∙ length-map steps clause_of

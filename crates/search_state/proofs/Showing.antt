@@ -20,7 +20,8 @@ use Rattle.search_state.proofs.Grounds.{ground_below}
 
 -- ---- conflicts
 
-pub false_of : (s : State) (a : Arena) (place : ℕ) → AreReordered (clauses_of s.steps) a.clauses → IsFalsified a s.trail place → IsFalse s place
+pub false_of : (s : State) (a : Arena) (place : ℕ) → AreReordered (clauses_of s.steps) a.clauses
+    → IsFalsified a s.trail place → IsFalse s place
 false_of s a place re f =
     let there = clause_there a.clauses (clauses_of s.steps) place f.lits (sym re.as_many) f.is_clause in
     record {
@@ -29,7 +30,8 @@ false_of s a place re f =
       all_false = λ lit c. f.all_false lit ((re.same place there.0 f.lits there.1 f.is_clause).none_lost lit c);
     }
 
-pub falsified_of : (s : State) (a : Arena) (place : ℕ) → AreReordered (clauses_of s.steps) a.clauses → IsFalse s place → IsFalsified a s.trail place
+pub falsified_of : (s : State) (a : Arena) (place : ℕ) → AreReordered (clauses_of s.steps) a.clauses
+    → IsFalse s place → IsFalsified a s.trail place
 falsified_of s a place re f =
     let there = clause_there (clauses_of s.steps) a.clauses place f.lits re.as_many f.is_clause in
     record {
@@ -38,7 +40,8 @@ falsified_of s a place re f =
       all_false = λ lit c. f.all_false lit ((re.same place f.lits there.0 f.is_clause there.1).none_new lit c);
     }
 
-pub of_level : (s : State) (a : Arena) (place : ℕ) → AreReordered (clauses_of s.steps) a.clauses → IsNotBelow s place → IsOfLevel a s.trail place
+pub of_level : (s : State) (a : Arena) (place : ℕ) → AreReordered (clauses_of s.steps) a.clauses → IsNotBelow s place
+    → IsOfLevel a s.trail place
 of_level s a place re n =
     let there = clause_there (clauses_of s.steps) a.clauses place n.lits re.as_many n.is_clause in
     record {
@@ -54,20 +57,24 @@ pub falsified_by : (a : Arena) (t : Trail) (place : ℕ) → IsConflict a (lits_
 falsified_by a t place k = record { lits = k.watched.lits; is_clause = k.watched.is_clause; all_false = k.all_false }
 
 -- below the current level a clause was not false, where unit propagation was at rest on it
-pub not_below : (s : State) (place : ℕ) → AreEntries s.trail → All (IsAtRest (lits_below s.trail)) (clauses_of s.steps) → IsFalse s place → IsNotBelow s place
-not_below s place are rest f = go (All-contains (IsAtRest (lits_below s.trail)) (clauses_of s.steps) f.lits rest (contains_at (clauses_of s.steps) place f.lits f.is_clause))
+pub not_below : (s : State) (place : ℕ) → AreEntries s.trail → All (IsAtRest (lits_below s.trail))
+    (clauses_of s.steps) → IsFalse s place → IsNotBelow s place
+not_below s place are rest f = go (All-contains (IsAtRest (lits_below s.trail)) (clauses_of s.steps) f.lits rest
+    (contains_at (clauses_of s.steps) place f.lits f.is_clause))
   where
     go : IsAtRest (lits_below s.trail) f.lits → IsNotBelow s place
     go (inl h) =
         absurd (lits_consistent s.trail are h.lit
-        (from_front (entries_up_to s.trail (length s.trail.starts - 1)) (lits_of s.trail) h.lit h.is_true) (f.all_false h.lit h.is_in))
+        (from_front (entries_up_to s.trail (length s.trail.starts - 1)) (lits_of s.trail) h.lit h.is_true)
+        (f.all_false h.lit h.is_in))
     go (inr h) =
         record { lits = f.lits; is_clause = f.is_clause; lit = h.first; is_in = h.first_in; not_below = h.first_open.not_false }
 
 -- ---- at rest
 
 -- on the clause of each step, where on each watched clause
-pub quiet_of : (steps : List Step) (a : Arena) (t : Trail) (truths : List Lit) → AreReordered (clauses_of steps) a.clauses → AreSettled a t
+pub quiet_of : (steps : List Step) (a : Arena) (t : Trail) (truths : List Lit) → AreReordered (clauses_of steps)
+    a.clauses → AreSettled a t
     → ((x : Lit) → Contains (ground_lits t) x → Contains truths x) → AreAtRest a truths → All (IsAtRest truths) (clauses_of steps)
 quiet_of steps a t truths re settled grows rest k d h = go (clause_there (clauses_of steps) a.clauses k lits re.as_many is)
   where
@@ -85,7 +92,8 @@ quiet_of steps a t truths re settled grows rest k d h = go (clause_there (clause
         by (inr h) = inl (record { lit = h.lit; is_in = h.is_in; is_true = grows h.lit h.is_true })
 
 -- below the current level
-pub quiet_below : (steps : List Step) (a : Arena) (t : Trail) → AreWatchers a → AreEntries t → AreReordered (clauses_of steps) a.clauses → CanGoOn a t → 0 < length t.starts
+pub quiet_below : (steps : List Step) (a : Arena) (t : Trail) → AreWatchers a → AreEntries t → AreReordered
+    (clauses_of steps) a.clauses → CanGoOn a t → 0 < length t.starts
     → All (IsAtRest (lits_below t)) (clauses_of steps)
 quiet_below steps a t watchers are re goes_on deep =
     quiet_of steps a t (lits_below t) re goes_on.settled (λ x c. ground_below t x are c)
@@ -93,7 +101,8 @@ quiet_below steps a t watchers are re goes_on deep =
     (slice_get-get_or t.starts (length t.starts - 1) (length t.entries) (omega (arith, deep))))
 
 -- and where all entries were gone through
-pub quiet_at_end : (steps : List Step) (a : Arena) (t : Trail) → AreReordered (clauses_of steps) a.clauses → CanGoOn a t → AreAtRest a (lits_of t)
+pub quiet_at_end : (steps : List Step) (a : Arena) (t : Trail) → AreReordered (clauses_of steps) a.clauses
+    → CanGoOn a t → AreAtRest a (lits_of t)
     → All (IsAtRest (lits_of t)) (clauses_of steps)
 quiet_at_end steps a t re goes_on rest =
     quiet_of steps a t (lits_of t) re goes_on.settled (λ x c. from_front (entries_up_to t 0) (lits_of t) x c) rest

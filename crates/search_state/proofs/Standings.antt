@@ -28,7 +28,8 @@ there xs k h = by xs k h
     by [] i h = absurd (omega (arith, h))
 
 -- an open literal comes first, and of the others none is true or open
-pub begins_unit : (truths xs ys : List Lit) (place : ℕ) → HaveChanged xs ys 0 place → place < length xs → NoneTrue truths xs → OpenAt truths place xs
+pub begins_unit : (truths xs ys : List Lit) (place : ℕ) → HaveChanged xs ys 0 place → place < length xs
+    → NoneTrue truths xs → OpenAt truths place xs
     → KnownFrom truths 1 ys → BeginsUnit truths ys
 begins_unit truths xs ys place changed within none is_open known =
     let at = there xs place within in
@@ -36,13 +37,19 @@ begins_unit truths xs ys place changed within none is_open known =
     record {
       first = at.0;
       is_first = head;
-      unit = record { is_in = contains_at ys 0 at.0 head; is_open = is_open at.0 at.1; others = λ other c d. others at.0 head other d (stands_at ys other c) };
+      unit = record {
+        is_in = contains_at ys 0 at.0 head;
+        is_open = is_open at.0 at.1;
+        others = λ other c d. others
+            at.0 head other d (stands_at ys other c);
+      };
     }
   where
     not_true : (x : Lit) → Contains ys x → Contains truths x → ⊥
     not_true x c holds = let at = stands_at xs x ((changed_same xs ys 0 place changed).none_new x c) in none at.0 x at.1 holds
 
-    others : (first : Lit) → slice_get ys 0 ≡ Some first → (other : Lit) → other ≢ first → (k : ℕ) × (slice_get ys k ≡ Some other) → Contains truths (negation other)
+    others : (first : Lit) → slice_get ys 0 ≡ Some first → (other : Lit) → other ≢ first →
+        (k : ℕ) × (slice_get ys k ≡ Some other) → Contains truths (negation other)
     others first head other d (zero, is) = absurd (d (same_Some other first (sym is ∙ head)))
     others first head other d (suc k, is) = go (known (suc k) other (omega arith) is).known
       where
@@ -51,7 +58,8 @@ begins_unit truths xs ys place changed within none is_open known =
         go (inr n) = n
 
 -- two open literals come first
-pub begins_open : (truths xs ys zs : List Lit) (place other : ℕ) → HaveChanged xs ys 0 place → HaveChanged ys zs 1 other → place < length xs → other < length ys
+pub begins_open : (truths xs ys zs : List Lit) (place other : ℕ) → HaveChanged xs ys 0 place → HaveChanged ys zs 1
+    other → place < length xs → other < length ys
     → 1 ≤ other → OpenAt truths place xs → OpenAt truths other ys → BeginsOpen truths zs
 begins_open truths xs ys zs place other one two within within' later is_open is_open' =
     let at = there xs place within in
@@ -70,7 +78,8 @@ begins_open truths xs ys zs place other one two within within' later is_open is_
 abbrev pub KnownTo : List Lit → ℕ → ℕ → List Lit → Type 0
 KnownTo truths start place xs = (k : ℕ) (x : Lit) → start ≤ k → k < place → slice_get xs k ≡ Some x → IsKnown truths x
 
-pub known_more : (truths : List Lit) (start place : ℕ) (xs : List Lit) (y : Lit) → KnownTo truths start place xs → slice_get xs place ≡ Some y → IsKnown truths y
+pub known_more : (truths : List Lit) (start place : ℕ) (xs : List Lit) (y : Lit) → KnownTo truths start place xs
+    → slice_get xs place ≡ Some y → IsKnown truths y
     → KnownTo truths start (place + 1) xs
 known_more truths start place xs y seen is known k x h below there = go (cases_eq k place)
   where
@@ -78,5 +87,6 @@ known_more truths start place xs y seen is known k x h below there = go (cases_e
     go (inl e) = subst (IsKnown truths) (same_Some y x (sym is ∙ ap (slice_get xs) (sym e) ∙ there)) known
     go (inr d) = seen k x h (omega (arith, d, below)) there
 
-pub known_all : (truths : List Lit) (start place : ℕ) (xs : List Lit) → KnownTo truths start place xs → length xs ≤ place → KnownFrom truths start xs
+pub known_all : (truths : List Lit) (start place : ℕ) (xs : List Lit) → KnownTo truths start place xs
+    → length xs ≤ place → KnownFrom truths start xs
 known_all truths start place xs seen h k x later is = seen k x later (omega (arith, slice_get_within xs k x is, h)) is

@@ -26,23 +26,29 @@ free_of_open t lit is_open = go (value_in (lits_of t) (var_of lit)) refl
     go (Some b) is = absurd (some (is_negative lit) b refl is)
 
 -- the first literal, as it is read
-pub first_read : (truths lits : List Lit) (begins : BeginsUnit truths lits) (x d : Lit) → x ≡ slice_index_or lits 0 d → begins.first ≡ x
+pub first_read : (truths lits : List Lit) (begins : BeginsUnit truths lits) (x d : Lit) → x ≡ slice_index_or lits 0 d
+    → begins.first ≡ x
 first_read truths lits begins x d is = sym (get_or_from_slice_get lits 0 begins.first d begins.is_first) ∙ sym is
 
-pub reason_read : (old new : Arena) (truths lits : List Lit) (begins : BeginsUnit truths lits) (x : Lit) (number : ℕ) → begins.first ≡ x → HasAdded old new lits
+pub reason_read : (old new : Arena) (truths lits : List Lit) (begins : BeginsUnit truths lits) (x : Lit) (number : ℕ)
+    → begins.first ≡ x → HasAdded old new lits
     → number ≡ length old.clauses → IfSome (slice_get new.clauses number) (λ ls. IsReason ls truths x)
 reason_read old new truths lits begins x number same added is =
     subst (λ (o : Option (List Lit)). IfSome o (λ ls. IsReason ls truths x)) (sym there)
     (subst (IsReason lits truths) same (record { is_in = begins.unit.is_in; others = begins.unit.others }))
   where
     there : slice_get new.clauses number ≡ Some lits
-    there = ap (slice_get new.clauses) is ∙ ap (λ (cs : List (List Lit)). slice_get cs (length old.clauses)) added.clauses ∙ get_end old.clauses lits
+    there = ap (slice_get new.clauses) is ∙ ap (λ (cs : List (List Lit)). slice_get cs (length old.clauses))
+        added.clauses ∙ get_end old.clauses lits
 
 -- literals of the variables have their places in the arena
-pub within_by_vars : (a : Arena) (vars : ℕ) (lits : List Lit) → length a.watchers ≡ 2 * vars → All (λ lit. var_of lit < vars) lits → AreWithin a lits
-within_by_vars a vars lits fits all k d h = let below = place_within (slice_index_or lits k d) vars (all k d h) in omega (arith, below, fits)
+pub within_by_vars : (a : Arena) (vars : ℕ) (lits : List Lit) → length a.watchers ≡ 2 * vars
+    → All (λ lit. var_of lit < vars) lits → AreWithin a lits
+within_by_vars a vars lits fits all k d h = let below = place_within (slice_index_or lits k d) vars
+    (all k d h) in omega (arith, below, fits)
 
 -- so have those of the same literals
 pub all_same : (P : Lit → Type 0) (xs ys : List Lit) → AreSameLits xs ys → All P xs → All P ys
 all_same P xs ys same all k d h =
-    All-contains P xs (slice_index_or ys k d) all (same.none_new (slice_index_or ys k d) (contains_at ys k (slice_index_or ys k d) (slice_get-get_or ys k d h)))
+    All-contains P xs (slice_index_or ys k d) all
+    (same.none_new (slice_index_or ys k d) (contains_at ys k (slice_index_or ys k d) (slice_get-get_or ys k d h)))

@@ -17,7 +17,8 @@ ground_lits t = take (entries_up_to t 0) (lits_of t)
 
 -- each clause is watched, or has a literal that is true where nothing is assumed
 abbrev pub AreSettled : Arena → Trail → Type 0
-AreSettled a t = (clause : ℕ) (lits : List Lit) → slice_get a.clauses clause ≡ Some lits → IsWatched a clause ⊎ HasTrue (ground_lits t) lits
+AreSettled a t = (clause : ℕ) (lits : List Lit) → slice_get a.clauses clause ≡ Some lits → IsWatched a clause ⊎
+    HasTrue (ground_lits t) lits
 
 -- unit propagation over the watched clauses finds all that is implied
 pub record CanGoOn (a : Arena) (t : Trail) : Type 0 where
@@ -36,7 +37,8 @@ pub record AreHeld (clauses : List (List Lit)) (a : Arena) (t : Trail) (refuted 
   pub goes_on : refuted ≡ None → CanGoOn a t
   pub stuck : (clause : ℕ) → refuted ≡ Some clause → IsRefuted a t clause
 
--- the parts of a state fit each other: so many variables, the steps of the log, the arena and the trail, and the variables of the analysis
+-- the parts of a state fit each other: so many variables, the steps of the log, the arena and the trail, and the
+-- variables of the analysis
 pub record IsKept (vars : ℕ) (steps : List Step) (a : Arena) (t : Trail) (refuted : Option ℕ) (analysed : ℕ) : Type 0 where
   pub few : vars ≤ 2147483648
   pub trail_vars : t.vars ≡ vars

@@ -29,7 +29,8 @@ pub(crate) fn arrange(lits: &mut Vec<Lit>, trail: &Trail) -> Standing
     requires { All (λ lit. var_of lit < trail.now.vars) lits.old.items }
     ensures same { AreSameLits lits.old.items lits.new.items }
     ensures once { OnlyOnce lits.old.items → OnlyOnce lits.new.items }
-    ensures rests { result ≡ Rests → BeginsTrue (lits_of trail.now) lits.new.items ⊎ BeginsOpen (lits_of trail.now) lits.new.items }
+    ensures rests { result ≡ Rests → BeginsTrue (lits_of trail.now) lits.new.items ⊎ BeginsOpen (lits_of trail.now)
+        lits.new.items }
     ensures implies { result ≡ Implies → BeginsUnit (lits_of trail.now) lits.new.items }
     ensures fails { result ≡ Fails → IsAllFalse (lits_of trail.now) lits.new.items }
 {

@@ -50,7 +50,8 @@ impl Search {
 
     /// Makes room for a clause of so many literals. Nothing else changes.
     pub(crate) fn reserve(&mut self, lits: usize) -> Result<(), NoMemory>
-        ensures held { (clauses : List (List Lit)) → AreHeld clauses self.old.arena self.old.trail self.old.refuted → AreHeld clauses self.new.arena self.new.trail self.new.refuted }
+        ensures held { (clauses : List (List Lit)) → AreHeld clauses self.old.arena self.old.trail self.old.refuted
+            → AreHeld clauses self.new.arena self.new.trail self.new.refuted }
         ensures count { length self.new.arena.clauses ≡ length self.old.arena.clauses }
         ensures watchers { length self.new.arena.watchers ≡ length self.old.arena.watchers }
         ensures trail { self.new.trail ≡ self.old.trail }
@@ -63,7 +64,8 @@ impl Search {
 
     /// Makes room for a clause and copies its literals. Nothing else changes.
     pub(crate) fn prepare(&mut self, lits: &[Lit]) -> Result<(), NoMemory>
-        ensures held { (clauses : List (List Lit)) → AreHeld clauses self.old.arena self.old.trail self.old.refuted → AreHeld clauses self.new.arena self.new.trail self.new.refuted }
+        ensures held { (clauses : List (List Lit)) → AreHeld clauses self.old.arena self.old.trail self.old.refuted
+            → AreHeld clauses self.new.arena self.new.trail self.new.refuted }
         ensures watchers { length self.new.arena.watchers ≡ length self.old.arena.watchers }
         ensures trail { self.new.trail ≡ self.old.trail }
         ensures refuted { self.new.refuted ≡ self.old.refuted }
@@ -116,7 +118,8 @@ impl Search {
         requires open { self.old.refuted ≡ None }
         ensures held { (clauses : List (List Lit)) → AreHeld clauses self.old.arena self.old.trail None
             → AreHeld (clauses ++ lits.now ∷ []) self.new.arena self.new.trail self.new.refuted }
-        ensures trail { (first : Lit) → slice_get lits.now 0 ≡ Some first → self.new.trail ≡ implied self.old.trail first (length self.old.arena.clauses) }
+        ensures trail { (first : Lit) → slice_get lits.now 0 ≡ Some first → self.new.trail ≡ implied self.old.trail
+            first (length self.old.arena.clauses) }
         ensures refuted { self.new.refuted ≡ self.old.refuted }
         ensures watchers { length self.new.arena.watchers ≡ length self.old.arena.watchers }
     {

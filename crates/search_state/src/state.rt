@@ -40,7 +40,8 @@ impl Model for State {
       refuted = is_some s.search.refuted;
     } };
 
-    ghost invariant = { λ s. IsKept (length s.log.statements) s.log.steps s.search.arena s.search.trail s.search.refuted s.analysis.vars };
+    ghost invariant = { λ s. IsKept (length s.log.statements) s.log.steps s.search.arena s.search.trail
+        s.search.refuted s.analysis.vars };
 }
 
 impl State {

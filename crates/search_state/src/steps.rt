@@ -50,7 +50,8 @@ pub(crate) fn append(
     ensures vars { search.new.trail.vars ≡ search.old.trail.vars }
     ensures watchers { length search.new.arena.watchers ≡ length search.old.arena.watchers }
     ensures err_steps { OnErr result (steps.new ≡ steps.old) }
-    ensures err_held { OnErr result ((clauses : List (List Lit)) → AreHeld clauses search.old.arena search.old.trail search.old.refuted
+    ensures err_held { OnErr result ((clauses : List (List Lit)) → AreHeld clauses search.old.arena search.old.trail
+        search.old.refuted
         → AreHeld clauses search.new.arena search.new.trail search.new.refuted) }
     ensures err_trail { OnErr result (search.new.trail ≡ search.old.trail) }
     ensures err_refuted { OnErr result (search.new.refuted ≡ search.old.refuted) }
@@ -84,7 +85,8 @@ pub(crate) fn conclude(
     ensures watchers { length search.new.arena.watchers ≡ length search.old.arena.watchers }
     ensures place { IfOk result (λ place. place ≡ length steps.old) }
     ensures err_steps { OnErr result (steps.new ≡ steps.old) }
-    ensures err_held { OnErr result ((clauses : List (List Lit)) → AreHeld clauses search.old.arena search.old.trail search.old.refuted
+    ensures err_held { OnErr result ((clauses : List (List Lit)) → AreHeld clauses search.old.arena search.old.trail
+        search.old.refuted
         → AreHeld clauses search.new.arena search.new.trail search.new.refuted) }
 {
     let place = search.arena.count();

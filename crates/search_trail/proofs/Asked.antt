@@ -25,7 +25,8 @@ module _ (values : List (Option Bool)) (lits : List Lit) (places reasons starts 
   reason_free var None none at some is_none = sym (reason_none reasons lits var (value_known var None at))
 
   -- and one that has a value that of its number
-  pub reason_held : (var : ℕ) (r : Option Bool) (none : Bool) (n : ℕ) → slice_get values var ≡ Some r → is_some r ≡ not none → none ≡ false
+  pub reason_held : (var : ℕ) (r : Option Bool) (none : Bool) (n : ℕ) → slice_get values var ≡ Some r
+      → is_some r ≡ not none → none ≡ false
       → n ≡ get_or reasons var n → reason_at n ≡ reason_in (entries_of reasons lits) var
   reason_held var None none n at some is_some read = absurd (cc)
   reason_held var (Some b) none n at some is_some read =
@@ -39,24 +40,29 @@ module _ (values : List (Option Bool)) (lits : List Lit) (places reasons starts 
       → StandsAt (record { vars = length values; entries = entries_of reasons lits; starts = starts; gone = gone }) var n
   place_known var n within read given =
       let there : n ≡ slice_index_or places var 0 = get_or_read places var n (omega (arith, within, is.places_length)) read 0 in
-      let found = place_of lits var (λ none. given (ap (λ (ls : List Lit). value_in ls var) (lits_of_entries reasons lits) ∙ none)) in
-      let same : n ≡ found.0 = there ∙ ap (λ v. slice_index_or places v 0) (sym found.3) ∙ is.places_are found.0 found.1 found.2 in
+      let found = place_of lits var (λ none. given (ap (λ (ls : List Lit). value_in ls var)
+      (lits_of_entries reasons lits) ∙ none)) in
+      let same : n ≡ found.0 = there ∙ ap (λ v. slice_index_or places v 0) (sym found.3) ∙ is.places_are found.0
+      found.1 found.2 in
       record {
         entry = entry_of reasons found.1;
-        is_entry = subst (λ m. slice_get (entries_of reasons lits) m ≡ Some (entry_of reasons found.1)) (sym same) (entry_at reasons lits found.0 found.1 found.2);
+        is_entry = subst (λ m. slice_get (entries_of reasons lits) m ≡ Some (entry_of reasons found.1)) (sym same)
+            (entry_at reasons lits found.0 found.1 found.2);
         is_of = found.3;
       }
 
   -- and it is the one where the variable stands
   pub place_read : (var place n : ℕ) → var < length values → n ≡ get_or places var n
-      → StandsAt (record { vars = length values; entries = entries_of reasons lits; starts = starts; gone = gone }) var place → n ≡ place
+      → StandsAt (record { vars = length values; entries = entries_of reasons lits; starts = starts; gone = gone })
+      var place → n ≡ place
   place_read var place n within read stands =
       let there : n ≡ slice_index_or places var 0 = get_or_read places var n (omega (arith, within, is.places_length)) read 0 in
       there ∙ ap (λ v. slice_index_or places v 0) (sym stands.is_of)
       ∙ is.places_are place stands.entry.lit (lit_at reasons lits place stands.entry stands.is_entry)
 
   -- one more entry is gone through
-  pub fits_passed : gone < length (entries_of reasons lits) → IsTrail values lits places reasons starts (gone + 1) lits_room starts_room
+  pub fits_passed : gone < length (entries_of reasons lits) → IsTrail values lits places reasons starts (gone + 1)
+      lits_room starts_room
   fits_passed less =
       record {
         values_are = is.values_are;
@@ -75,7 +81,8 @@ module _ (values : List (Option Bool)) (lits : List Lit) (places reasons starts 
       }
 
 -- a look at a place of a list gives the item there
-pub looked_up : (xs : List Lit) (i : ℕ) (r : Option (Bor Lit)) → is_some r ≡ ltb i (length xs) → IfSome r (λ (x : Bor Lit). x.now ≡ get_or xs i x.now)
+pub looked_up : (xs : List Lit) (i : ℕ) (r : Option (Bor Lit)) → is_some r ≡ ltb i (length xs)
+    → IfSome r (λ (x : Bor Lit). x.now ≡ get_or xs i x.now)
     → option_copied r ≡ slice_get xs i
 looked_up xs i (Some x) within item =
     let h : i < length xs = leb-true (suc i) (length xs) (sym within) in

@@ -48,41 +48,53 @@ module _ (values : List (Option Bool)) (lits : List Lit) (places reasons starts 
     differs : (place : ℕ) (l : Lit) → slice_get lits place ≡ Some l → var_of l ≡ var_of lit → ⊥
     differs place l there e = has_value lits place l there (subst (λ v. value_in lits v ≡ None) (sym e) fresh)
 
-    places_more : (place : ℕ) (l : Lit) → slice_get (lits ++ lit ∷ []) place ≡ Some l → slice_index_or (slice_set places (var_of lit) (length lits)) (var_of l) 0 ≡ place
+    places_more : (place : ℕ) (l : Lit) → slice_get (lits ++ lit ∷ []) place ≡ Some l → slice_index_or
+        (slice_set places (var_of lit) (length lits)) (var_of l) 0 ≡ place
     places_more place l at = go (get_push lits lit place l at)
       where
-        go : (slice_get lits place ≡ Some l) ⊎ ((place ≡ length lits) × (lit ≡ l)) → slice_index_or (slice_set places (var_of lit) (length lits)) (var_of l) 0 ≡ place
-        go (inl there) = get_or-set_other places (var_of lit) (var_of l) (length lits) 0 (differs place l there) ∙ is.places_are place l there
+        go : (slice_get lits place ≡ Some l) ⊎ ((place ≡ length lits) × (lit ≡ l)) → slice_index_or
+            (slice_set places (var_of lit) (length lits)) (var_of l) 0 ≡ place
+        go (inl there) = get_or-set_other places (var_of lit) (var_of l) (length lits) 0 (differs place l there)
+            ∙ is.places_are place l there
         go (inr here) =
             ap (λ (m : Lit). slice_index_or (slice_set places (var_of lit) (length lits)) (var_of m) 0) (sym here.1)
             ∙ get_or-set_same places (var_of lit) (length lits) 0 (omega (arith, inside, is.places_length)) ∙ sym here.0
 
     -- an entry with no reason opens a level, if the new one does
-    assumed_more : (starts' : List ℕ) (reason : ℕ) → ((i start : ℕ) → slice_get starts i ≡ Some start → slice_get starts' i ≡ Some start)
+    assumed_more : (starts' : List ℕ) (reason : ℕ) → ((i start : ℕ) → slice_get starts i ≡ Some start
+        → slice_get starts' i ≡ Some start)
         → (reason ≡ 4294967295 → (i : ℕ) × (slice_get starts' i ≡ Some (length lits)))
-        → (place : ℕ) (l : Lit) → slice_get (lits ++ lit ∷ []) place ≡ Some l → slice_index_or (slice_set reasons (var_of lit) reason) (var_of l) 4294967295 ≡ 4294967295
+        → (place : ℕ) (l : Lit) → slice_get (lits ++ lit ∷ []) place ≡ Some l → slice_index_or
+        (slice_set reasons (var_of lit) reason) (var_of l) 4294967295 ≡ 4294967295
         → (i : ℕ) × (slice_get starts' i ≡ Some place)
     assumed_more starts' reason keeps opens place l at none = go (get_push lits lit place l at)
       where
         go : (slice_get lits place ≡ Some l) ⊎ ((place ≡ length lits) × (lit ≡ l)) → (i : ℕ) × (slice_get starts' i ≡ Some place)
         go (inl there) =
-            let was = is.assumed place l there (sym (get_or-set_other reasons (var_of lit) (var_of l) reason 4294967295 (differs place l there)) ∙ none) in
+            let was = is.assumed place l there
+            (sym (get_or-set_other reasons (var_of lit) (var_of l) reason 4294967295 (differs place l there)) ∙ none) in
             (was.0, keeps was.0 place was.1)
         go (inr here) =
             let set : slice_index_or (slice_set reasons (var_of lit) reason) (var_of lit) 4294967295 ≡ reason =
             get_or-set_same reasons (var_of lit) reason 4294967295 (omega (arith, inside, is.reasons_length)) in
-            let now = opens (sym set ∙ ap (λ (m : Lit). slice_index_or (slice_set reasons (var_of lit) reason) (var_of m) 4294967295) here.1 ∙ none) in
+            let now = opens (sym set ∙ ap (λ (m : Lit). slice_index_or (slice_set reasons (var_of lit) reason)
+            (var_of m) 4294967295) here.1 ∙ none) in
             (now.0, now.1 ∙ ap (λ (n : ℕ). Some n) (sym here.0))
 
     -- one more literal, where what begins is begun before or with it
-    fits_more : (starts' : List ℕ) (reason lits_room' starts_room' : ℕ) → ((i start : ℕ) → slice_get starts i ≡ Some start → slice_get starts' i ≡ Some start)
-        → (reason ≡ 4294967295 → (i : ℕ) × (slice_get starts' i ≡ Some (length lits))) → Ascend starts' → AreBelow starts' (length lits + 1) → lits_room ≤ lits_room' → starts_room ≤ starts_room'
-        → IsTrail (slice_set values (var_of lit) (Some (not (is_negative lit)))) (lits ++ lit ∷ []) (slice_set places (var_of lit) (length lits))
+    fits_more : (starts' : List ℕ) (reason lits_room' starts_room' : ℕ) →
+        ((i start : ℕ) → slice_get starts i ≡ Some start → slice_get starts' i ≡ Some start)
+        → (reason ≡ 4294967295 → (i : ℕ) × (slice_get starts' i ≡ Some (length lits))) → Ascend starts'
+        → AreBelow starts' (length lits + 1) → lits_room ≤ lits_room' → starts_room ≤ starts_room'
+        → IsTrail (slice_set values (var_of lit) (Some (not (is_negative lit)))) (lits ++ lit ∷ [])
+        (slice_set places (var_of lit) (length lits))
         (slice_set reasons (var_of lit) reason) starts' gone lits_room' starts_room'
     fits_more starts' reason lits_room' starts_room' keeps opens ascend below lits_grow starts_grow =
-        let long : length (slice_set values (var_of lit) (Some (not (is_negative lit)))) ≡ length values = length-set values (var_of lit) (Some (not (is_negative lit))) in
+        let long : length (slice_set values (var_of lit) (Some (not (is_negative lit)))) ≡ length values =
+        length-set values (var_of lit) (Some (not (is_negative lit))) in
         let more : length (lits ++ lit ∷ []) ≡ length lits + 1 = length_more lits lit in
-        let all : All (λ l. var_of l < length values) (lits ++ lit ∷ []) = All-push (λ l. var_of l < length values) lits lit is.within inside in
+        let all : All (λ l. var_of l < length values) (lits ++ lit ∷ []) = All-push (λ l. var_of l < length values)
+        lits lit is.within inside in
         record {
           values_are = ap (λ (vs : List (Option Bool)). slice_set vs (var_of lit) (Some (not (is_negative lit)))) is.values_are
               ∙ values_push lits lit (length values) fresh inside ∙ ap (values_by (lits ++ lit ∷ [])) (sym long);
@@ -101,14 +113,16 @@ module _ (values : List (Option Bool)) (lits : List Lit) (places reasons starts 
         }
 
     pub fits_implied : (reason lits_room' : ℕ) → reason < 4294967295 → lits_room ≤ lits_room'
-        → IsTrail (slice_set values (var_of lit) (Some (not (is_negative lit)))) (lits ++ lit ∷ []) (slice_set places (var_of lit) (length lits))
+        → IsTrail (slice_set values (var_of lit) (Some (not (is_negative lit)))) (lits ++ lit ∷ [])
+        (slice_set places (var_of lit) (length lits))
         (slice_set reasons (var_of lit) reason) starts gone lits_room' starts_room
     fits_implied reason lits_room' few grow =
         fits_more starts reason lits_room' starts_room (λ i start at. at) (λ e. absurd (omega (arith, e, few))) is.ascend
         (λ i s at. let h = is.begun i s at in omega (arith, h)) grow (omega arith)
 
     pub fits_assumed : (reason lits_room' starts_room' : ℕ) → lits_room ≤ lits_room' → starts_room ≤ starts_room'
-        → IsTrail (slice_set values (var_of lit) (Some (not (is_negative lit)))) (lits ++ lit ∷ []) (slice_set places (var_of lit) (length lits))
+        → IsTrail (slice_set values (var_of lit) (Some (not (is_negative lit)))) (lits ++ lit ∷ [])
+        (slice_set places (var_of lit) (length lits))
         (slice_set reasons (var_of lit) reason) (starts ++ length lits ∷ []) gone lits_room' starts_room'
     fits_assumed reason lits_room' starts_room' lits_grow starts_grow =
         fits_more (starts ++ length lits ∷ []) reason lits_room' starts_room' (get_kept starts (length lits))
@@ -116,16 +130,19 @@ module _ (values : List (Option Bool)) (lits : List Lit) (places reasons starts 
         (below_push starts (length lits) is.begun) lits_grow starts_grow
 
   -- without the levels above one
-  pub fits_undone : (level cut : ℕ) (values' : List (Option Bool)) (lits_room' starts_room' : ℕ) → slice_get starts level ≡ Some cut → values' ≡ freed values (drop cut lits)
+  pub fits_undone : (level cut : ℕ) (values' : List (Option Bool)) (lits_room' starts_room' : ℕ)
+      → slice_get starts level ≡ Some cut → values' ≡ freed values (drop cut lits)
       → lits_room ≤ lits_room' → starts_room ≤ starts_room'
       → IsTrail values' (take cut lits) places reasons (take level starts) (min gone cut) lits_room' starts_room'
   fits_undone level cut values' lits_room' starts_room' at freeing lits_grow starts_grow =
       let halves : take cut lits ++ drop cut lits ≡ lits = take-append-drop cut lits in
       let once : Once (take cut lits ++ drop cut lits) = subst Once (sym halves) is.once in
-      let split : values ≡ values_by (take cut lits ++ drop cut lits) (length values) = is.values_are ∙ ap (λ ls. values_by ls (length values)) (sym halves) in
+      let split : values ≡ values_by (take cut lits ++ drop cut lits) (length values) = is.values_are
+      ∙ ap (λ ls. values_by ls (length values)) (sym halves) in
       let left : values' ≡ values_by (take cut lits) (length values) =
       freeing ∙ ap (λ vs. freed vs (drop cut lits)) split ∙ values_freed (take cut lits) (drop cut lits) (length values) once in
-      let long : length values' ≡ length values = ap length left ∙ length-map-range_with_len (value_in (take cut lits)) 0 (length values) in
+      let long : length values' ≡ length values = ap length left ∙ length-map-range_with_len
+      (value_in (take cut lits)) 0 (length values) in
       let short : length (take cut lits) ≡ min cut (length lits) = length-take cut lits in
       let begins : cut < length lits = is.begun level cut at in
       record {
@@ -134,17 +151,22 @@ module _ (values : List (Option Bool)) (lits : List Lit) (places reasons starts 
         places_length = is.places_length ∙ sym long;
         reasons_length = is.reasons_length ∙ sym long;
         places_are = λ place l there. is.places_are place l (get_take cut place lits l there).1;
-        within = subst (λ n. All (λ l. var_of l < n) (take cut lits)) (sym long) (All-take (λ l. var_of l < length values) cut lits is.within);
+        within = subst (λ n. All (λ l. var_of l < n) (take cut lits)) (sym long)
+            (All-take (λ l. var_of l < length values) cut lits is.within);
         once = once_left (take cut lits) (drop cut lits) once;
-        ascend = λ i j low high h a b. is.ascend i j low high h (get_take level i starts low a).1 (get_take level j starts high b).1;
+        ascend = λ i j low high h a b. is.ascend i j low high h (get_take level i starts low a).1
+            (get_take level j starts high b).1;
         begun = λ i start there.
             let both = get_take level i starts start there in
             let less = is.ascend i level start cut both.0 both.1 at in
             omega (arith, short, less, begins);
         assumed = λ place l there none.
             let both = get_take cut place lits l there in
-            let start = is.assumed place l both.1 none in
-            (start.0, get_taken level start.0 starts place (opened_below starts level cut start.0 place is.ascend at start.1 both.0) start.1);
+            let start = is.assumed place l both.1 none in (
+              start.0,
+              get_taken level start.0 starts place (opened_below starts level cut start.0 place is.ascend at
+                  start.1 both.0) start.1,
+            );
         gone_within = omega (arith, short, begins);
         lits_fit = omega (arith, long, is.lits_fit, lits_grow);
         starts_fit = omega (arith, long, is.starts_fit, starts_grow);

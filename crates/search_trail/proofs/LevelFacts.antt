@@ -18,7 +18,8 @@ Ascend starts = (i j low high : ℕ) → i < j → slice_get starts i ≡ Some l
 abbrev pub AreBelow : List ℕ → ℕ → Type 0
 AreBelow starts bound = (i start : ℕ) → slice_get starts i ≡ Some start → start < bound
 
-pub level_cons : (start : ℕ) (starts : List ℕ) (place : ℕ) → level_of (start ∷ starts) place ≡ cond (nat_le start place) 1 0 + level_of starts place
+pub level_cons : (start : ℕ) (starts : List ℕ) (place : ℕ) → level_of (start ∷ starts) place ≡ cond
+    (nat_le start place) 1 0 + level_of starts place
 level_cons start starts place = sum_by-cons (λ s. cond (nat_le s place) 1 0) start starts
 
 pub level_append : (xs ys : List ℕ) (place : ℕ) → level_of (xs ++ ys) place ≡ level_of xs place + level_of ys place
@@ -34,7 +35,8 @@ level_all (s ∷ ss) place below =
     omega (arith, level_cons s ss place, more, one)
 
 -- and none does
-pub level_none : (starts : List ℕ) (place : ℕ) → ((i start : ℕ) → slice_get starts i ≡ Some start → place < start) → level_of starts place ≡ 0
+pub level_none : (starts : List ℕ) (place : ℕ) → ((i start : ℕ) → slice_get starts i ≡ Some start → place < start)
+    → level_of starts place ≡ 0
 level_none [] place above = refl
 level_none (s ∷ ss) place above =
     let here : nat_le s place ≡ false = lt-leb s place (above 0 s refl) in
@@ -43,7 +45,8 @@ level_none (s ∷ ss) place above =
     omega (arith, level_cons s ss place, more, one)
 
 -- the items of a list cut in two
-pub get_take : {A : Type 0} (n i : ℕ) (xs : List A) (x : A) → slice_get (take n xs) i ≡ Some x → (i < n) × (slice_get xs i ≡ Some x)
+pub get_take : {A : Type 0} (n i : ℕ) (xs : List A) (x : A) → slice_get (take n xs) i ≡ Some x →
+    (i < n) × (slice_get xs i ≡ Some x)
 get_take zero i xs x is = absurd (cc)
 get_take (suc n) i [] x is = absurd (cc)
 get_take (suc n) zero (y ∷ ys) x is = (omega arith, is)
@@ -70,7 +73,8 @@ pub get_last : {A : Type 0} (xs : List A) (y : A) → slice_get (xs ++ y ∷ [])
 get_last [] y = refl
 get_last (z ∷ zs) y = get_last zs y
 
-pub get_push : {A : Type 0} (xs : List A) (y : A) (i : ℕ) (x : A) → slice_get (xs ++ y ∷ []) i ≡ Some x → (slice_get xs i ≡ Some x) ⊎ ((i ≡ length xs) × (y ≡ x))
+pub get_push : {A : Type 0} (xs : List A) (y : A) (i : ℕ) (x : A) → slice_get (xs ++ y ∷ []) i ≡ Some x →
+    (slice_get xs i ≡ Some x) ⊎ ((i ≡ length xs) × (y ≡ x))
 get_push [] y zero x is = inr (refl, same is)
   where
     same : Some y ≡ Some x → y ≡ x
@@ -79,7 +83,8 @@ get_push [] y (suc i) x is = absurd (cc)
 get_push (z ∷ zs) y zero x is = inl is
 get_push (z ∷ zs) y (suc i) x is = go (get_push zs y i x is)
   where
-    go : (slice_get zs i ≡ Some x) ⊎ ((i ≡ length zs) × (y ≡ x)) → (slice_get zs i ≡ Some x) ⊎ ((suc i ≡ suc (length zs)) × (y ≡ x))
+    go : (slice_get zs i ≡ Some x) ⊎ ((i ≡ length zs) × (y ≡ x)) → (slice_get zs i ≡ Some x) ⊎
+        ((suc i ≡ suc (length zs)) × (y ≡ x))
     go (inl a) = inl a
     go (inr b) = inr (ap suc b.0, b.1)
 
@@ -99,12 +104,16 @@ rising starts ascend i j d h within = go (cases_eq i j)
         omega (arith, less)
 
 -- up to where the starts are at most the place, there are as many as levels begin
-pub level_from_point : (starts : List ℕ) (place n : ℕ) → n ≤ length starts → IsPartitionPoint (λ y. nat_le y place ≡ true) (λ y. nat_le y place ≡ false) starts n
+pub level_from_point : (starts : List ℕ) (place n : ℕ) → n ≤ length starts → IsPartitionPoint
+    (λ y. nat_le y place ≡ true) (λ y. nat_le y place ≡ false) starts n
     → n ≡ level_of starts place
 level_from_point starts place n within point =
-    let first : level_of (take n starts) place ≡ length (take n starts) = level_all (take n starts) place (λ i s at. before i s (get_take n i starts s at)) in
-    let later : level_of (drop n starts) place ≡ 0 = level_none (drop n starts) place (λ i s at. after i s (get_drop n i starts s at)) in
-    let both : level_of (take n starts ++ drop n starts) place ≡ level_of starts place = ap (λ (ss : List ℕ). level_of ss place) (take-append-drop n starts) in
+    let first : level_of (take n starts) place ≡ length (take n starts) = level_all (take n starts) place
+    (λ i s at. before i s (get_take n i starts s at)) in
+    let later : level_of (drop n starts) place ≡ 0 = level_none (drop n starts) place
+    (λ i s at. after i s (get_drop n i starts s at)) in
+    let both : level_of (take n starts ++ drop n starts) place ≡ level_of starts place =
+    ap (λ (ss : List ℕ). level_of ss place) (take-append-drop n starts) in
     omega (arith, level_append (take n starts) (drop n starts) place, first, later, both, length-take n starts, within)
   where
     before : (i s : ℕ) → (i < n) × (slice_get starts i ≡ Some s) → s < place + 1
@@ -117,10 +126,12 @@ level_from_point starts place n within point =
     after : (i s : ℕ) → slice_get starts (n + i) ≡ Some s → place < s
     after i s at =
         let there : slice_index_or starts (n + i) s ≡ s = get_or_from_slice_get starts (n + i) s s at in
-        leb-false s place (subst (λ t. nat_le t place ≡ false) there (point.1 (n + i) s (omega arith) (slice_get_within starts (n + i) s at)))
+        leb-false s place (subst (λ t. nat_le t place ≡ false) there
+        (point.1 (n + i) s (omega arith) (slice_get_within starts (n + i) s at)))
 
 -- a start below that of a level stands before it
-pub opened_below : (starts : List ℕ) (level cut i start : ℕ) → Ascend starts → slice_get starts level ≡ Some cut → slice_get starts i ≡ Some start → start < cut → i < level
+pub opened_below : (starts : List ℕ) (level cut i start : ℕ) → Ascend starts → slice_get starts level ≡ Some cut
+    → slice_get starts i ≡ Some start → start < cut → i < level
 opened_below starts level cut i start ascend at there h = go (cases_eq i level)
   where
     later : (level < i → ⊥) → (i ≡ level → ⊥) → i < level
@@ -171,7 +182,8 @@ few_starts starts bound ascend below = go (length starts) refl
 pub ascend_push : (starts : List ℕ) (start : ℕ) → Ascend starts → AreBelow starts start → Ascend (starts ++ start ∷ [])
 ascend_push starts start ascend below i j low high h a b = go (get_push starts start i low a) (get_push starts start j high b)
   where
-    go : (slice_get starts i ≡ Some low) ⊎ ((i ≡ length starts) × (start ≡ low)) → (slice_get starts j ≡ Some high) ⊎ ((j ≡ length starts) × (start ≡ high)) → low < high
+    go : (slice_get starts i ≡ Some low) ⊎ ((i ≡ length starts) × (start ≡ low)) → (slice_get starts j ≡ Some high) ⊎
+        ((j ≡ length starts) × (start ≡ high)) → low < high
     go (inl c) (inl d) = ascend i j low high h c d
     go (inl c) (inr d) = subst (λ s. low < s) d.1 (below i low c)
     go (inr c) (inl d) = let short = slice_get_within starts j high d in absurd (omega (arith, short, c.0, h))

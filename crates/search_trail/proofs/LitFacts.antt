@@ -34,7 +34,8 @@ pub value_append_some : (xs ys : List Lit) (var : ℕ) → value_in ys var ≡ N
 value_append_some [] ys var none = none
 value_append_some (x ∷ xs) ys var none = go (value_append_some xs ys var none) (cases_eq (var_of x) var)
   where
-    go : value_in (xs ++ ys) var ≡ value_in xs var → (var_of x ≡ var) ⊎ (var_of x ≡ var → ⊥) → value_in (x ∷ (xs ++ ys)) var ≡ value_in (x ∷ xs) var
+    go : value_in (xs ++ ys) var ≡ value_in xs var → (var_of x ≡ var) ⊎ (var_of x ≡ var → ⊥)
+        → value_in (x ∷ (xs ++ ys)) var ≡ value_in (x ∷ xs) var
     go more (inl e) = value_here x (xs ++ ys) var e ∙ sym (value_here x xs var e)
     go more (inr d) = value_past x (xs ++ ys) var d ∙ more ∙ sym (value_past x xs var d)
 
@@ -51,7 +52,8 @@ none_left (x ∷ xs) ys var none =
 pub once_push : (xs : List Lit) (lit : Lit) → Once xs → value_in xs (var_of lit) ≡ None → Once (xs ++ lit ∷ [])
 once_push [] lit once fresh = (refl, tt)
 once_push (x ∷ xs) lit once fresh = (
-  value_append_none xs (lit ∷ []) (var_of x) once.0 ∙ value_past lit [] (var_of x) (λ e. none_here x xs (var_of lit) fresh (sym e)),
+  value_append_none xs (lit ∷ []) (var_of x) once.0 ∙ value_past lit [] (var_of x)
+      (λ e. none_here x xs (var_of lit) fresh (sym e)),
   once_push xs lit once.1 (none_past x xs (var_of lit) fresh),
 )
 
@@ -81,23 +83,28 @@ has_value (y ∷ ys) zero x is none = none_here y ys (var_of x) none (ap var_of 
 has_value (y ∷ ys) (suc i) x is none = has_value ys i x is (none_past y ys (var_of x) none)
 
 -- and a variable that has a value stands in a literal
-pub place_of : (xs : List Lit) (var : ℕ) → (value_in xs var ≡ None → ⊥) → (i : ℕ) × (x : Lit) × (slice_get xs i ≡ Some x) × (var_of x ≡ var)
+pub place_of : (xs : List Lit) (var : ℕ) → (value_in xs var ≡ None → ⊥) → (i : ℕ) × (x : Lit) ×
+    (slice_get xs i ≡ Some x) × (var_of x ≡ var)
 place_of [] var some = absurd (some refl)
 place_of (x ∷ xs) var some = go (λ h. place_of xs var h) (cases_eq (var_of x) var)
   where
-    go : ((value_in xs var ≡ None → ⊥) → (i : ℕ) × (y : Lit) × (slice_get xs i ≡ Some y) × (var_of y ≡ var)) → (var_of x ≡ var) ⊎ (var_of x ≡ var → ⊥)
+    go : ((value_in xs var ≡ None → ⊥) → (i : ℕ) × (y : Lit) × (slice_get xs i ≡ Some y) × (var_of y ≡ var)) →
+        (var_of x ≡ var) ⊎ (var_of x ≡ var → ⊥)
         → (i : ℕ) × (y : Lit) × (slice_get (x ∷ xs) i ≡ Some y) × (var_of y ≡ var)
     go more (inl e) = (0, x, refl, e)
     go more (inr d) = let later = more (λ none. some (value_past x xs var d ∙ none)) in (suc later.0, later.1, later.2, later.3)
 
-pub same_place : (xs : List Lit) (i j : ℕ) (x y : Lit) → Once xs → slice_get xs i ≡ Some x → slice_get xs j ≡ Some y → var_of x ≡ var_of y → i ≡ j
+pub same_place : (xs : List Lit) (i j : ℕ) (x y : Lit) → Once xs → slice_get xs i ≡ Some x → slice_get xs j ≡ Some y
+    → var_of x ≡ var_of y → i ≡ j
 same_place [] i j x y once a b e = absurd (cc)
 same_place (z ∷ zs) zero zero x y once a b e = refl
-same_place (z ∷ zs) zero (suc j) x y once a b e = absurd (has_value zs j y b (subst (λ v. value_in zs v ≡ None) (ap var_of (same a) ∙ e) once.0))
+same_place (z ∷ zs) zero (suc j) x y once a b e =
+    absurd (has_value zs j y b (subst (λ v. value_in zs v ≡ None) (ap var_of (same a) ∙ e) once.0))
   where
     same : Some z ≡ Some x → z ≡ x
     same e = cc
-same_place (z ∷ zs) (suc i) zero x y once a b e = absurd (has_value zs i x a (subst (λ v. value_in zs v ≡ None) (ap var_of (same b) ∙ sym e) once.0))
+same_place (z ∷ zs) (suc i) zero x y once a b e =
+    absurd (has_value zs i x a (subst (λ v. value_in zs v ≡ None) (ap var_of (same b) ∙ sym e) once.0))
   where
     same : Some z ≡ Some y → z ≡ y
     same e = cc
@@ -120,9 +127,11 @@ distinct (x ∷ xs) once = (not_among (var_of x) xs once.0, distinct xs once.1)
 below : (n q : ℕ) (xs : List Lit) → All (λ lit. var_of lit < n) xs → list_any (eqb q) (map var_of xs) ≡ true → q < n
 below n q [] all is = absurd (cc)
 below n q (x ∷ xs) all is =
-    go (λ h. below n q xs (All-tail (λ lit. var_of lit < n) x xs all) h) (or_cases (eqb q (var_of x)) (list_any (eqb q) (map var_of xs)) is)
+    go (λ h. below n q xs (All-tail (λ lit. var_of lit < n) x xs all) h)
+    (or_cases (eqb q (var_of x)) (list_any (eqb q) (map var_of xs)) is)
   where
-    go : (list_any (eqb q) (map var_of xs) ≡ true → q < n) → (eqb q (var_of x) ≡ true) ⊎ (list_any (eqb q) (map var_of xs) ≡ true) → q < n
+    go : (list_any (eqb q) (map var_of xs) ≡ true → q < n) → (eqb q (var_of x) ≡ true) ⊎
+        (list_any (eqb q) (map var_of xs) ≡ true) → q < n
     go more (inl h) = subst (λ v. v < n) (sym (eqb-true q (var_of x) h)) (All-head (λ lit. var_of lit < n) x xs all)
     go more (inr h) = more h
 
@@ -132,7 +141,8 @@ few_lits n xs once all =
     omega (arith, few, length-map xs var_of)
 
 -- and fewer where one has no value
-pub room_for : (n : ℕ) (xs : List Lit) (lit : Lit) → Once xs → All (λ l. var_of l < n) xs → var_of lit < n → value_in xs (var_of lit) ≡ None → length xs + 1 ≤ n
+pub room_for : (n : ℕ) (xs : List Lit) (lit : Lit) → Once xs → All (λ l. var_of l < n) xs → var_of lit < n
+    → value_in xs (var_of lit) ≡ None → length xs + 1 ≤ n
 room_for n xs lit once all h fresh =
     let few = few_lits n (xs ++ lit ∷ []) (once_push xs lit once fresh) (All-push (λ l. var_of l < n) xs lit all h) in
     omega (arith, few, longer xs)

@@ -12,17 +12,25 @@ use Rattle.search_trail.proofs.ValueLists.{freed_length}
 
 -- a trail as its parts
 abbrev pub seen : List (Option Bool) → List Lit → List ℕ → List ℕ → ℕ → Trail
-seen values lits reasons starts gone = record { vars = length values; entries = entries_of reasons lits; starts = starts; gone = gone }
+seen values lits reasons starts gone = record {
+  vars = length values;
+  entries = entries_of reasons lits;
+  starts =
+      starts;
+  gone = gone;
+}
 
 pub same_trail : (vars vars' : ℕ) (entries entries' : List Entry) (starts starts' : List ℕ) (gone gone' : ℕ)
     → vars ≡ vars' → entries ≡ entries' → starts ≡ starts' → gone ≡ gone'
-    → ◌≡◌ {A = Trail} (record { vars = vars; entries = entries; starts = starts; gone = gone }) (record { vars = vars'; entries = entries'; starts = starts'; gone = gone' })
+    → ◌≡◌ {A = Trail} (record { vars = vars; entries = entries; starts = starts; gone = gone })
+    (record { vars = vars'; entries = entries'; starts = starts'; gone = gone' })
 same_trail vars vars' entries entries' starts starts' gone gone' a b c d = rw (a, b, c, d) refl
 
 module _ (values : List (Option Bool)) (lits : List Lit) (places reasons starts : List ℕ) (gone lits_room starts_room : ℕ)
     (is : IsTrail values lits places reasons starts gone lits_room starts_room) (lit : Lit) where
   -- a variable that is free has no value by the literals
-  pub fresh_of : (t : Trail) → seen values lits reasons starts gone ≡ t → IsFree t (var_of lit) → value_in lits (var_of lit) ≡ None
+  pub fresh_of : (t : Trail) → seen values lits reasons starts gone ≡ t → IsFree t (var_of lit) → value_in lits
+      (var_of lit) ≡ None
   fresh_of t view_is free =
       ap (λ ls. value_in ls (var_of lit)) (sym (lits_of_entries reasons lits))
       ∙ subst (λ (u : Trail). IsFree u (var_of lit)) (sym view_is) free
@@ -32,13 +40,15 @@ module _ (values : List (Option Bool)) (lits : List Lit) (places reasons starts 
 
   module _ (fresh : value_in lits (var_of lit) ≡ None) (inside : var_of lit < length values) where
     pub seen_implied : (clause : ℕ) → reason_at clause ≡ Some clause
-        → seen (slice_set values (var_of lit) (Some (not (is_negative lit)))) (lits ++ lit ∷ []) (slice_set reasons (var_of lit) clause) starts gone
+        → seen (slice_set values (var_of lit) (Some (not (is_negative lit)))) (lits ++ lit ∷ [])
+        (slice_set reasons (var_of lit) clause) starts gone
         ≡ implied (seen values lits reasons starts gone) lit clause
     seen_implied clause is_some =
         same_trail _ _ _ _ _ _ _ _ (length-set values (var_of lit) (Some (not (is_negative lit))))
         (entries_more reasons lits lit clause (Some clause) fresh (omega (arith, inside, is.reasons_length)) is_some) refl refl
 
-    pub seen_assumed : seen (slice_set values (var_of lit) (Some (not (is_negative lit)))) (lits ++ lit ∷ []) (slice_set reasons (var_of lit) 4294967295)
+    pub seen_assumed : seen (slice_set values (var_of lit) (Some (not (is_negative lit)))) (lits ++ lit ∷ [])
+        (slice_set reasons (var_of lit) 4294967295)
         (starts ++ length lits ∷ []) gone
         ≡ assumed (seen values lits reasons starts gone) lit
     seen_assumed =
@@ -51,21 +61,27 @@ pub reason_some : (clause : ℕ) → clause < 4294967295 → reason_at clause �
 reason_some clause few = rw (ne_eqb clause 4294967295 (λ e. absurd (omega (arith, e, few)))) refl
 
 -- the levels above one are gone
-pub seen_undone : (values : List (Option Bool)) (lits : List Lit) (reasons starts : List ℕ) (gone level cut : ℕ) → slice_get starts level ≡ Some cut
-    → seen (freed values (drop cut lits)) (take cut lits) reasons (take level starts) (min gone cut) ≡ undone (seen values lits reasons starts gone) level
+pub seen_undone : (values : List (Option Bool)) (lits : List Lit) (reasons starts : List ℕ) (gone level cut : ℕ)
+    → slice_get starts level ≡ Some cut
+    → seen (freed values (drop cut lits)) (take cut lits) reasons (take level starts) (min gone cut) ≡ undone
+    (seen values lits reasons starts gone) level
 seen_undone values lits reasons starts gone level cut at =
-    let begins : slice_index_or starts level (length (entries_of reasons lits)) ≡ cut = get_or_from_slice_get starts level cut (length (entries_of reasons lits)) at in
+    let begins : slice_index_or starts level (length (entries_of reasons lits)) ≡ cut = get_or_from_slice_get starts
+    level cut (length (entries_of reasons lits)) at in
     same_trail _ _ _ _ _ _ _ _ (freed_length values (drop cut lits))
     (entries_take reasons cut lits ∙ ap (λ n. take n (entries_of reasons lits)) (sym begins)) refl (ap (min gone) (sym begins))
 
 -- there are no levels above the last
-pub seen_whole : (values : List (Option Bool)) (lits : List Lit) (reasons starts : List ℕ) (gone level : ℕ) → length starts ≤ level → gone ≤ length lits
+pub seen_whole : (values : List (Option Bool)) (lits : List Lit) (reasons starts : List ℕ) (gone level : ℕ)
+    → length starts ≤ level → gone ≤ length lits
     → seen values lits reasons starts gone ≡ undone (seen values lits reasons starts gone) level
 seen_whole values lits reasons starts gone level top few =
     let all : slice_index_or starts level (length (entries_of reasons lits)) ≡ length (entries_of reasons lits) =
     get_or_past starts level (length (entries_of reasons lits)) top in
-    let entries : take (slice_index_or starts level (length (entries_of reasons lits))) (entries_of reasons lits) ≡ entries_of reasons lits =
-    ap (λ n. take n (entries_of reasons lits)) all ∙ take_all (length (entries_of reasons lits)) (entries_of reasons lits) (omega arith) in
+    let entries : take (slice_index_or starts level (length (entries_of reasons lits))) (entries_of reasons lits) ≡
+    entries_of reasons lits =
+    ap (λ n. take n (entries_of reasons lits)) all ∙ take_all (length (entries_of reasons lits))
+    (entries_of reasons lits) (omega arith) in
     let least : min gone (slice_index_or starts level (length (entries_of reasons lits))) ≡ gone =
     ap (min gone) all ∙ omega (arith, few, as_many reasons lits) in
     same_trail _ _ _ _ _ _ _ _ refl (sym entries) (sym (take_all level starts top)) (sym least)

@@ -19,7 +19,8 @@ reason_at n = if n == 4294967295 then None else Some n
 -- the entries of literals, by the reasons of their variables
 abbrev pub entries_of : List ℕ → List Lit → List Entry
 entries_of reasons [] = []
-entries_of reasons (lit ∷ lits) = record { lit = lit; reason = reason_at (slice_index_or reasons (var_of lit) 4294967295) } ∷ entries_of reasons lits
+entries_of reasons (lit ∷ lits) =
+    record { lit = lit; reason = reason_at (slice_index_or reasons (var_of lit) 4294967295) } ∷ entries_of reasons lits
 
 -- each literal is of a variable that no later one is of
 abbrev pub Once : List Lit → Type 0
@@ -32,7 +33,8 @@ freed values [] = values
 freed values (lit ∷ lits) = freed (slice_set values (var_of lit) None) lits
 
 -- the parts of a trail fit each other; the last two numbers are the room for literals and for levels
-pub record IsTrail (values : List (Option Bool)) (lits : List Lit) (places reasons starts : List ℕ) (gone lits_room starts_room : ℕ) : Type 0 where
+pub record IsTrail (values : List (Option Bool)) (lits : List Lit) (places reasons starts : List ℕ)
+    (gone lits_room starts_room : ℕ) : Type 0 where
   pub values_are : values ≡ map (value_in lits) (range_with_len 0 (length values))
   pub few : length values ≤ 2147483648
   pub places_length : length places ≡ length values
@@ -42,7 +44,8 @@ pub record IsTrail (values : List (Option Bool)) (lits : List Lit) (places reaso
   pub once : Once lits
   pub ascend : (i j low high : ℕ) → i < j → slice_get starts i ≡ Some low → slice_get starts j ≡ Some high → low < high
   pub begun : (i start : ℕ) → slice_get starts i ≡ Some start → start < length lits
-  pub assumed : (place : ℕ) (lit : Lit) → slice_get lits place ≡ Some lit → slice_index_or reasons (var_of lit) 4294967295 ≡ 4294967295 → (i : ℕ) × (slice_get starts i ≡ Some place)
+  pub assumed : (place : ℕ) (lit : Lit) → slice_get lits place ≡ Some lit → slice_index_or reasons (var_of lit)
+      4294967295 ≡ 4294967295 → (i : ℕ) × (slice_get starts i ≡ Some place)
   pub gone_within : gone ≤ length lits
   pub lits_fit : length values ≤ lits_room
   pub starts_fit : length values ≤ starts_room

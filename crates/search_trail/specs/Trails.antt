@@ -69,7 +69,11 @@ pub record IsReason (clause : List Lit) (earlier : List Lit) (lit : Lit) : Type 
 
 -- the trail with a literal that opens a level
 abbrev pub assumed : Trail → Lit → Trail
-assumed t lit = record t { entries = t.entries ++ record { lit = lit; reason = None } ∷ []; starts = t.starts ++ length t.entries ∷ [] }
+assumed t lit = record t {
+  entries = t.entries ++ record { lit = lit; reason = None } ∷ [];
+  starts = t.starts
+      ++ length t.entries ∷ [];
+}
 
 -- the trail with a literal that a clause implies
 abbrev pub implied : Trail → Lit → ℕ → Trail
@@ -93,12 +97,14 @@ undone t level = record t {
 
 -- ---- at any moment
 
--- each variable stands in one entry at most; levels begin one after another, each with an entry; an entry with no reason opens a level
+-- each variable stands in one entry at most; levels begin one after another, each with an entry; an entry with no
+-- reason opens a level
 pub record AreEntries (t : Trail) : Type 0 where
   pub few : t.vars ≤ 2147483648
   pub within : All (λ e. var_of e.lit < t.vars) t.entries
   pub once : OnlyOnce (map (λ e. var_of e.lit) t.entries)
   pub ascend : (i j low high : ℕ) → i < j → slice_get t.starts i ≡ Some low → slice_get t.starts j ≡ Some high → low < high
   pub begun : (i start : ℕ) → slice_get t.starts i ≡ Some start → start < length t.entries
-  pub assumed : (place : ℕ) (e : Entry) → slice_get t.entries place ≡ Some e → e.reason ≡ None → (i : ℕ) × (slice_get t.starts i ≡ Some place)
+  pub assumed : (place : ℕ) (e : Entry) → slice_get t.entries place ≡ Some e → e.reason ≡ None →
+      (i : ℕ) × (slice_get t.starts i ≡ Some place)
   pub gone : t.gone ≤ length t.entries

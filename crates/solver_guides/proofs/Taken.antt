@@ -11,7 +11,8 @@ how_many (true ∷ present) = how_many present + 1
 how_many (false ∷ present) = how_many present
 
 -- one fewer when one is taken off
-pub fewer_present : (present : List Bool) (var : ℕ) → slice_get present var ≡ Some true → how_many (slice_set present var false) < how_many present
+pub fewer_present : (present : List Bool) (var : ℕ) → slice_get present var ≡ Some true
+    → how_many (slice_set present var false) < how_many present
 fewer_present [] var there = absurd (cc)
 fewer_present (true ∷ present) zero there = omega arith
 fewer_present (false ∷ present) zero there = absurd (cc)
@@ -28,7 +29,8 @@ module _ (counts : List ℕ) where
   taken_off n zero (p ∷ present) (None ∷ values) best taken = absurd (cc)
   taken_off n zero (true ∷ present) (Some b ∷ values) best taken = refl
   taken_off n zero (false ∷ present) (Some b ∷ values) best taken = refl
-  taken_off n (suc var) (true ∷ present) (None ∷ values) best taken = taken_off (suc n) var present values (Some (better counts best n)) taken
+  taken_off n (suc var) (true ∷ present) (None ∷ values) best taken = taken_off (suc n) var present values
+      (Some (better counts best n)) taken
   taken_off n (suc var) (true ∷ present) (Some b ∷ values) best taken = taken_off (suc n) var present values best taken
   taken_off n (suc var) (false ∷ present) (v ∷ values) best taken = taken_off (suc n) var present values best taken
 
@@ -49,21 +51,27 @@ module _ (counts : List ℕ) where
 
   -- none that comes later has more than the one that was found
   stays : (n var : ℕ) (present : List Bool) (values : List (Option Bool))
-      → ((j m : ℕ) → m ≡ n + j → slice_get present j ≡ Some true → count m ≤ count var) → greatest_from counts n present values (Some var) ≡ Some var
+      → ((j m : ℕ) → m ≡ n + j → slice_get present j ≡ Some true → count m ≤ count var) → greatest_from counts n
+      present values (Some var) ≡ Some var
   stays n var [] values most = refl
   stays n var (true ∷ present) [] most = refl
   stays n var (false ∷ present) [] most = refl
   stays n var (true ∷ present) (None ∷ values) most =
       ap (λ b. greatest_from counts (suc n) present values (Some b)) (kept n var (most 0 n (omega arith) refl))
       ∙ stays (suc n) var present values (λ j m e there. most (suc j) m (omega (arith, e)) there)
-  stays n var (true ∷ present) (Some b ∷ values) most = stays (suc n) var present values (λ j m e there. most (suc j) m (omega (arith, e)) there)
-  stays n var (false ∷ present) (v ∷ values) most = stays (suc n) var present values (λ j m e there. most (suc j) m (omega (arith, e)) there)
+  stays n var (true ∷ present) (Some b ∷ values) most = stays (suc n) var present values
+      (λ j m e there. most (suc j) m (omega (arith, e)) there)
+  stays n var (false ∷ present) (v ∷ values) most = stays (suc n) var present values
+      (λ j m e there. most (suc j) m (omega (arith, e)) there)
 
-  better_less : (best : Option ℕ) (n var : ℕ) → ((b : ℕ) → best ≡ Some b → count b < count var) → count n < count var → count (better counts best n) < count var
+  better_less : (best : Option ℕ) (n var : ℕ) → ((b : ℕ) → best ≡ Some b → count b < count var) → count n < count var
+      → count (better counts best n) < count var
   better_less None n var loses less = less
-  better_less (Some x) n var loses less = cond_both (ltb (count x) (count n)) n x (λ k. count k < count var) (λ e. less) (λ e. loses x refl)
+  better_less (Some x) n var loses less = cond_both (ltb (count x) (count n)) n x (λ k. count k < count var)
+      (λ e. less) (λ e. loses x refl)
 
-  better_all : (best : Option ℕ) (n var : ℕ) → n ≡ var → ((b : ℕ) → best ≡ Some b → count b < count var) → better counts best n ≡ var
+  better_all : (best : Option ℕ) (n var : ℕ) → n ≡ var → ((b : ℕ) → best ≡ Some b → count b < count var)
+      → better counts best n ≡ var
   better_all None n var same loses = same
   better_all (Some x) n var same loses =
       let as_many : count n ≡ count var = ap count same in
@@ -85,7 +93,8 @@ module _ (counts : List ℕ) where
       ∙ stays (suc n) var present values (λ j m e here. most (suc j) m (omega (arith, e)) here)
   reaches n (suc i) var (true ∷ present) (None ∷ values) best at loses there free less most =
       reaches (suc n) i var present values (Some (better counts best n)) (omega (arith, at))
-      (λ b e. let that : better counts best n ≡ b = cc in subst (λ k. count k < count var) that (better_less best n var loses (less 0 n (omega arith) refl (omega (arith, at))))) there free
+      (λ b e. let that : better counts best n ≡ b = cc in subst (λ k. count k < count var) that
+      (better_less best n var loses (less 0 n (omega arith) refl (omega (arith, at))))) there free
       (λ j m e. less (suc j) m (omega (arith, e))) (λ j m e. most (suc j) m (omega (arith, e)))
   reaches n (suc i) var (true ∷ present) (Some b ∷ values) best at loses there free less most =
       reaches (suc n) i var present values best (omega (arith, at)) loses there free
@@ -111,8 +120,10 @@ greatest_found c var values is free =
     most m (inr h) = omega (arith, h.0)
 
 -- the choice is the same over a tree that a number is taken off
-pub choice_stays : (old new : Counts) (var : ℕ) (values : List (Option Bool)) → new.counts ≡ old.counts → new.present ≡ slice_set old.present var false
-    → is_free values var ≡ false → greatest_from new.counts 0 new.present values None ≡ greatest_from old.counts 0 old.present values None
+pub choice_stays : (old new : Counts) (var : ℕ) (values : List (Option Bool)) → new.counts ≡ old.counts
+    → new.present ≡ slice_set old.present var false
+    → is_free values var ≡ false → greatest_from new.counts 0 new.present values None ≡ greatest_from old.counts 0
+    old.present values None
 choice_stays old new var values counts present taken =
     ap (λ cs. greatest_from cs 0 new.present values None) counts
     ∙ ap (λ ps. greatest_from old.counts 0 ps values None) present

@@ -17,13 +17,16 @@ module _ {B : Type 0} (choice : B → List (Option Bool) → Option Lit) (guides
   choice_past at past = sym (ap (option_and_then (λ g. choice g values)) (slice_get_past guides at past))
 
 -- the guide that is left is the one that stood at the place
-kept_first : {B : Type 0} (guides : List B) (place : ℕ) → place < length guides → slice_get (take 1 (swap guides 0 place)) 0 ≡ slice_get guides place
+kept_first : {B : Type 0} (guides : List B) (place : ℕ) → place < length guides
+    → slice_get (take 1 (swap guides 0 place)) 0 ≡ slice_get guides place
 kept_first [] place within = absurd (omega (arith, within))
 kept_first (g ∷ gs) zero within = refl
 kept_first (g ∷ gs) (suc place) within = sym (slice_get-get_or gs place g (omega (arith, within)))
 
-pub choice_kept : {B : Type 0} (choice : B → List (Option Bool) → Option Lit) (old swapped new : List B) (place : ℕ) (values : List (Option Bool))
-    → place < length old → swapped ≡ swap old 0 place → new ≡ take 1 swapped → choice_at choice new 0 values ≡ choice_at choice old place values
+pub choice_kept : {B : Type 0} (choice : B → List (Option Bool) → Option Lit) (old swapped new : List B) (place : ℕ)
+    (values : List (Option Bool))
+    → place < length old → swapped ≡ swap old 0 place → new ≡ take 1 swapped → choice_at choice new 0 values ≡
+    choice_at choice old place values
 choice_kept choice old swapped new place values within is_swapped is_new =
     ap (option_and_then (λ g. choice g values))
     (ap (λ gs. slice_get gs 0) (is_new ∙ ap (take 1) is_swapped) ∙ kept_first old place within)

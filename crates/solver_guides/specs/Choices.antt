@@ -56,7 +56,8 @@ better counts (Some best) var = if nat_lt (slice_index_or counts best 0) (slice_
 
 -- of the variables from a number on that are present and free, and one that was seen, the one with the greatest count
 abbrev pub greatest_from : List ℕ → ℕ → List Bool → List (Option Bool) → Option ℕ → Option ℕ
-greatest_from counts var (true ∷ present) (None ∷ values) best = greatest_from counts (suc var) present values (Some (better counts best var))
+greatest_from counts var (true ∷ present) (None ∷ values) best = greatest_from counts (suc var) present values
+    (Some (better counts best var))
 greatest_from counts var (true ∷ present) (Some value ∷ values) best = greatest_from counts (suc var) present values best
 greatest_from counts var (false ∷ present) (value ∷ values) best = greatest_from counts (suc var) present values best
 greatest_from counts var [] values best = best

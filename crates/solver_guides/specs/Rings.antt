@@ -26,9 +26,11 @@ abbrev pub choice_at : {B : Type 0} → (B → List (Option Bool) → Option Lit
 choice_at choice guides place values = option_and_then (λ guide. choice guide values) (slice_get guides place)
 
 -- what the guide chooses whose turn it is; none where there is no guide
-abbrev pub current_choice : {X : Type 0} {P : X → Type 0} → (DynBox X Global P → List (Option Bool) → Option Lit) → Guides X P → List (Option Bool) → Option Lit
+abbrev pub current_choice : {X : Type 0} {P : X → Type 0} → (DynBox X Global P → List (Option Bool) → Option Lit)
+    → Guides X P → List (Option Bool) → Option Lit
 current_choice choice ring values = choice_at choice (guides_of ring) (place_of ring) values
 
 -- each of so many guides has made room for so many variables
 abbrev pub HaveRoom : {B : Type 0} → (B → ℕ → Bool) → ℕ → List B → ℕ → Type 0
-HaveRoom has_room vars guides count = (place : ℕ) (guide : _) → place < count → slice_get guides place ≡ Some guide → has_room guide vars ≡ true
+HaveRoom has_room vars guides count = (place : ℕ) (guide : _) → place < count → slice_get guides place ≡ Some guide
+    → has_room guide vars ≡ true

@@ -84,7 +84,8 @@ impl Guide for Activity {
     }
 
     fn saw(&mut self, var: u32)
-        ensures counts { var < length (counts_of self.old) → counts_of self.new ≡ counts_after (counts_of self.old) var (bump_of self.old) }
+        ensures counts { var < length (counts_of self.old) → counts_of self.new ≡ counts_after (counts_of self.old)
+            var (bump_of self.old) }
         ensures bump { var < length (counts_of self.old) → bump_of self.new ≡ bump_after (bump_of self.old) }
         ensures beyond { length (counts_of self.old) ≤ var → self.new ≡ self.old }
         ensures present { present_of self.new ≡ present_of self.old }

@@ -58,7 +58,8 @@ impl Guides {
         requires { place < count_of self.old }
         ensures count { count_of self.new ≡ 1 }
         ensures place { place_of self.new ≡ 0 }
-        ensures kept { (values : List (Option Bool)) → current_choice (λ guide. choice guide) self.new values ≡ choice_at (λ guide. choice guide) (guides_of self.old) place values }
+        ensures kept { (values : List (Option Bool)) → current_choice (λ guide. choice guide) self.new values ≡
+            choice_at (λ guide. choice guide) (guides_of self.old) place values }
     {
         self.guides.swap(0, place);
         self.guides.truncate(1);

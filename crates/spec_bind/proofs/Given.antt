@@ -28,18 +28,21 @@ pub record Gives (old new : List Relation) : Type 0 where
   pub there : slice_get old rel ≡ Some r
   pub is : new ≡ slice_set old rel (record r { given = given })
 
-gives_pairs : (done new : List Relation) (rel : ℕ) (r : Relation) (pairs : Result (List Pair) BindFault) → slice_get done rel ≡ Some r
+gives_pairs : (done new : List Relation) (rel : ℕ) (r : Relation) (pairs : Result (List Pair) BindFault)
+    → slice_get done rel ≡ Some r
     → giving_pairs done rel r pairs ≡ Ok new → Gives done new
 gives_pairs done new rel r (Err fault) there e = absurd (cc)
 gives_pairs done new rel r (Ok pairs) there e =
     record { rel = rel; r = r; given = fold (insert_key pair_cmp) r.given pairs; there = there; is = cc }
 
-gives_at : (done new : List Relation) (o : OrderingTree) (rel : ℕ) (r : Option Relation) → slice_get done rel ≡ r → ordered_at done o rel r ≡ Ok new → Gives done new
+gives_at : (done new : List Relation) (o : OrderingTree) (rel : ℕ) (r : Option Relation) → slice_get done rel ≡ r
+    → ordered_at done o rel r ≡ Ok new → Gives done new
 gives_at done new o rel None there e = absurd (cc)
 gives_at done new o rel (Some r) there e = gives_pairs done new rel r (ordered_pairs r o) there e
 
 gives_found : (done new : List Relation) (o : OrderingTree) (place : Option ℕ)
-    → found_or place (refused_at UnknownName o.relation) (λ rel. ordered_at done o rel (slice_get done rel)) ≡ Ok new → Gives done new
+    → found_or place (refused_at UnknownName o.relation) (λ rel. ordered_at done o rel (slice_get done rel)) ≡ Ok new
+    → Gives done new
 gives_found done new o None e = absurd (cc)
 gives_found done new o (Some rel) e = gives_at done new o rel (slice_get done rel) refl e
 
@@ -50,7 +53,8 @@ ordered_gives done new o e = gives_found done new o (place_of (map (λ r. r.name
 -- the specification with these relations
 same_rest : (old new : Spec) → new.rules ≡ old.rules → new.copies ≡ old.copies → record old { relations = new.relations } ≡ new
 same_rest old new rules copies =
-    let at : ◌≡◌ {A = Spec} (record { relations = new.relations; rules = old.rules; copies = old.copies }) (record { relations = new.relations; rules = new.rules; copies = new.copies }) = cc in
+    let at : ◌≡◌ {A = Spec} (record { relations = new.relations; rules = old.rules; copies = old.copies })
+    (record { relations = new.relations; rules = new.rules; copies = new.copies }) = cc in
     at
 
 -- new is old with other given pairs
@@ -63,11 +67,13 @@ pub record IsGivenMore (old new : Spec) : Type 0 where
 given_within : (old new : Spec) → IsGivenMore old new → exceeded old ≡ None → exceeded new ≡ None
 given_within old new more within =
     let g = more.gives in
-    ap exceeded (sym (same_rest old new more.rules more.copies)) ∙ ap (λ (rs : List Relation). exceeded (record old { relations = rs })) g.is
+    ap exceeded (sym (same_rest old new more.rules more.copies))
+    ∙ ap (λ (rs : List Relation). exceeded (record old { relations = rs })) g.is
     ∙ exceeded_given old g.rel g.r g.given g.there ∙ within
 
 -- what is known of it
-pub given_known : (old new : Spec) (names : NameLists) (rows : ℕ) → IsGivenMore old new → all_names_of new ≡ all_names_of old → IsKnown old names rows → IsKnown new names rows
+pub given_known : (old new : Spec) (names : NameLists) (rows : ℕ) → IsGivenMore old new → all_names_of new ≡
+    all_names_of old → IsKnown old names rows → IsKnown new names rows
 given_known old new names rows more same known =
     let g = more.gives in
     record {
@@ -77,17 +83,36 @@ given_known old new names rows more same known =
     }
 
 -- it is what is made, within limits
-pub given_limited : (old new : Spec) (relations : Result (List Relation) BindFault) → relations ≡ Ok new.relations → IsGivenMore old new → exceeded old ≡ None
+pub given_limited : (old new : Spec) (relations : Result (List Relation) BindFault) → relations ≡ Ok new.relations
+    → IsGivenMore old new → exceeded old ≡ None
     → and_then (with_relations old relations) limited ≡ Ok new
 given_limited old new relations e more within =
     ap (λ (r : Result (List Relation) BindFault). and_then (with_relations old r) limited) e
     ∙ ap limited (same_rest old new more.rules more.copies) ∙ ap (λ k. unless_above k new) (given_within old new more within)
 
 -- an ordering gives more pairs
-pub ordering_gives : (old new : Spec) (o : OrderingTree) → ordered old.relations o ≡ Ok new.relations → new.rules ≡ old.rules → new.copies ≡ old.copies → IsGivenMore old new
-ordering_gives old new o e rules copies = record { gives = ordered_gives old.relations new.relations o e; rules = rules; copies = copies }
+pub ordering_gives : (old new : Spec) (o : OrderingTree) → ordered old.relations o ≡ Ok new.relations
+    → new.rules ≡ old.rules → new.copies ≡ old.copies → IsGivenMore old new
+ordering_gives old new o e rules copies = record {
+  gives = ordered_gives old.relations new.relations o e;
+  rules =
+      rules;
+  copies = copies;
+}
 
 -- a table of pairs gives more pairs
-pub table_gives : (old new : Spec) → MorePairs old.relations new.relations → new.rules ≡ old.rules → new.copies ≡ old.copies → IsGivenMore old new
+pub table_gives : (old new : Spec) → MorePairs old.relations new.relations → new.rules ≡ old.rules
+    → new.copies ≡ old.copies → IsGivenMore old new
 table_gives old new m rules copies =
-    record { gives = record { rel = m.rel; r = m.r; given = fold (insert_key pair_cmp) m.r.given m.pairs; there = m.there; is = m.is }; rules = rules; copies = copies }
+    record {
+      gives = record {
+        rel = m.rel;
+        r = m.r;
+        given = fold (insert_key pair_cmp) m.r.given m.pairs;
+        there =
+            m.there;
+        is = m.is;
+      };
+      rules = rules;
+      copies = copies;
+    }

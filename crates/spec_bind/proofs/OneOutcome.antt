@@ -21,7 +21,8 @@ use Rattle.spec_bind.specs.Bound.{IsMade, IsStep, IsBound, IsSpecBound, with_rel
 pub record Laws : Type 0 where
   pub declaration : (told : List (List ℕ × List ℕ)) (taken : List (List ℕ)) (d : Declared) (a b : Result Relation BindFault)
       → IsDeclared told taken d a → IsDeclared told taken d b → a ≡ b
-  pub orders : (told : List (List ℕ × List ℕ)) (done : List Relation) (relation document : Named) (a b : Result (List Relation) BindFault)
+  pub orders : (told : List (List ℕ × List ℕ)) (done : List Relation) (relation document : Named)
+      (a b : Result (List Relation) BindFault)
       → IsOrdersMade told done relation document a → IsOrdersMade told done relation document b → a ≡ b
   pub copy : (told : List (List ℕ × List ℕ)) (done : Spec) (tree : CopyTree) (a b : Result CopyFunction BindFault)
       → IsCopyMade told done tree a → IsCopyMade told done tree b → a ≡ b
@@ -31,13 +32,15 @@ one_made : Laws → (told : List (List ℕ × List ℕ)) (done : Spec) (s : Stat
     → IsMade told done s a → IsMade told done s b → a ≡ b
 one_made one told done (statement.Relation name doc row entity attrs) a b x y =
     let d : Declared = record { name = name; document = doc; row = row; entity = entity; attrs = attrs } in
-    x.2 ∙ ap (λ (r : Result Relation BindFault). and_then r (λ made. Ok (with_relation done made))) (one.declaration told (relation_names done) d x.0 y.0 x.1 y.1) ∙ sym y.2
+    x.2 ∙ ap (λ (r : Result Relation BindFault). and_then r (λ made. Ok (with_relation done made)))
+    (one.declaration told (relation_names done) d x.0 y.0 x.1 y.1) ∙ sym y.2
 one_made one told done (statement.Order o) a b x y = x ∙ sym y
 one_made one told done (statement.Orders relation doc) a b x y =
     x.2 ∙ ap (with_relations done) (one.orders told done.relations relation doc x.0 y.0 x.1 y.1) ∙ sym y.2
 one_made one told done (statement.Rule t) a b x y = x ∙ sym y
 one_made one told done (statement.Copy t) a b x y =
-    x.2 ∙ ap (λ (r : Result CopyFunction BindFault). and_then r (λ made. Ok (with_copy done made))) (one.copy told done t x.0 y.0 x.1 y.1) ∙ sym y.2
+    x.2 ∙ ap (λ (r : Result CopyFunction BindFault). and_then r (λ made. Ok (with_copy done made)))
+    (one.copy told done t x.0 y.0 x.1 y.1) ∙ sym y.2
 
 -- and so it is one step
 one_step : Laws → (told : List (List ℕ × List ℕ)) (done : Spec) (s : StatementTree) (a b : Result Spec BindFault)
@@ -60,10 +63,12 @@ one_bound one told done [] a b x y = x ∙ sym y
 one_bound one told done (s ∷ rest) a b x y =
     let same = one_step one told done s x.0 y.0 x.1 y.1 in
     one_further told rest a b (λ next. one_bound one told next rest a b) y.0
-    (subst (λ (step : Result Spec BindFault). MatchResult step (λ next. IsBound told next rest a) (λ fault. a ≡ Err fault)) same x.2) y.2
+    (subst (λ (step : Result Spec BindFault). MatchResult step (λ next. IsBound told next rest a)
+    (λ fault. a ≡ Err fault)) same x.2) y.2
 
 -- and a tree
 pub one_tree : Laws → (told : List (List ℕ × List ℕ)) (tree : SpecTree) (a b : Result Spec BindFault)
     → IsSpecBound told tree a → IsSpecBound told tree b → a ≡ b
 one_tree one told tree a b x y =
-    x.2 ∙ ap (λ (bound : Result Spec BindFault). and_then bound limited_at_last) (one_bound one told nothing tree.statements x.0 y.0 x.1 y.1) ∙ sym y.2
+    x.2 ∙ ap (λ (bound : Result Spec BindFault). and_then bound limited_at_last)
+    (one_bound one told nothing tree.statements x.0 y.0 x.1 y.1) ∙ sym y.2

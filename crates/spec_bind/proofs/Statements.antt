@@ -17,22 +17,30 @@ Texts = Option (List (List ℕ × List ℕ))
 
 -- what is left of the statements makes of what is done what all of them make of nothing
 abbrev pub SoFar : Texts → Spec → List StatementTree → List StatementTree → Type 0
-SoFar texts done rest all = IfSome texts (λ told. (outcome : Result Spec BindFault) → IsBound told done rest outcome → IsBound told nothing all outcome)
+SoFar texts done rest all = IfSome texts (λ told. (outcome : Result Spec BindFault) → IsBound told done rest outcome
+    → IsBound told nothing all outcome)
 
 -- a table that is due by what is left is due by all of them
 abbrev pub TablesSoFar : Texts → Spec → List StatementTree → List StatementTree → Type 0
-TablesSoFar texts done rest all = IfSome texts (λ told. (table : List ℕ) → TableDue told done rest table → TableDue told nothing all table)
+TablesSoFar texts done rest all = IfSome texts (λ told. (table : List ℕ) → TableDue told done rest table
+    → TableDue told nothing all table)
 
 -- the step of a statement that is refused
-pub tree_refused : (texts now : Texts) (done : Spec) (tree : SpecTree) (items : List StatementTree) (i : ℕ) (s : StatementTree) (fault : BindFault)
+pub tree_refused : (texts now : Texts) (done : Spec) (tree : SpecTree) (items : List StatementTree) (i : ℕ)
+    (s : StatementTree) (fault : BindFault)
     → now ≡ texts → i < length items → s ≡ get_or items i s → SoFar texts done (drop i items) tree.statements
     → (IsSettled {A = Spec} (Err fault) → IfSome now (λ told. IsStep told done s (Err fault)))
     → IsSettled {A = Spec} (Err fault) → IfSome texts (λ told. IsSpecBound told tree (Err fault))
 tree_refused None now done tree items i s fault same lt is so_far step settled = tt
 tree_refused (Some told) now done tree items i s fault same lt is so_far step settled =
-    let here : IsStep told done s (Err fault) = subst (λ (t : Texts). IfSome t (λ docs. IsStep docs done s (Err fault))) same (step settled) in
-    let bound : IsBound told done (s ∷ drop (i + 1) items) (Err fault) = (Err fault, here, refl) in
-    (Err fault, so_far (Err fault) (subst (λ (xs : List StatementTree). IsBound told done xs (Err fault)) (sym (drop_at items i s lt is)) bound), refl)
+    let here : IsStep told done s (Err fault) =
+    subst (λ (t : Texts). IfSome t (λ docs. IsStep docs done s (Err fault))) same (step settled) in
+    let bound : IsBound told done (s ∷ drop (i + 1) items) (Err fault) = (Err fault, here, refl) in (
+      Err fault,
+      so_far (Err fault) (subst (λ (xs : List StatementTree). IsBound told done xs (Err fault))
+          (sym (drop_at items i s lt is)) bound),
+      refl,
+    )
 
 -- a table that could not be read
 pub tree_table : (texts : Texts) (done : Spec) (all items : List StatementTree) (i : ℕ) (s : StatementTree) (fault : BindFault)
@@ -41,7 +49,8 @@ pub tree_table : (texts : Texts) (done : Spec) (all items : List StatementTree) 
     → (name : List ℕ) → IsReadFaultOf {A = Spec} (Err fault) name → IfSome texts (λ told. TableDue told nothing all name)
 tree_table None done all items i s fault lt is tables reads name h = tt
 tree_table (Some told) done all items i s fault lt is tables reads name h =
-    tables name (subst (λ (xs : List StatementTree). TableDue told done xs name) (sym (drop_at items i s lt is)) (inl (reads name h)))
+    tables name (subst (λ (xs : List StatementTree). TableDue told done xs name) (sym (drop_at items i s lt is))
+    (inl (reads name h)))
 
 -- one statement more is bound
 pub bound_more : (texts now : Texts) (done next : Spec) (all items : List StatementTree) (i : ℕ) (s : StatementTree)
@@ -50,7 +59,8 @@ pub bound_more : (texts now : Texts) (done next : Spec) (all items : List Statem
 bound_more None now done next all items i s same lt is step so_far = tt
 bound_more (Some told) now done next all items i s same lt is step so_far =
     let here : IsStep told done s (Ok next) = subst (λ (t : Texts). IfSome t (λ docs. IsStep docs done s (Ok next))) same step in
-    λ outcome rest. so_far outcome (subst (λ (xs : List StatementTree). IsBound told done xs outcome) (sym (drop_at items i s lt is)) (Ok next, here, rest))
+    λ outcome rest. so_far outcome (subst (λ (xs : List StatementTree). IsBound told done xs outcome)
+    (sym (drop_at items i s lt is)) (Ok next, here, rest))
 
 pub tables_more : (texts now : Texts) (done next : Spec) (all items : List StatementTree) (i : ℕ) (s : StatementTree)
     → now ≡ texts → i < length items → s ≡ get_or items i s → IfSome now (λ told. IsStep told done s (Ok next))
@@ -58,10 +68,12 @@ pub tables_more : (texts now : Texts) (done next : Spec) (all items : List State
 tables_more None now done next all items i s same lt is step tables = tt
 tables_more (Some told) now done next all items i s same lt is step tables =
     let here : IsStep told done s (Ok next) = subst (λ (t : Texts). IfSome t (λ docs. IsStep docs done s (Ok next))) same step in
-    λ table due. tables table (subst (λ (xs : List StatementTree). TableDue told done xs table) (sym (drop_at items i s lt is)) (inr (next, here, due)))
+    λ table due. tables table (subst (λ (xs : List StatementTree). TableDue told done xs table)
+    (sym (drop_at items i s lt is)) (inr (next, here, due)))
 
 -- all statements are bound
-pub tree_bound : (texts : Texts) (done : Spec) (tree : SpecTree) (items : List StatementTree) (i : ℕ) (result : Result Spec BindFault)
+pub tree_bound : (texts : Texts) (done : Spec) (tree : SpecTree) (items : List StatementTree) (i : ℕ)
+    (result : Result Spec BindFault)
     → length items ≤ i → SoFar texts done (drop i items) tree.statements → IsDue (limited_at_last done) result
     → IsSettled result → IfSome texts (λ told. IsSpecBound told tree result)
 tree_bound None done tree items i result le so_far due settled = tt

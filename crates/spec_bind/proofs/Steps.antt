@@ -27,28 +27,35 @@ abbrev pub Becomes : {A : Type 0} → (Result A BindFault → Type 0) → (A →
 Becomes {A} gives next made = (given : Result A BindFault) × gives given × (made ≡ and_then given (λ a. Ok (next a)))
 
 -- a part that is refused
-pub part_refused : {A : Type 0} (texts : Option Docs) (gives : Docs → Result A BindFault → Type 0) (next : A → Spec) (fault : BindFault)
+pub part_refused : {A : Type 0} (texts : Option Docs) (gives : Docs → Result A BindFault → Type 0) (next : A → Spec)
+    (fault : BindFault)
     → (IsSettled {A = A} (Err fault) → IfSome texts (λ told. gives told (Err fault)))
     → IsSettled {A = Spec} (Err fault) → IfSome texts (λ told. IsLimited (Becomes (gives told) next) (Err fault))
 part_refused None gives next fault is settled = tt
-part_refused {A} (Some told) gives next fault is settled = (Err fault, (Err fault, is (settled_fault Spec A fault settled), refl), refl)
+part_refused {A} (Some told) gives next fault is settled =
+    (Err fault, (Err fault, is (settled_fault Spec A fault settled), refl), refl)
 
 -- a part that is added, or is above a limit
-pub part_step : {A : Type 0} (texts : Option Docs) (gives : Docs → Result A BindFault → Type 0) (next : A → Spec) (a : A) (result : Result Spec BindFault)
+pub part_step : {A : Type 0} (texts : Option Docs) (gives : Docs → Result A BindFault → Type 0) (next : A → Spec)
+    (a : A) (result : Result Spec BindFault)
     → IfSome texts (λ told. gives told (Ok a)) → IsDue (limited (next a)) result
     → IsSettled result → IfSome texts (λ told. IsLimited (Becomes (gives told) next) result)
 part_step None gives next a result is due settled = tt
-part_step (Some told) gives next a result is due settled = (Ok (next a), (Ok a, is, refl), sym (due_settled (limited (next a)) result due settled))
+part_step (Some told) gives next a result is due settled =
+    (Ok (next a), (Ok a, is, refl), sym (due_settled (limited (next a)) result due settled))
 
 -- the names that a declaration is checked with are those of the relations
-pub declared_with : (texts : Option Docs) (done : Spec) (d : Declared) (taken : List (List ℕ)) (r : Result Relation BindFault) → taken ≡ relation_names done
+pub declared_with : (texts : Option Docs) (done : Spec) (d : Declared) (taken : List (List ℕ))
+    (r : Result Relation BindFault) → taken ≡ relation_names done
     → IfSome texts (λ told. IsDeclared told taken d r) → IfSome texts (λ told. IsDeclared told (relation_names done) d r)
 declared_with None done d taken r same is = tt
 declared_with (Some told) done d taken r same is = subst (λ (names : List (List ℕ)). IsDeclared told names d r) same is
 
 -- the table of a declaration that could not be read
-pub relation_table : (done : Spec) (d : Declared) (taken : List (List ℕ)) (fault : BindFault) (table : List ℕ) → taken ≡ relation_names done
-    → ((name : List ℕ) → IsReadFaultOf {A = Relation} (Err fault) name → IsTableOf taken d name) → IsReadFaultOf {A = Spec} (Err fault) table
+pub relation_table : (done : Spec) (d : Declared) (taken : List (List ℕ)) (fault : BindFault) (table : List ℕ)
+    → taken ≡ relation_names done
+    → ((name : List ℕ) → IsReadFaultOf {A = Relation} (Err fault) name → IsTableOf taken d name)
+    → IsReadFaultOf {A = Spec} (Err fault) table
     → IsTableOf (relation_names done) d table
 relation_table done d taken fault table same named h =
     subst (λ (names : List (List ℕ)). IsTableOf names d table) same (named table (same_read_fault_of Spec Relation fault table h))
@@ -61,7 +68,8 @@ statement_step (Some told) done s t result is step = subst (λ (x : StatementTre
 
 -- the table of a part that could not be read
 pub part_table : (A : Type 0) (due : List ℕ → Type 0) (fault : BindFault) (table : List ℕ)
-    → ((name : List ℕ) → IsReadFaultOf {A = A} (Err fault) name → due name) → IsReadFaultOf {A = Spec} (Err fault) table → due table
+    → ((name : List ℕ) → IsReadFaultOf {A = A} (Err fault) name → due name) → IsReadFaultOf {A = Spec} (Err fault)
+    table → due table
 part_table A due fault table named h = named table (same_read_fault_of Spec A fault table h)
 
 -- ---- tables of given pairs
@@ -78,7 +86,8 @@ steps_settled new made NoMemory steps settled = absurd settled
 -- what a table makes of relations, as a step that leaves these
 abbrev pub TableSteps : Docs → Spec → Spec → Named → Named → Result (Unit {0}) BindFault → Type 0
 TableSteps told old new relation doc result =
-    (made : Result (List Relation) BindFault) × IsOrdersMade told old.relations relation doc made × Steps new.relations made result
+    (made : Result (List Relation) BindFault) × IsOrdersMade told old.relations relation doc made × Steps
+    new.relations made result
 
 pub table_refused : (texts : Option Docs) (old new : Spec) (relation doc : Named) (fault : BindFault)
     → (IsSettled {A = Unit {0}} (Err fault) → IfSome texts (λ told. TableSteps told old new relation doc (Err fault)))
@@ -90,7 +99,8 @@ table_refused (Some told) old new relation doc fault is settled =
     let made : with_relations old step.0 ≡ Err fault = ap (with_relations old) same in
     (Err fault, (step.0, step.1, sym made), refl)
 
-pub table_step : (texts : Option Docs) (old new : Spec) (relation doc : Named) → IfSome texts (λ told. TableSteps told old new relation doc (Ok tt))
+pub table_step : (texts : Option Docs) (old new : Spec) (relation doc : Named) → IfSome texts
+    (λ told. TableSteps told old new relation doc (Ok tt))
     → IsGivenMore old new → exceeded old ≡ None → IfSome texts (λ told. IsLimited (IsTableMade told old relation doc) (Ok new))
 table_step None old new relation doc is more within = tt
 table_step (Some told) old new relation doc is more within =

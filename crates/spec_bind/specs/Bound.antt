@@ -39,7 +39,8 @@ after_order done o = with_relations done (ordered done.relations o)
 -- what a table of given pairs makes of it
 abbrev pub IsTableMade : List (List ℕ × List ℕ) → Spec → Named → Named → Result Spec BindFault → Type 0
 IsTableMade told done relation doc made =
-    (relations : Result (List Relation) BindFault) × IsOrdersMade told done.relations relation doc relations × (made ≡ with_relations done relations)
+    (relations : Result (List Relation) BindFault) × IsOrdersMade told done.relations relation doc relations ×
+    (made ≡ with_relations done relations)
 
 -- what a rule makes of it
 abbrev pub after_rule : Spec → RuleTree → Result Spec BindFault

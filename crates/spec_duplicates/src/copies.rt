@@ -1,6 +1,6 @@
-ghost use Rattle.std.specs.Prelude.{◌≡◌, [], IfOk};
+ghost use Rattle.std.specs.Prelude.{◌≡◌, true, [], is_ok, IfOk, OnOk};
 
-use copy_functions::{CopyMap, PlaceList};
+use copy_functions::{CopyFault, CopyMap, PlaceList};
 use currency_base::NoMemory;
 use std::alloc::Global;
 
@@ -22,4 +22,14 @@ fn copied_places(alloc: Global, places: &PlaceList) -> Result<PlaceList, NoMemor
         list.push(*place)?;
     }
     Ok(list)
+}
+
+/// What maps a row that is mapped already in the copy function that is copied, to a row of equal values, can only want memory.
+pub fn or_no_memory(outcome: Result<(), CopyFault>) -> Result<(), NoMemory>
+    ensures { OnOk result (is_ok outcome ≡ true) }
+{
+    match outcome {
+        Ok(()) => Ok(()),
+        Err(_) => Err(NoMemory),
+    }
 }

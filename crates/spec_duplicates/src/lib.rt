@@ -5,6 +5,6 @@ mod copies;
 mod relation;
 mod rule;
 
-pub use copies::unmapped;
+pub use copies::{or_no_memory, unmapped};
 pub use relation::{copied_attrs, copied_names, copied_rows};
 pub use rule::copied_rule;

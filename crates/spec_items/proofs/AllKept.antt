@@ -24,7 +24,8 @@ same_pairs rel (p ∷ ps) = ap (λ (qs : List Pair). p ∷ qs) (same_pairs rel p
 same_relations : (rel : ℕ) (rs : List Relation) → kept_relations all rel rs ≡ rs
 same_relations rel [] = refl
 same_relations rel (r ∷ rs) =
-    ap₂ (λ (given : List Pair) (qs : List Relation). record r { given = given } ∷ qs) (same_pairs rel r.given) (same_relations (suc rel) rs)
+    ap₂ (λ (given : List Pair) (qs : List Relation). record r { given = given } ∷ qs) (same_pairs rel r.given)
+    (same_relations (suc rel) rs)
 
 same_rules : (k : ℕ) (rules : List Rule) → kept_rules all k rules ≡ rules
 same_rules k [] = refl
@@ -37,7 +38,8 @@ same_sources k row (source ∷ sources) = ap (λ (qs : List (Option RowId)). sou
 same_copies : (k : ℕ) (copies : List CopyFunction) → kept_copies all k copies ≡ copies
 same_copies k [] = refl
 same_copies k (copy ∷ copies) =
-    ap₂ (λ (sources : List (Option RowId)) (qs : List CopyFunction). record copy { sources = sources } ∷ qs) (same_sources k 0 copy.sources)
+    ap₂ (λ (sources : List (Option RowId)) (qs : List CopyFunction). record copy { sources = sources } ∷ qs)
+    (same_sources k 0 copy.sources)
     (same_copies (suc k) copies)
 
 spec_of : List Relation → List Rule → List CopyFunction → Spec

@@ -23,7 +23,8 @@ given_in first (q ∷ rs) zero r p at here =
     let same : first ≡ first + 0 = omega arith in
     let of = subst (λ (z : Relation). IsIn z.given p) (sym (same_Some q r at)) here in
     subst (λ n. IsIn (given_items first (q ∷ rs)) (item.Given (record { 0 = n }) p)) same
-    (in_left (map (λ z. item.Given (record { 0 = first }) z) q.given) (given_items (suc first) rs) (item.Given (record { 0 = first }) p)
+    (in_left (map (λ z. item.Given (record { 0 = first }) z) q.given) (given_items (suc first) rs)
+    (item.Given (record { 0 = first }) p)
     (in_map (λ z. item.Given (record { 0 = first }) z) q.given p of))
 given_in first (q ∷ rs) (suc rel) r p at here =
     let same : suc first + rel ≡ first + suc rel = omega arith in
@@ -41,7 +42,8 @@ given_item s rel r p at here =
     let i = item.Given (record { 0 = rel }) p in
     contained (items_of s) i
     (in_left (given ++ rules) (copy_items s.relations 0 s.copies) i
-    (in_left given rules i (subst (λ n. IsIn given (item.Given (record { 0 = n }) p)) same (given_in 0 s.relations rel r p at here))))
+    (in_left given rules i (subst (λ n. IsIn given (item.Given (record { 0 = n }) p)) same
+    (given_in 0 s.relations rel r p at here))))
 
 -- ---- rules
 
@@ -53,7 +55,8 @@ rule_in first (q ∷ rules) zero rule at =
     inl (ap (λ n. item.Rule (record { 0 = n })) same)
 rule_in first (q ∷ rules) (suc k) rule at =
     let same : suc first + k ≡ first + suc k = omega arith in
-    inr (subst (λ n. IsIn (rule_items (suc first) rules) (item.Rule (record { 0 = n }))) same (rule_in (suc first) rules k rule at))
+    inr (subst (λ n. IsIn (rule_items (suc first) rules) (item.Rule (record { 0 = n }))) same
+    (rule_in (suc first) rules k rule at))
 
 pub rule_item : (s : Spec) (k : ℕ) (rule : Rule) → slice_get s.rules k ≡ Some rule
     → Contains (items_of s) (item.Rule (record { 0 = 0 + k }))
@@ -72,10 +75,12 @@ mapped_in k copy zero row source below at = absurd (omega arith)
 mapped_in k copy (suc rows) row source below at =
     let i = item.Copy (record { 0 = k }) row in
     let last = mapped_item k rows (source_at copy (record { 0 = rows })) in
-    let here : IsIn (mapped_item k row.0 (source_at copy row)) i = subst (λ o. IsIn (mapped_item k row.0 o) i) (sym at) (inl refl) in
+    let here : IsIn (mapped_item k row.0 (source_at copy row)) i = subst (λ o. IsIn (mapped_item k row.0 o) i)
+    (sym at) (inl refl) in
     ⊎_elim
     (λ (is : row.0 ≡ rows).
-    in_right (mapped_items k copy rows) last i (subst (λ n. IsIn (mapped_item k n (source_at copy (record { 0 = n }))) i) is here))
+    in_right (mapped_items k copy rows) last i
+    (subst (λ n. IsIn (mapped_item k n (source_at copy (record { 0 = n }))) i) is here))
     (λ (apart : row.0 ≡ rows → ⊥). in_left (mapped_items k copy rows) last i (mapped_in k copy rows row source (omega arith) at))
     (cases_eq row.0 rows)
 
@@ -106,7 +111,8 @@ row_below (r ∷ rows) zero ent e = omega arith
 row_below (r ∷ rows) (suc n) ent e = let below = row_below rows n ent e in omega (arith, below)
 
 pub copy_item : (s : Spec) (k : ℕ) (copy : CopyFunction) (target : Relation) (row source : RowId) (ent : ℕ)
-    → slice_get s.copies k ≡ Some copy → slice_get s.relations copy.target.0 ≡ Some target → entity_of target.rows row.0 ≡ Some ent
+    → slice_get s.copies k ≡ Some copy → slice_get s.relations copy.target.0 ≡ Some target → entity_of target.rows
+    row.0 ≡ Some ent
     → source_at copy row ≡ Some source
     → Contains (items_of s) (item.Copy (record { 0 = k }) row)
 copy_item s k copy target row source ent at at_target of_ent mapped =
@@ -116,4 +122,5 @@ copy_item s k copy target row source ent at at_target of_ent mapped =
     let below = subst (λ o. row.0 < rows_of o) (sym at_target) (row_below target.rows row.0 ent of_ent) in
     contained (items_of s) i
     (in_right (given_items 0 s.relations ++ rule_items 0 s.rules) copies i
-    (subst (λ n. IsIn copies (item.Copy (record { 0 = n }) row)) same (copy_in s.relations 0 s.copies k copy row source at below mapped)))
+    (subst (λ n. IsIn copies (item.Copy (record { 0 = n }) row)) same
+    (copy_in s.relations 0 s.copies k copy row source at below mapped)))

@@ -70,7 +70,8 @@ rules_kept s keeps more c fewer rules k rule at r at_r =
     let is = fewer (item.Rule (record { 0 = 0 + whole.0 })) (rule_item s whole.0 rule whole.1) whole.2 in
     let place = place_of (kept_rules more 0 s.rules) rule (rule_kept more 0 s.rules whole.0 rule whole.1 is) in
     subst (λ (q : Relation). SatisfiesRule q.rows (slice_index_or c rule.relation.0 []) rule) of.2
-    (rules place.0 rule place.1 (kept_relation more rule.relation.0 of.0) (relation_kept more s.relations rule.relation.0 of.0 of.1))
+    (rules place.0 rule place.1 (kept_relation more rule.relation.0 of.0)
+    (relation_kept more s.relations rule.relation.0 of.0 of.1))
 
 -- ---- copy functions
 
@@ -81,12 +82,14 @@ mapped_more : (s : Spec) (keeps more : Keeps) (k : ℕ) (copy : CopyFunction) (t
     → source_at (kept_copy more k copy) row ≡ Some source
 mapped_more s keeps more k copy target row source ent fewer at at_target of_ent mapped =
     let whole = whole_source keeps k copy row source mapped in
-    let is = fewer (item.Copy (record { 0 = k }) row) (copy_item s k copy target row source ent at at_target of_ent whole.1) whole.0 in
+    let is = fewer (item.Copy (record { 0 = k }) row) (copy_item s k copy target row source ent at at_target of_ent
+    whole.1) whole.0 in
     source_kept more k copy row source is whole.1
 
 compatible : (s : Spec) (keeps more : Keeps) (c : Rankings) (k : ℕ) (copy : CopyFunction) (target source : Relation)
     → KeepsFewer s keeps more → slice_get s.copies k ≡ Some copy → slice_get s.relations copy.target.0 ≡ Some target
-    → IsCompatible (copying (kept_copy more k copy) target source c) → IsCompatible (copying (kept_copy keeps k copy) target source c)
+    → IsCompatible (copying (kept_copy more k copy) target source c) → IsCompatible
+    (copying (kept_copy keeps k copy) target source c)
 compatible s keeps more c k copy target source fewer at at_target holds place_at place is first second rows before =
     let both : AreCopiedTogether (kept_copy more k copy) target.rows source.rows first second = record {
       first_source = rows.first_source;
@@ -94,7 +97,8 @@ compatible s keeps more c k copy target source fewer at at_target holds place_at
       first_is =
           mapped_more s keeps more k copy target first rows.first_source rows.ent fewer at at_target rows.first_of rows.first_is;
       second_is =
-          mapped_more s keeps more k copy target second rows.second_source rows.ent fewer at at_target rows.second_of rows.second_is;
+          mapped_more s keeps more k copy target second rows.second_source rows.ent fewer at at_target rows.second_of
+          rows.second_is;
       ent = rows.ent;
       first_of = rows.first_of;
       second_of = rows.second_of;
@@ -113,7 +117,8 @@ compatible_kept : (s : Spec) (keeps more : Keeps) (c : Rankings) (k : ℕ) (copy
 compatible_kept s keeps more c k copy fewer at copies target source at_target at_source =
     let of_target = whole_relation keeps s.relations copy.target.0 target at_target in
     let of_source = whole_relation keeps s.relations copy.source.0 source at_source in
-    let holds = copies k (kept_copy more k copy) (copy_kept more s.copies k copy at) (kept_relation more copy.target.0 of_target.0)
+    let holds = copies k (kept_copy more k copy) (copy_kept more s.copies k copy at)
+    (kept_relation more copy.target.0 of_target.0)
     (kept_relation more copy.source.0 of_source.0) (relation_kept more s.relations copy.target.0 of_target.0 of_target.1)
     (relation_kept more s.relations copy.source.0 of_source.0 of_source.1) in
     subst (λ (q : Relation). IsCompatible (copying (kept_copy keeps k copy) q source c)) of_target.2

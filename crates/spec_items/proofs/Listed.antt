@@ -9,7 +9,8 @@ use Rattle.spec_items.specs.declared.item.Item.TheVariants as item
 -- what was put in, and what is left to put in, stay the whole
 pub given_more : (relations : List Relation) (rel : ℕ) (r : Relation) (before now whole : List Item)
     → rel < length relations → r ≡ get_or relations rel r
-    → before ++ given_items rel (drop rel relations) ≡ whole → now ≡ before ++ map (λ p. item.Given (record { 0 = rel }) p) r.given
+    → before ++ given_items rel (drop rel relations) ≡ whole → now ≡ before
+    ++ map (λ p. item.Given (record { 0 = rel }) p) r.given
     → now ++ given_items (rel + 1) (drop (rel + 1) relations) ≡ whole
 given_more relations rel r before now whole below is so_far put =
     let rest = drop (rel + 1) relations in

@@ -19,7 +19,8 @@ kept_relation keeps rel r = record r { given = kept_pairs keeps rel r.given }
 relation_from : (keeps : Keeps) (first : ℕ) (rs : List Relation) (rel : ℕ)
     → slice_get (kept_relations keeps first rs) rel ≡ option_map (kept_relation keeps (first + rel)) (slice_get rs rel)
 relation_from keeps first [] rel = refl
-relation_from keeps first (r ∷ rs) zero = let same : first ≡ first + 0 = omega arith in ap (λ n. Some (kept_relation keeps n r)) same
+relation_from keeps first (r ∷ rs) zero = let same : first ≡ first + 0 = omega arith in ap
+    (λ n. Some (kept_relation keeps n r)) same
 relation_from keeps first (r ∷ rs) (suc rel) =
     let same : suc first + rel ≡ first + suc rel = omega arith in
     relation_from keeps (suc first) rs rel ∙ ap (λ n. option_map (kept_relation keeps n) (slice_get rs rel)) same
@@ -31,7 +32,8 @@ relation_at keeps rs rel =
     relation_from keeps 0 rs rel ∙ ap (λ n. option_map (kept_relation keeps n) (slice_get rs rel)) same
 
 -- the relation that one is kept of
-pub whole_relation : (keeps : Keeps) (rs : List Relation) (rel : ℕ) (r : Relation) → slice_get (kept_relations keeps 0 rs) rel ≡ Some r
+pub whole_relation : (keeps : Keeps) (rs : List Relation) (rel : ℕ) (r : Relation)
+    → slice_get (kept_relations keeps 0 rs) rel ≡ Some r
     → (whole : Relation) × (slice_get rs rel ≡ Some whole) × (kept_relation keeps rel whole ≡ r)
 whole_relation keeps rs rel r at = of_option (kept_relation keeps rel) (slice_get rs rel) r (sym (relation_at keeps rs rel) ∙ at)
 
@@ -53,7 +55,8 @@ whole_pair keeps rel (q ∷ ps) p at = ⊎_elim
     (λ later. let more = whole_pair keeps rel ps p later in (inr more.0, more.1))
     (in_kept (keeps (item.Given (record { 0 = rel }) q)) q (kept_pairs keeps rel ps) p at)
 
-pub pair_kept : (keeps : Keeps) (rel : ℕ) (ps : List Pair) (p : Pair) → IsIn ps p → keeps (item.Given (record { 0 = rel }) p) ≡ true
+pub pair_kept : (keeps : Keeps) (rel : ℕ) (ps : List Pair) (p : Pair) → IsIn ps p
+    → keeps (item.Given (record { 0 = rel }) p) ≡ true
     → IsIn (kept_pairs keeps rel ps) p
 pair_kept keeps rel [] p at is = absurd at
 pair_kept keeps rel (q ∷ ps) p (inl e) is =
@@ -98,7 +101,8 @@ kept_copy keeps k copy = record copy { sources = kept_sources keeps k 0 copy.sou
 copy_from : (keeps : Keeps) (first : ℕ) (copies : List CopyFunction) (k : ℕ)
     → slice_get (kept_copies keeps first copies) k ≡ option_map (kept_copy keeps (first + k)) (slice_get copies k)
 copy_from keeps first [] k = refl
-copy_from keeps first (copy ∷ copies) zero = let same : first ≡ first + 0 = omega arith in ap (λ n. Some (kept_copy keeps n copy)) same
+copy_from keeps first (copy ∷ copies) zero = let same : first ≡ first + 0 = omega arith in ap
+    (λ n. Some (kept_copy keeps n copy)) same
 copy_from keeps first (copy ∷ copies) (suc k) =
     let same : suc first + k ≡ first + suc k = omega arith in
     copy_from keeps (suc first) copies k ∙ ap (λ n. option_map (kept_copy keeps n) (slice_get copies k)) same
@@ -148,12 +152,14 @@ some_if : (test : Bool) (o : Option RowId) (x : RowId) → (if test then o else 
 some_if true o x e = (refl, e)
 some_if false o x e = absurd (none-some x e)
 
-pub whole_source : (keeps : Keeps) (k : ℕ) (copy : CopyFunction) (row source : RowId) → source_at (kept_copy keeps k copy) row ≡ Some source
+pub whole_source : (keeps : Keeps) (k : ℕ) (copy : CopyFunction) (row source : RowId)
+    → source_at (kept_copy keeps k copy) row ≡ Some source
     → (keeps (item.Copy (record { 0 = k }) row) ≡ true) × (source_at copy row ≡ Some source)
 whole_source keeps k copy row source at =
     some_if (keeps (item.Copy (record { 0 = k }) row)) (source_at copy row) source (sym (kept_source keeps k copy row) ∙ at)
 
-pub source_kept : (keeps : Keeps) (k : ℕ) (copy : CopyFunction) (row source : RowId) → keeps (item.Copy (record { 0 = k }) row) ≡ true
+pub source_kept : (keeps : Keeps) (k : ℕ) (copy : CopyFunction) (row source : RowId)
+    → keeps (item.Copy (record { 0 = k }) row) ≡ true
     → source_at copy row ≡ Some source → source_at (kept_copy keeps k copy) row ≡ Some source
 source_kept keeps k copy row source is at =
     kept_source keeps k copy row ∙ ap (λ test. if test then source_at copy row else None) is ∙ at

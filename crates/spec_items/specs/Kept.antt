@@ -34,12 +34,14 @@ kept_rules keeps k (rule ∷ rules) =
 abbrev pub kept_sources : Keeps → ℕ → ℕ → List (Option RowId) → List (Option RowId)
 kept_sources keeps copy row [] = []
 kept_sources keeps copy row (source ∷ sources) =
-    (if keeps (item.Copy (record { 0 = copy }) (record { 0 = row })) then source else None) ∷ kept_sources keeps copy (suc row) sources
+    (if keeps (item.Copy (record { 0 = copy }) (record { 0 = row })) then source else None) ∷ kept_sources keeps copy
+    (suc row) sources
 
 -- copy functions, of which the first has this number
 abbrev pub kept_copies : Keeps → ℕ → List CopyFunction → List CopyFunction
 kept_copies keeps k [] = []
-kept_copies keeps k (copy ∷ copies) = record copy { sources = kept_sources keeps k 0 copy.sources } ∷ kept_copies keeps (suc k) copies
+kept_copies keeps k (copy ∷ copies) = record copy { sources = kept_sources keeps k 0 copy.sources }
+    ∷ kept_copies keeps (suc k) copies
 
 -- the same relations and rows, and the items that are kept
 abbrev pub kept : Keeps → Spec → Spec

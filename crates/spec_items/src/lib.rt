@@ -1,4 +1,5 @@
-//! The items of a specification: its given pairs, its rules and its copied rows, which an explanation names and a part may leave out.
+//! The items of a specification: its given pairs, its rules and its copied rows, which an explanation names and a part
+//! may leave out.
 #![tactic(auto)]
 
 mod item;

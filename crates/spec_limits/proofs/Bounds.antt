@@ -11,10 +11,12 @@ abbrev pub of_relation : Relation → ℕ
 of_relation r = length r.attrs * entity_pairs r.rows
 
 -- the variables of a relation
-pub product : (r : Relation) (pairs attrs : ℕ) (rows : List Row) → rows ≡ r.rows → pairs ≡ entity_pairs rows → attrs ≡ length r.attrs
+pub product : (r : Relation) (pairs attrs : ℕ) (rows : List Row) → rows ≡ r.rows → pairs ≡ entity_pairs rows
+    → attrs ≡ length r.attrs
     → pairs * attrs ≡ length r.attrs * entity_pairs r.rows
 product r pairs attrs rows are is many =
-    ap (λ p. p * attrs) (is ∙ ap entity_pairs are) ∙ ap (λ n. entity_pairs r.rows * n) many ∙ mul_comm (entity_pairs r.rows) (length r.attrs)
+    ap (λ p. p * attrs) (is ∙ ap entity_pairs are) ∙ ap (λ n. entity_pairs r.rows * n) many
+    ∙ mul_comm (entity_pairs r.rows) (length r.attrs)
 
 -- no relation
 pub none_yet : (relations : List Relation) → 4000000 + order_variables (take 0 relations) ≡ 4000000

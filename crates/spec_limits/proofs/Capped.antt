@@ -9,7 +9,8 @@ use Rattle.spec_limits.proofs.Leaving.{left_none}
 -- of a number of 32 bits as much is left
 pub capped_left : (left n capped : ℕ) → left < 2 ^ 32 → IsCapped n capped → left_of left capped ≡ left_of left n
 capped_left left n capped few (inl same) = ap (left_of left) same
-capped_left left n capped few (inr above) = left_none left capped (omega (arith, above.1)) ∙ sym (left_none left n (omega (arith, above.0)))
+capped_left left n capped few (inr above) = left_none left capped (omega (arith, above.1))
+    ∙ sym (left_none left n (omega (arith, above.0)))
 
 -- what 64 bits hold of a number
 pub saturated : (n capped : ℕ) → capped ≡ min n (2 ^ 64 - 1) → IsCapped n capped
@@ -38,7 +39,8 @@ third n capped is = elim (cases_lt n (2 ^ 64)) [
 ]
 
 -- two for each three rows
-pub three_capped : (rows pairs threes : ℕ) → pairs ≡ min (rows * (rows - 1)) (2 ^ 64 - 1) → threes ≡ min (pairs * (rows - 2)) (2 ^ 64 - 1)
+pub three_capped : (rows pairs threes : ℕ) → pairs ≡ min (rows * (rows - 1)) (2 ^ 64 - 1) → threes ≡ min
+    (pairs * (rows - 2)) (2 ^ 64 - 1)
     → IsCapped (two_for_each_three rows) (threes / 3)
 unfolding two_for_each_three
 three_capped rows pairs threes are many = elim (cases_lt 2 rows) [
@@ -55,7 +57,8 @@ three_capped rows pairs threes are many = elim (cases_lt 2 rows) [
 
 -- a multiple
 pub multiple : (n capped k result : ℕ) → IsCapped n capped → result ≡ min (capped * k) (2 ^ 64 - 1) → IsCapped (k * n) result
-multiple n capped k result (inl same) is = saturated (k * n) result (is ∙ ap (λ m. min m (2 ^ 64 - 1)) (ap (λ m. m * k) same ∙ mul_comm n k))
+multiple n capped k result (inl same) is = saturated (k * n) result
+    (is ∙ ap (λ m. min m (2 ^ 64 - 1)) (ap (λ m. m * k) same ∙ mul_comm n k))
 multiple n capped zero result (inr above) is = inl (is ∙ omega arith)
 multiple n capped (suc k) result (inr above) is =
     let some : 1 ≤ suc k = omega arith in
@@ -65,5 +68,6 @@ multiple n capped (suc k) result (inr above) is =
     inr (omega (arith, above.0), omega (arith, above.1))
 
 -- what is left after the number that is told is left after the number
-pub left_after_capped : (left n capped : ℕ) (rest : Option ℕ) → left < 2 ^ 32 → IsCapped n capped → rest ≡ left_of left capped → rest ≡ left_of left n
+pub left_after_capped : (left n capped : ℕ) (rest : Option ℕ) → left < 2 ^ 32 → IsCapped n capped
+    → rest ≡ left_of left capped → rest ≡ left_of left n
 left_after_capped left n capped rest few is left' = left' ∙ capped_left left n capped few is

@@ -68,7 +68,8 @@ same_least a b c d e f a' b' c' d' e' f' p q r s t u = cc
 -- with one more relation
 relation_more : (s : Spec) (r : Relation) → exceeded s ≡ None
     → exceeded (record s { relations = s.relations ++ r ∷ [] })
-    ≡ least (ltb 64 (length s.relations + 1)) (ltb 32 (length r.attrs)) (ltb 100000 (rows_together s.relations + length r.rows)) (is_crowded r.rows) false false
+    ≡ least (ltb 64 (length s.relations + 1)) (ltb 32 (length r.attrs))
+    (ltb 100000 (rows_together s.relations + length r.rows)) (is_crowded r.rows) false false
 unfolding exceeded
 relation_more s r within =
     let f = none_of _ _ _ _ _ _ within in
@@ -81,7 +82,8 @@ relation_more s r within =
 
 -- with one more rule
 rule_more : (s : Spec) (rule : Rule) → exceeded s ≡ None
-    → exceeded (record s { rules = s.rules ++ rule ∷ [] }) ≡ least false false false false (ltb 256 (length s.rules + 1) || is_long rule) false
+    → exceeded (record s { rules = s.rules ++ rule ∷ [] }) ≡ least false false false false
+    (ltb 256 (length s.rules + 1) || is_long rule) false
 unfolding exceeded
 rule_more s rule within =
     let f = none_of _ _ _ _ _ _ within in
@@ -95,7 +97,8 @@ copy_more : (s : Spec) (copy : CopyFunction) → exceeded s ≡ None
 unfolding exceeded
 copy_more s copy within =
     let f = none_of _ _ _ _ _ _ within in
-    same_least _ _ _ _ _ _ _ _ _ _ _ _ f.relations f.attrs f.rows f.of_one f.rules (ap (ltb 64) (length-append s.copies (copy ∷ [])))
+    same_least _ _ _ _ _ _ _ _ _ _ _ _ f.relations f.attrs f.rows f.of_one f.rules
+    (ap (ltb 64) (length-append s.copies (copy ∷ [])))
 
 least_4 : (a b c d e f : Bool) → a ≡ true → least a b c d e f ≡ Some 4
 least_4 a b c d e f p = rw p refl
@@ -109,38 +112,44 @@ least_6 a b c d e f p q r = rw (p, q, r) refl
 least_7 : (a b c d e f : Bool) → a ≡ false → b ≡ false → c ≡ false → d ≡ true → least a b c d e f ≡ Some 7
 least_7 a b c d e f p q r s = rw (p, q, r, s) refl
 
-least_none : (a b c d e f : Bool) → a ≡ false → b ≡ false → c ≡ false → d ≡ false → e ≡ false → f ≡ false → least a b c d e f ≡ None
+least_none : (a b c d e f : Bool) → a ≡ false → b ≡ false → c ≡ false → d ≡ false → e ≡ false → f ≡ false
+    → least a b c d e f ≡ None
 least_none a b c d e f p q r s t u = rw (p, q, r, s, t, u) refl
 
 -- the limits that one more relation exceeds
 pub too_many_relations : (s : Spec) (r : Relation) → exceeded s ≡ None → 64 ≤ length s.relations
     → exceeded (record s { relations = s.relations ++ r ∷ [] }) ≡ Some 4
-too_many_relations s r within many = relation_more s r within ∙ least_4 _ _ _ _ false false (lt-ltb 64 (length s.relations + 1) (omega arith))
+too_many_relations s r within many = relation_more s r within ∙ least_4 _ _ _ _ false false
+    (lt-ltb 64 (length s.relations + 1) (omega arith))
 
 pub too_many_attrs : (s : Spec) (r : Relation) → exceeded s ≡ None → length s.relations < 64 → 32 < length r.attrs
     → exceeded (record s { relations = s.relations ++ r ∷ [] }) ≡ Some 5
 too_many_attrs s r within few many =
-    relation_more s r within ∙ least_5 _ _ _ _ false false (le-ltb 64 (length s.relations + 1) (omega arith)) (lt-ltb 32 (length r.attrs) many)
+    relation_more s r within ∙ least_5 _ _ _ _ false false (le-ltb 64 (length s.relations + 1) (omega arith))
+    (lt-ltb 32 (length r.attrs) many)
 
 pub too_many_rows : (s : Spec) (r : Relation) → exceeded s ≡ None → length s.relations < 64 → length r.attrs ≤ 32
     → 100000 < rows_together s.relations + length r.rows
     → exceeded (record s { relations = s.relations ++ r ∷ [] }) ≡ Some 6
 too_many_rows s r within few narrow many =
-    relation_more s r within ∙ least_6 _ _ _ _ false false (le-ltb 64 (length s.relations + 1) (omega arith)) (le-ltb 32 (length r.attrs) narrow)
+    relation_more s r within ∙ least_6 _ _ _ _ false false (le-ltb 64 (length s.relations + 1) (omega arith))
+    (le-ltb 32 (length r.attrs) narrow)
     (lt-ltb 100000 (rows_together s.relations + length r.rows) many)
 
 pub too_many_of_one : (s : Spec) (r : Relation) → exceeded s ≡ None → length s.relations < 64 → length r.attrs ≤ 32
     → rows_together s.relations + length r.rows ≤ 100000 → is_crowded r.rows ≡ true
     → exceeded (record s { relations = s.relations ++ r ∷ [] }) ≡ Some 7
 too_many_of_one s r within few narrow short many =
-    relation_more s r within ∙ least_7 _ _ _ _ false false (le-ltb 64 (length s.relations + 1) (omega arith)) (le-ltb 32 (length r.attrs) narrow)
+    relation_more s r within ∙ least_7 _ _ _ _ false false (le-ltb 64 (length s.relations + 1) (omega arith))
+    (le-ltb 32 (length r.attrs) narrow)
     (le-ltb 100000 (rows_together s.relations + length r.rows) short) many
 
 pub relation_within : (s : Spec) (r : Relation) → exceeded s ≡ None → length s.relations < 64 → length r.attrs ≤ 32
     → rows_together s.relations + length r.rows ≤ 100000 → is_crowded r.rows ≡ false
     → exceeded (record s { relations = s.relations ++ r ∷ [] }) ≡ None
 relation_within s r within few narrow short spread =
-    relation_more s r within ∙ least_none _ _ _ _ false false (le-ltb 64 (length s.relations + 1) (omega arith)) (le-ltb 32 (length r.attrs) narrow)
+    relation_more s r within ∙ least_none _ _ _ _ false false (le-ltb 64 (length s.relations + 1) (omega arith))
+    (le-ltb 32 (length r.attrs) narrow)
     (le-ltb 100000 (rows_together s.relations + length r.rows) short) spread refl refl
 
 -- the rows of a specification within all limits
@@ -152,18 +161,21 @@ few_rows s within = ltb-false 100000 (rows_together s.relations) (none_of _ _ _ 
 pub too_many_rules : (s : Spec) (rule : Rule) → exceeded s ≡ None → 256 ≤ length s.rules
     → exceeded (record s { rules = s.rules ++ rule ∷ [] }) ≡ Some 8
 too_many_rules s rule within many =
-    rule_more s rule within ∙ ap (λ b. least false false false false (b || is_long rule) false) (lt-ltb 256 (length s.rules + 1) (omega arith))
+    rule_more s rule within ∙ ap (λ b. least false false false false (b || is_long rule) false)
+    (lt-ltb 256 (length s.rules + 1) (omega arith))
 
 pub too_long_rule : (s : Spec) (rule : Rule) → exceeded s ≡ None → length s.rules < 256 → is_long rule ≡ true
     → exceeded (record s { rules = s.rules ++ rule ∷ [] }) ≡ Some 8
 too_long_rule s rule within few long =
-    rule_more s rule within ∙ ap (λ b. least false false false false (b || is_long rule) false) (le-ltb 256 (length s.rules + 1) (omega arith))
+    rule_more s rule within ∙ ap (λ b. least false false false false (b || is_long rule) false)
+    (le-ltb 256 (length s.rules + 1) (omega arith))
     ∙ ap (λ b. least false false false false b false) long
 
 pub rule_within : (s : Spec) (rule : Rule) → exceeded s ≡ None → length s.rules < 256 → is_long rule ≡ false
     → exceeded (record s { rules = s.rules ++ rule ∷ [] }) ≡ None
 rule_within s rule within few short =
-    rule_more s rule within ∙ ap (λ b. least false false false false (b || is_long rule) false) (le-ltb 256 (length s.rules + 1) (omega arith))
+    rule_more s rule within ∙ ap (λ b. least false false false false (b || is_long rule) false)
+    (le-ltb 256 (length s.rules + 1) (omega arith))
     ∙ ap (λ b. least false false false false b false) short
 
 -- the limit that one more copy function exceeds

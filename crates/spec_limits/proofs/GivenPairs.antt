@@ -27,7 +27,8 @@ sum_set f xs i x y at is =
 abbrev pub giving : List Relation → ℕ → Relation → List Pair → List Relation
 giving relations rel r given = slice_set relations rel (record r { given = given })
 
-pub rows_together_given : (relations : List Relation) (rel : ℕ) (r : Relation) (given : List Pair) → slice_get relations rel ≡ Some r
+pub rows_together_given : (relations : List Relation) (rel : ℕ) (r : Relation) (given : List Pair)
+    → slice_get relations rel ≡ Some r
     → rows_together (giving relations rel r given) ≡ rows_together relations
 rows_together_given relations rel r given at =
     sum_set (λ (q : Relation). length q.rows) relations rel r (record r { given = given }) at refl
@@ -43,7 +44,8 @@ exceeded_given s rel r given at =
     (any_set (λ (q : Relation). is_crowded q.rows) s.relations rel r (record r { given = given }) at refl)
     refl refl
 
-pub order_variables_given : (relations : List Relation) (rel : ℕ) (r : Relation) (given : List Pair) → slice_get relations rel ≡ Some r
+pub order_variables_given : (relations : List Relation) (rel : ℕ) (r : Relation) (given : List Pair)
+    → slice_get relations rel ≡ Some r
     → order_variables (giving relations rel r given) ≡ order_variables relations
 unfolding order_variables
 order_variables_given relations rel r given at =

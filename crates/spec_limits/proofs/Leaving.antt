@@ -29,7 +29,8 @@ above bound n is = elim (cases_lt bound n) [
 pub left_and : (bound n rest : ℕ) → left_of bound n ≡ Some rest → rest + n ≡ bound
 left_and bound n rest is = elim (cases_lt bound n) [
   | inl lt ↦ absurd (none-some rest (sym (left_none bound n lt) ∙ is))
-  | inr le ↦ (let same : bound - n ≡ rest = same_Some (bound - n) rest (sym (left_some bound n (bound - n) (omega arith)) ∙ is) in omega arith)
+  | inr le ↦ (let same : bound - n ≡ rest = same_Some (bound - n) rest
+      (sym (left_some bound n (bound - n) (omega arith)) ∙ is) in omega arith)
 ]
 
 -- ---- over a list, of which some items are counted
@@ -47,7 +48,13 @@ pub stops : {X : Type 0} (f : X → ℕ) (xs : List X) (i : ℕ) (x : X) (bound 
     → left + sum_by f (take i xs) ≡ bound → left_of left (f x) ≡ None → left_of bound (sum_by f xs) ≡ None
 stops f xs i x bound left lt is so_far none =
     let here : f (get_or xs i x) ≡ f x = ap f (sym is) in
-    left_none bound (sum_by f xs) (omega (arith, sum_by_more f xs i x lt, sum_by-take-le f xs (i + 1), here, above left (f x) none))
+    left_none bound (sum_by f xs) (omega (
+      arith,
+      sum_by_more f xs i x lt,
+      sum_by-take-le f xs (i + 1),
+      here,
+      above left (f x) none,
+    ))
 
 pub ends : {X : Type 0} (f : X → ℕ) (xs : List X) (i bound left : ℕ) → length xs ≤ i → left + sum_by f (take i xs) ≡ bound
     → left_of bound (sum_by f xs) ≡ Some left
@@ -59,7 +66,8 @@ ends f xs i bound left all so_far =
 pub both : (bound a b rest : ℕ) → left_of bound a ≡ Some rest → left_of bound (a + b) ≡ left_of rest b
 both bound a b rest is = elim (cases_lt rest b) [
   | inl lt ↦ left_none bound (a + b) (omega (arith, left_and bound a rest is)) ∙ sym (left_none rest b lt)
-  | inr le ↦ left_some bound (a + b) (rest - b) (omega (arith, left_and bound a rest is)) ∙ sym (left_some rest b (rest - b) (omega arith))
+  | inr le ↦ left_some bound (a + b) (rest - b) (omega (arith, left_and bound a rest is))
+      ∙ sym (left_some rest b (rest - b) (omega arith))
 ]
 
 pub first_above : (bound a b : ℕ) → left_of bound a ≡ None → left_of bound (a + b) ≡ None

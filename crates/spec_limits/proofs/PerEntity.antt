@@ -13,24 +13,29 @@ use Rattle.spec_limits.specs.Instances.{sum_by_entity}
 use Rattle.spec_limits.specs.Limits.{rows_of}
 
 -- a sum over the places of a list
-pub sum_by-places : {X : Type 0} (f : ℕ → ℕ) (g : X → ℕ) (first : ℕ) (xs : List X) → ((i : ℕ) (x : X) → slice_get xs i ≡ Some x → f (first + i) ≡ g x)
+pub sum_by-places : {X : Type 0} (f : ℕ → ℕ) (g : X → ℕ) (first : ℕ) (xs : List X) →
+    ((i : ℕ) (x : X) → slice_get xs i ≡ Some x → f (first + i) ≡ g x)
     → sum_by f (range_with_len first (length xs)) ≡ sum_by g xs
 sum_by-places f g first [] each = refl
 sum_by-places f g first (x ∷ xs) each =
     let at : first + 0 ≡ first = omega arith in
     let here : f first ≡ g x = ap f (sym at) ∙ each 0 x refl in
-    let rest = sum_by-places f g (first + 1) xs (λ i y is. let moved : first + 1 + i ≡ first + suc i = omega arith in ap f moved ∙ each (suc i) y is) in
-    sum_by-cons f first (range_with_len (first + 1) (length xs)) ∙ ap (λ n. n + sum_by f (range_with_len (first + 1) (length xs))) here
+    let rest = sum_by-places f g (first + 1) xs (λ i y is. let moved : first + 1 + i ≡ first + suc i =
+    omega arith in ap f moved ∙ each (suc i) y is) in
+    sum_by-cons f first (range_with_len (first + 1) (length xs))
+    ∙ ap (λ n. n + sum_by f (range_with_len (first + 1) (length xs))) here
     ∙ ap (λ n. g x + n) rest ∙ sym (sum_by-cons g x xs)
 
 -- as many rows of an entity as its list has
 pub length-members_from : (first : ℕ) (rows : List Row) (ent : ℕ) → length (members_from first rows ent) ≡ rows_of ent rows
 length-members_from first [] ent = refl
 length-members_from first (row ∷ rows) ent =
-    go (row.entity.0 == ent) (length-members_from (first + 1) rows ent) ∙ sym (sum_by-cons (λ (q : Row). cond (q.entity.0 == ent) 1 0) row rows)
+    go (row.entity.0 == ent) (length-members_from (first + 1) rows ent)
+    ∙ sym (sum_by-cons (λ (q : Row). cond (q.entity.0 == ent) 1 0) row rows)
   where
     go : (b : Bool) → length (members_from (first + 1) rows ent) ≡ rows_of ent rows
-        → length (cond b (record { 0 = first } ∷ members_from (first + 1) rows ent) (members_from (first + 1) rows ent)) ≡ cond b 1 0 + rows_of ent rows
+        → length (cond b (record { 0 = first } ∷ members_from (first + 1) rows ent)
+        (members_from (first + 1) rows ent)) ≡ cond b 1 0 + rows_of ent rows
     go true rest = omega (arith, rest)
     go false rest = omega (arith, rest)
 
@@ -65,12 +70,15 @@ count_by-members p first (row ∷ rows) ent only =
 
     go : (((row.entity.0 == ent) ≡ true) × (row.entity.0 ≡ ent)) ⊎ (((row.entity.0 == ent) ≡ false) × (row.entity.0 ≢ ent))
         → cond (p (record { 0 = first })) 1 0 + count_by p (members_from (first + 1) rows ent)
-        ≡ count_by p (cond (row.entity.0 == ent) (record { 0 = first } ∷ members_from (first + 1) rows ent) (members_from (first + 1) rows ent))
-    go (inl h) = rw h.0 (sym (sum_by-cons (λ (m : RowId). cond (p m) 1 0) (record { 0 = first }) (members_from (first + 1) rows ent)))
+        ≡ count_by p (cond (row.entity.0 == ent) (record { 0 = first } ∷ members_from (first + 1) rows ent)
+        (members_from (first + 1) rows ent))
+    go (inl h) = rw h.0 (sym (sum_by-cons (λ (m : RowId). cond (p m) 1 0) (record { 0 = first })
+        (members_from (first + 1) rows ent)))
     go (inr h) =
         let at : first + 0 ≡ first = omega arith in
         let here : ◌≡◌ {A = ℕ} (cond (p (record { 0 = first })) 1 0) 0 =
-        none (p (record { 0 = first })) (λ passes. h.1 (same_Some row.entity.0 ent (only 0 (ap (λ (n : ℕ). p (record { 0 = n })) at ∙ passes)))) in
+        none (p (record { 0 = first }))
+        (λ passes. h.1 (same_Some row.entity.0 ent (only 0 (ap (λ (n : ℕ). p (record { 0 = n })) at ∙ passes)))) in
         rw h.0 (ap (λ k. k + count_by p (members_from (first + 1) rows ent)) here ∙ omega arith)
 
 -- a multiple of a sum

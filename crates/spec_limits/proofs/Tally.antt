@@ -28,10 +28,12 @@ one_other row ent not = ap (λ b. cond b 1 0) (ne_eqb row.entity.0 ent not)
 pub rows_more : (ent : ℕ) (rows : List Row) (i : ℕ) (row : Row) → i < length rows → row ≡ get_or rows i row
     → rows_of ent (take (i + 1) rows) ≡ rows_of ent (take i rows) + one_if row ent
 rows_more ent rows i row lt is =
-    sum_by_more (λ (q : Row). cond (eqb q.entity.0 ent) 1 0) rows i row lt ∙ ap (λ q. rows_of ent (take i rows) + one_if q ent) (sym is)
+    sum_by_more (λ (q : Row). cond (eqb q.entity.0 ent) 1 0) rows i row lt
+    ∙ ap (λ q. rows_of ent (take i rows) + one_if q ent) (sym is)
 
 -- no row is counted yet
-pub counts_none : (entities : ℕ) (counts : List ℕ) (rows : List Row) → counts ≡ replicate entities 0 → AreCounts entities counts (take 0 rows)
+pub counts_none : (entities : ℕ) (counts : List ℕ) (rows : List Row) → counts ≡ replicate entities 0
+    → AreCounts entities counts (take 0 rows)
 counts_none entities counts rows are = record {
   one_each = ap length are ∙ length-replicate entities 0;
   each = λ ent lt. ap (λ cs. get_or cs ent 0) are ∙ get_or-replicate entities ent 0 0 lt;
@@ -41,9 +43,11 @@ add_zero : (n : ℕ) → n + 0 ≡ n
 add_zero n = omega arith
 
 -- one more row is counted
-pub counts_more : (entities : ℕ) (counts counts' : List ℕ) (rows : List Row) (i : ℕ) (row : Row) (before : ℕ) → AreCounts entities counts (take i rows)
+pub counts_more : (entities : ℕ) (counts counts' : List ℕ) (rows : List Row) (i : ℕ) (row : Row) (before : ℕ)
+    → AreCounts entities counts (take i rows)
     → i < length rows → row ≡ get_or rows i row → row.entity.0 < entities
-    → before ≡ get_or counts row.entity.0 0 → counts' ≡ set counts row.entity.0 (before + 1) → AreCounts entities counts' (take (i + 1) rows)
+    → before ≡ get_or counts row.entity.0 0 → counts' ≡ set counts row.entity.0 (before + 1) → AreCounts entities
+    counts' (take (i + 1) rows)
 counts_more entities counts counts' rows i row before are lt is few was now = record {
   one_each = ap length now ∙ length-set counts row.entity.0 (before + 1) ∙ are.one_each;
   each = λ ent within. elim (cases_eq row.entity.0 ent) [

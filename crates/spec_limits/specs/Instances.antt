@@ -31,7 +31,8 @@ is_one_entity a b = false
 
 -- two different rows of one entity
 abbrev pub are_of_one_entity : List Row → RowId → RowId → Bool
-are_of_one_entity rows first second = not (first.0 == second.0) && is_one_entity (entity_of rows first.0) (entity_of rows second.0)
+are_of_one_entity rows first second = not (first.0 == second.0) && is_one_entity (entity_of rows first.0)
+    (entity_of rows second.0)
 
 -- both source rows are there, and they are different rows of one entity
 abbrev pub are_sources_of_one : List Row → Option RowId → Option RowId → Bool
@@ -46,11 +47,13 @@ is_copy_instance copy target_rows source_rows first second =
 -- how many rows are the second of such two rows, with this row as the first
 unfoldable pub copy_partners : CopyFunction → List Row → List Row → ℕ → ℕ
 copy_partners copy target_rows source_rows first =
-    count_by (λ second. is_copy_instance copy target_rows source_rows (record { 0 = first }) (record { 0 = second })) (range_with_len 0 (length target_rows))
+    count_by (λ second. is_copy_instance copy target_rows source_rows (record { 0 = first }) (record { 0 = second }))
+    (range_with_len 0 (length target_rows))
 
 -- how many ordered pairs of rows are two such rows
 unfoldable pub copy_pairs : CopyFunction → List Row → List Row → ℕ
-copy_pairs copy target_rows source_rows = sum_by (copy_partners copy target_rows source_rows) (range_with_len 0 (length target_rows))
+copy_pairs copy target_rows source_rows = sum_by (copy_partners copy target_rows source_rows)
+    (range_with_len 0 (length target_rows))
 
 -- the rows of the relation of that id
 abbrev pub rows_at : List Relation → RelId → List Row
@@ -58,7 +61,8 @@ rows_at relations rel = option_map_or (λ r. r.rows) (slice_get relations rel.0)
 
 -- of a copy function: each of these pairs at each of its places
 unfoldable pub copy_instances : List Relation → CopyFunction → ℕ
-copy_instances relations copy = length copy.places * copy_pairs copy (rows_at relations copy.target) (rows_at relations copy.source)
+copy_instances relations copy = length copy.places * copy_pairs copy (rows_at relations copy.target)
+    (rows_at relations copy.source)
 
 -- ---- orders
 
@@ -74,7 +78,8 @@ order_instances r = length r.attrs * sum_by_entity two_for_each_three r
 
 -- the instances of rules, of copy functions and of orders
 unfoldable pub instances : Spec → ℕ
-instances s = sum_by (rule_instances s.relations) s.rules + sum_by (copy_instances s.relations) s.copies + sum_by order_instances s.relations
+instances s = sum_by (rule_instances s.relations) s.rules + sum_by (copy_instances s.relations) s.copies + sum_by
+    order_instances s.relations
 
 -- limit 11, where there are more than 8000000 instances
 unfoldable pub too_many_instances : Spec → Option ℕ

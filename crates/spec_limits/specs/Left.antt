@@ -15,4 +15,5 @@ IsCapped n capped = (capped ≡ n) ⊎ ((2 ^ 32 ≤ n) × (2 ^ 32 ≤ capped))
 -- for each relation the rows of each of its entities
 pub record AreEntityLists (relations : List Relation) (lists : List (List (List RowId))) : Type 0 where
   pub one_each : length lists ≡ length relations
-  pub each : (rel : ℕ) (r : Relation) → slice_get relations rel ≡ Some r → AreEntityRows r.rows (length r.entities) (slice_index_or lists rel [])
+  pub each : (rel : ℕ) (r : Relation) → slice_get relations rel ≡ Some r → AreEntityRows r.rows (length r.entities)
+      (slice_index_or lists rel [])

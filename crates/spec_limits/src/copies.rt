@@ -67,7 +67,8 @@ fn left_by_first(
     first: RowId,
     others: &[RowId],
 ) -> Option<u32>
-    ensures { result ≡ left_of left (length copy.now.places * count_by (is_copy_instance copy.now target.now source.now first) others.now) }
+    ensures { result ≡ left_of left
+        (length copy.now.places * count_by (is_copy_instance copy.now target.now source.now first) others.now) }
 {
     let partners = copy_partners(copy, target, source, first, others);
     let places = copy.places().len() as u64;

@@ -10,6 +10,7 @@ pub fn given_pairs_change_no_limit()
         → exceeded (record s { relations = slice_set s.relations rel (record r { given = given }) }) ≡ exceeded s }
     ensures rows { (relations : List Relation) (rel : ℕ) (r : Relation) (given : List Pair) → slice_get relations rel ≡ Some r
         → rows_together (slice_set relations rel (record r { given = given })) ≡ rows_together relations }
-    ensures variables { (relations : List Relation) (rel : ℕ) (r : Relation) (given : List Pair) → slice_get relations rel ≡ Some r
+    ensures variables { (relations : List Relation) (rel : ℕ) (r : Relation) (given : List Pair)
+        → slice_get relations rel ≡ Some r
         → order_variables (slice_set relations rel (record r { given = given })) ≡ order_variables relations }
 {}

@@ -24,7 +24,12 @@ copy_beside rs more copy h =
 -- more relations
 pub copies_beside : (rs more : List Relation) (copies : List CopyFunction) → AreCopies rs copies → AreCopies (rs ++ more) copies
 copies_beside rs more copies h =
-    record { few = h.few; each = All-weaker (IsCopyAmong rs) (IsCopyAmong (rs ++ more)) (copy_beside rs more) copies h.each; names = h.names }
+    record {
+      few = h.few;
+      each = All-weaker (IsCopyAmong rs) (IsCopyAmong (rs ++ more)) (copy_beside rs more) copies
+          h.each;
+      names = h.names;
+    }
 
 -- a relation with the same attributes and rows
 record IsAlike (r other : Relation) : Type 0 where
@@ -37,7 +42,8 @@ record IsFoundAlike (rs : List Relation) (at : ℕ) (r : Relation) : Type 0 wher
   pub is_other : slice_get rs at ≡ Some other
   pub alike : IsAlike r other
 
-found_alike : (rs : List Relation) (i at : ℕ) (r q : Relation) (given : List Pair) → slice_get rs i ≡ Some r → slice_get rs at ≡ Some q
+found_alike : (rs : List Relation) (i at : ℕ) (r q : Relation) (given : List Pair) → slice_get rs i ≡ Some r
+    → slice_get rs at ≡ Some q
     → IsFoundAlike (slice_set rs i (record r { given = given })) at q
 found_alike rs i at r q given at_r at_q =
     ⊎_elim
@@ -45,7 +51,8 @@ found_alike rs i at r q given at_r at_q =
     let same : r ≡ q = same_Some r q (sym at_r ∙ (sym (ap (slice_get rs) is) ∙ at_q)) in
     record {
       other = record r { given = given };
-      is_other = ap (slice_get (slice_set rs i (record r { given = given }))) is ∙ get_set_same rs i r (record r { given = given }) at_r;
+      is_other = ap (slice_get (slice_set rs i (record r { given = given }))) is ∙ get_set_same rs i r
+          (record r { given = given }) at_r;
       alike = record { attrs = ap (λ (x : Relation). kinds_of x) same; rows = ap (λ (x : Relation). x.rows) same };
     })
     (λ (apart : at ≡ i → ⊥).
@@ -75,16 +82,20 @@ copy_given rs i r given at copy h =
       source = s.other;
       is_target = t.is_other;
       is_source = s.is_other;
-      places = All-weaker (IsPlaceBetween h.target h.source) (IsPlaceBetween t.other s.other) (place_alike h.target h.source t.other s.other t.alike s.alike) copy.places h.places;
-      copied = subst (λ rows. IsCopied copy rows s.other.rows) (sym t.alike.rows) (subst (λ rows. IsCopied copy h.target.rows rows) (sym s.alike.rows) h.copied);
+      places = All-weaker (IsPlaceBetween h.target h.source) (IsPlaceBetween t.other s.other)
+          (place_alike h.target h.source t.other s.other t.alike s.alike) copy.places h.places;
+      copied = subst (λ rows. IsCopied copy rows s.other.rows) (sym t.alike.rows)
+          (subst (λ rows. IsCopied copy h.target.rows rows) (sym s.alike.rows) h.copied);
     }
 
 -- other given pairs at one relation
-pub copies_given : (rs : List Relation) (i : ℕ) (r : Relation) (given : List Pair) (copies : List CopyFunction) → slice_get rs i ≡ Some r
+pub copies_given : (rs : List Relation) (i : ℕ) (r : Relation) (given : List Pair) (copies : List CopyFunction)
+    → slice_get rs i ≡ Some r
     → AreCopies rs copies → AreCopies (slice_set rs i (record r { given = given })) copies
 copies_given rs i r given copies at h =
     record {
       few = h.few;
-      each = All-weaker (IsCopyAmong rs) (IsCopyAmong (slice_set rs i (record r { given = given }))) (copy_given rs i r given at) copies h.each;
+      each = All-weaker (IsCopyAmong rs) (IsCopyAmong (slice_set rs i (record r { given = given })))
+          (copy_given rs i r given at) copies h.each;
       names = h.names;
     }

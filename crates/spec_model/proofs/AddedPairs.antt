@@ -16,7 +16,8 @@ is_pair_beside : (r : Relation) (given : List Pair) (p : Pair) → IsGivenPair r
 is_pair_beside r given p h =
     record { attr = h.attr; earlier = h.earlier; later = h.later; one_entity = h.one_entity }
 
-is_relation_with : (r : Relation) (given : List Pair) → IsRelation r → All (IsGivenPair r) given → IsRelation (record r { given = given })
+is_relation_with : (r : Relation) (given : List Pair) → IsRelation r → All (IsGivenPair r) given → IsRelation
+    (record r { given = given })
 is_relation_with r given h all =
     record {
       few_attrs = h.few_attrs;
@@ -50,14 +51,17 @@ is_relation_of rs i r h at =
     subst IsRelation (get_or_from_slice_get rs i r r at) (All-get_or IsRelation rs i r (slice_get_within rs i r at) h.each)
 
 -- the relation that was read at a place
-found_at : (rs now : List Relation) (i : ℕ) (r : Relation) → rs ≡ now → i < length now → r ≡ get_or rs i r → slice_get now i ≡ Some r
+found_at : (rs now : List Relation) (i : ℕ) (r : Relation) → rs ≡ now → i < length now → r ≡ get_or rs i r
+    → slice_get now i ≡ Some r
 found_at rs now i r same below read =
     slice_get_read now (length now) i r refl below (rw same at read)
 
-pub read_at : (rs now : List Relation) (i : ℕ) (r : Relation) → rs ≡ now → i < length now → r ≡ get_or rs i r → slice_get rs i ≡ Some r
+pub read_at : (rs now : List Relation) (i : ℕ) (r : Relation) → rs ≡ now → i < length now → r ≡ get_or rs i r
+    → slice_get rs i ≡ Some r
 read_at rs now i r same below read = let at = found_at rs now i r same below read in rw same at
 
-pair_of : (now : List Relation) (i : ℕ) (r : Relation) (p : Pair) → slice_get now i ≡ Some r → IfSome (slice_get now i) (λ q. IsGivenPair q p) → IsGivenPair r p
+pair_of : (now : List Relation) (i : ℕ) (r : Relation) (p : Pair) → slice_get now i ≡ Some r
+    → IfSome (slice_get now i) (λ q. IsGivenPair q p) → IsGivenPair r p
 pair_of now i r p at is = rw at at is
 
 -- one more pair at one relation

@@ -22,10 +22,15 @@ rule_beside rs more rule h =
 -- more relations
 pub rules_beside : (rs more : List Relation) (rules : List Rule) → AreRules rs rules → AreRules (rs ++ more) rules
 rules_beside rs more rules h =
-    record { few = h.few; each = All-weaker (IsRuleOf rs) (IsRuleOf (rs ++ more)) (rule_beside rs more) rules h.each; names = h.names }
+    record {
+      few = h.few;
+      each = All-weaker (IsRuleOf rs) (IsRuleOf (rs ++ more)) (rule_beside rs more) rules h.each;
+      names = h.names;
+    }
 
 -- what stands at a place after a write
-pub get_set_same : {A : Type 0} (xs : List A) (i : ℕ) (x y : A) → slice_get xs i ≡ Some x → slice_get (slice_set xs i y) i ≡ Some y
+pub get_set_same : {A : Type 0} (xs : List A) (i : ℕ) (x y : A) → slice_get xs i ≡ Some x
+    → slice_get (slice_set xs i y) i ≡ Some y
 get_set_same [] i x y e = absurd (none-some x e)
 get_set_same (z ∷ xs) zero x y e = refl
 get_set_same (z ∷ xs) (suc i) x y e = get_set_same xs i x y e
@@ -45,7 +50,8 @@ rule_given rs i r given at rule h =
     let same : h.relation ≡ r = same_Some h.relation r (sym h.is_relation ∙ (ap (slice_get rs) is ∙ at)) in
     record {
       relation = record r { given = given };
-      is_relation = ap (slice_get (slice_set rs i (record r { given = given }))) is ∙ get_set_same rs i r (record r { given = given }) at;
+      is_relation = ap (slice_get (slice_set rs i (record r { given = given }))) is ∙ get_set_same rs i r
+          (record r { given = given }) at;
       fits = subst (λ (q : Relation). IsRuleOn (kinds_of q) rule) same h.fits;
     })
     (λ (apart : rule.relation.0 ≡ i → ⊥).
@@ -62,6 +68,7 @@ pub rules_given : (rs : List Relation) (i : ℕ) (r : Relation) (given : List Pa
 rules_given rs i r given rules at h =
     record {
       few = h.few;
-      each = All-weaker (IsRuleOf rs) (IsRuleOf (slice_set rs i (record r { given = given }))) (rule_given rs i r given at) rules h.each;
+      each = All-weaker (IsRuleOf rs) (IsRuleOf (slice_set rs i (record r { given = given })))
+          (rule_given rs i r given at) rules h.each;
       names = h.names;
     }

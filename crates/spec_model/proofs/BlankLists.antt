@@ -11,7 +11,8 @@ use Rattle.spec_model.specs.Completion.{IsBlank}
 -- what holds of each item and of what stands for a missing one
 get_or_either : {A : Type 0} (P : A → Type 0) (xs : List A) (i : ℕ) (d : A) → All P xs → P d → P (get_or xs i d)
 get_or_either P xs i d all past =
-    ⊎_elim (λ (h : i < length xs). All-get_or P xs i d h all) (λ (h : length xs ≤ i). subst P (sym (get_or_past xs i d h)) past) (cases_lt i (length xs))
+    ⊎_elim (λ (h : i < length xs). All-get_or P xs i d h all)
+    (λ (h : length xs ≤ i). subst P (sym (get_or_past xs i d h)) past) (cases_lt i (length xs))
 
 -- the lists of one attribute
 abbrev AreBlank : List (List RowId) → Type 0
@@ -25,7 +26,8 @@ are_blank : (n : ℕ) → AreBlank (blank_lists n)
 are_blank n ent = get_or_either (λ l. l ≡ []) (blank_lists n) ent [] (All-replicate (λ l. l ≡ []) n [] refl) refl
 
 are_all_blank : (m n : ℕ) → AreAllBlank (blank_rankings m n)
-are_all_blank m n attr = get_or_either AreBlank (blank_rankings m n) attr [] (All-replicate AreBlank m (blank_lists n) (are_blank n)) (λ _. refl)
+are_all_blank m n attr = get_or_either AreBlank (blank_rankings m n) attr []
+    (All-replicate AreBlank m (blank_lists n) (are_blank n)) (λ _. refl)
 
 pub is_blank : (relations : List Relation) → IsBlank (blank_of relations)
 is_blank relations rel =

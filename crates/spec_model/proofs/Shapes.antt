@@ -7,7 +7,8 @@ use Rattle.spec_model.specs.declared.relation.Relation.{Relation}
 use Rattle.spec_model.specs.Completion.{Rankings, HasShape, lists_of, with_ranking}
 
 -- what a function says of the item at a place stays where it says the same of what is written
-same_at : {A B : Type 0} (f : A → B) (xs : List A) (i j : ℕ) (y d : A) → f y ≡ f (get_or xs i d) → f (get_or (set xs i y) j d) ≡ f (get_or xs j d)
+same_at : {A B : Type 0} (f : A → B) (xs : List A) (i j : ℕ) (y d : A) → f y ≡ f (get_or xs i d)
+    → f (get_or (set xs i y) j d) ≡ f (get_or xs j d)
 same_at {A} f xs i j y d same =
     ⊎_elim
     (λ (within : i < length xs).

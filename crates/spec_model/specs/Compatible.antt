@@ -38,7 +38,8 @@ KeepsSourceOrder c place first second = (rows : AreCopiedTogether c.copy c.targe
 
 -- compatible: at each place all mapped rows of one entity keep the order of their sources
 abbrev pub IsCompatible : Copying → Type 0
-IsCompatible c = (at : ℕ) (place : Place) → slice_get c.copy.places at ≡ Some place → (first second : RowId) → KeepsSourceOrder c place first second
+IsCompatible c = (at : ℕ) (place : Place) → slice_get c.copy.places at ≡ Some place → (first second : RowId)
+    → KeepsSourceOrder c place first second
 
 -- two mapped rows that do not keep the order of their sources at a place
 pub record BreaksSourceOrder (c : Copying) (place : Place) (first second : RowId) : Type 0 where

@@ -17,7 +17,8 @@ KeepsGiven relations c = (rel : ℕ) (r : Relation) → slice_get relations rel 
 -- each of these rules is satisfied on its relation
 abbrev pub SatisfiesRules : List Relation → List Rule → Rankings → Type 0
 SatisfiesRules relations rules c = (k : ℕ) (rule : Rule) → slice_get rules k ≡ Some rule
-    → (r : Relation) → slice_get relations rule.relation.0 ≡ Some r → SatisfiesRule r.rows (slice_index_or c rule.relation.0 []) rule
+    → (r : Relation) → slice_get relations rule.relation.0 ≡ Some r → SatisfiesRule r.rows
+    (slice_index_or c rule.relation.0 []) rule
 
 -- a copy function between two relations, whose lists are those of a completion
 abbrev pub copying : CopyFunction → Relation → Relation → Rankings → Copying
@@ -32,7 +33,8 @@ copying copy target source c = record {
 -- a completion is compatible with each of these copy functions
 abbrev pub IsCompatibleWith : List Relation → List CopyFunction → Rankings → Type 0
 IsCompatibleWith relations copies c = (k : ℕ) (copy : CopyFunction) → slice_get copies k ≡ Some copy
-    → (target source : Relation) → slice_get relations copy.target.0 ≡ Some target → slice_get relations copy.source.0 ≡ Some source
+    → (target source : Relation) → slice_get relations copy.target.0 ≡ Some target → slice_get relations
+    copy.source.0 ≡ Some source
     → IsCompatible (copying copy target source c)
 
 -- a consistent completion of a specification

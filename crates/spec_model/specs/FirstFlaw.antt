@@ -76,4 +76,5 @@ IsFirstFlaw s c (NotARanking rel attr ent) = IsFirstUnranked s.relations c rel.0
 IsFirstFlaw s c (GivenBroken rel pair) = IsCompletion s.relations c × IsFirstBroken s.relations c rel.0 pair
 IsFirstFlaw s c (RuleBroken rule rows) = IsCompletion s.relations c × KeepsGiven s.relations c × IsFirstRuleBroken s c rule.0 rows
 IsFirstFlaw s c (CopyBroken copy place first second) =
-    IsCompletion s.relations c × KeepsGiven s.relations c × SatisfiesRules s.relations s.rules c × IsFirstCopyBroken s c copy.0 place first second
+    IsCompletion s.relations c × KeepsGiven s.relations c × SatisfiesRules s.relations s.rules c × IsFirstCopyBroken
+    s c copy.0 place first second

@@ -29,12 +29,14 @@ StandsBefore lists earlier later = ⊥
 
 -- the row of the atom's earlier variable stands before that of its later one, in the atom's attribute
 abbrev pub AtomHolds : Lists → List RowId → OrderAtom → Type 0
-AtomHolds lists rows atom = StandsBefore (slice_index_or lists atom.attr.0 []) (slice_get rows atom.earlier) (slice_get rows atom.later)
+AtomHolds lists rows atom = StandsBefore (slice_index_or lists atom.attr.0 []) (slice_get rows atom.earlier)
+    (slice_get rows atom.later)
 
 -- a predicate holds of the rows that are taken for the variables
 abbrev pub PredicateHolds : List Row → Lists → List RowId → Predicate → Type 0
 PredicateHolds table lists rows (Order atom) = AtomHolds lists rows atom
-PredicateHolds table lists rows (Compare left cmp right) = is_compared (operand_value table rows left) cmp (operand_value table rows right) ≡ true
+PredicateHolds table lists rows (Compare left cmp right) = is_compared (operand_value table rows left) cmp
+    (operand_value table rows right) ≡ true
 
 -- the conclusion holds of the rows that are taken for the variables; `false` never does
 abbrev pub ConclusionHolds : Lists → List RowId → Conclusion → Type 0
@@ -43,7 +45,8 @@ ConclusionHolds lists rows (conclusion.Order atom) = AtomHolds lists rows atom
 
 -- if all predicates hold of the rows, the conclusion does
 abbrev pub IsSatisfiedBy : List Row → Lists → Rule → List RowId → Type 0
-IsSatisfiedBy table lists rule rows = All (PredicateHolds table lists rows) rule.predicates → ConclusionHolds lists rows rule.conclusion
+IsSatisfiedBy table lists rule rows = All (PredicateHolds table lists rows) rule.predicates → ConclusionHolds lists
+    rows rule.conclusion
 
 -- a rule is satisfied: for every choice of one row per variable, all of one entity, the conclusion holds if all
 -- predicates do

@@ -25,7 +25,8 @@ impl Model for Specification {
 
     ghost view = { λ s. record { relations = s.relations.items; rules = s.rules.items; copies = s.copies.items } };
 
-    ghost invariant = { λ s. IsSpecification (record { relations = s.relations.items; rules = s.rules.items; copies = s.copies.items }) };
+    ghost invariant = { λ s. IsSpecification
+        (record { relations = s.relations.items; rules = s.rules.items; copies = s.copies.items }) };
 }
 
 impl Specification {

@@ -6,7 +6,8 @@ use Rattle.std.proofs.lemmas.Option.{slice_get-get_or, slice_get_within, get_or_
 use Rattle.currency_base.specs.Lists.{OnlyOnce}
 
 -- an item is not among those before it
-pub not_before : {A : Type 0} (xs : List A) (i : ℕ) (x : A) → OnlyOnce xs → i < length xs → get_or xs i x ≡ x → Contains (take i xs) x → ⊥
+pub not_before : {A : Type 0} (xs : List A) (i : ℕ) (x : A) → OnlyOnce xs → i < length xs → get_or xs i x ≡ x
+    → Contains (take i xs) x → ⊥
 not_before xs i x once within at_i (k, below, at_k) =
     let count : length (take i xs) ≡ min i (length xs) = length-take i xs in
     let earlier : k < i = omega arith in
@@ -18,7 +19,8 @@ not_before xs i x once within at_i (k, below, at_k) =
     absurd (omega arith)
 
 -- the same of what a function gives at the items
-pub none_before : {A B : Type 0} (f : A → B) (xs : List A) (i : ℕ) (x : A) → OnlyOnce (map f xs) → i < length xs → get_or xs i x ≡ x
+pub none_before : {A B : Type 0} (f : A → B) (xs : List A) (i : ℕ) (x : A) → OnlyOnce (map f xs) → i < length xs
+    → get_or xs i x ≡ x
     → Contains (map f (take i xs)) (f x) → ⊥
 none_before f xs i x once within at_i there =
     let within_map : i < length (map f xs) = let e : length (map f xs) ≡ length xs = length-map xs f in omega arith in
@@ -26,7 +28,8 @@ none_before f xs i x once within at_i there =
     not_before (map f xs) i (f x) once within_map at_map (rw (take-map f i xs) there)
 
 -- a name that was nowhere stands at the end
-pub added : (old new : List (List ℕ)) (name : List ℕ) (place : ℕ) (is_new : Bool) → (Contains old name → ⊥) → slice_get new place ≡ Some name
+pub added : (old new : List (List ℕ)) (name : List ℕ) (place : ℕ) (is_new : Bool) → (Contains old name → ⊥)
+    → slice_get new place ≡ Some name
     → OnTrue is_new (new ≡ old ++ name ∷ []) → OnFalse is_new (new ≡ old) → new ≡ old ++ name ∷ []
 added old new name place true absent at_place fresh known = fresh
 added old new name place false absent at_place fresh known =

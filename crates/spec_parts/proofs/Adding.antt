@@ -55,7 +55,8 @@ had pairs p q c = by (of_inserted pairs p q (from_contains (insert_key pair_cmp 
 
 -- ---- a relation with one pair more
 
-part_with : (r : Relation) (rows : List RowId) (entities : List EntId) (new : Relation) (p old : Pair) → IsPartSoFar r rows entities new
+part_with : (r : Relation) (rows : List RowId) (entities : List EntId) (new : Relation) (p old : Pair)
+    → IsPartSoFar r rows entities new
     → IsPairPart rows p old → Contains r.given old → IsPartSoFar r rows entities (with_given new p)
 part_with r rows entities new p old is pair given = record {
   name = is.name;
@@ -84,7 +85,8 @@ module _ (whole : Spec) (n : Places) (old new : Spec) (rel : ℕ) (p o : Pair) (
       → IsPartSoFar s (rows_in n k) (entities_in n k) w
   each k s w at_s at_w = by (found k w at_w)
     where
-      by : ((k ≡ rel) × (with_given q p ≡ w)) ⊎ (slice_get old.relations k ≡ Some w) → IsPartSoFar s (rows_in n k) (entities_in n k) w
+      by : ((k ≡ rel) × (with_given q p ≡ w)) ⊎ (slice_get old.relations k ≡ Some w) → IsPartSoFar s (rows_in n k)
+          (entities_in n k) w
       by (inl here) =
           let same : r ≡ s = same_Some r s (sym at ∙ ap (slice_get whole.relations) (sym here.0) ∙ at_s) in
           let was = are.each rel r q at at_old in
@@ -120,7 +122,8 @@ module _ (whole : Spec) (n : Places) (old new : Spec) (rel : ℕ) (p o : Pair) (
       by (inl here) = subst (λ (y : Relation). Contains y.given p) here.1 (has_added q.given p)
       by (inr there) =
           let within = slice_get_within old.relations rel q at_old in
-          let at_set : slice_get new.relations rel ≡ Some (with_given q p) = ap (λ l. slice_get l rel) set ∙ get_set old.relations rel
+          let at_set : slice_get new.relations rel ≡ Some (with_given q p) = ap (λ l. slice_get l rel) set
+          ∙ get_set old.relations rel
           (with_given q p) within in
           subst (λ (y : Relation). Contains y.given p) (same_Some (with_given q p) w (sym at_set ∙ at_w)) (has_added q.given p)
 
@@ -135,7 +138,8 @@ grows_none whole n old are = record {
   copies = refl;
 }
 
-pub grows_also : (whole : Spec) (n : Places) (old mid new : Spec) → Grows whole n old mid → Grows whole n mid new → Grows whole n old new
+pub grows_also : (whole : Spec) (n : Places) (old mid new : Spec) → Grows whole n old mid → Grows whole n mid new
+    → Grows whole n old new
 grows_also whole n old mid new first next = record {
   so_far = next.so_far;
   kept = λ rel w at.
@@ -146,7 +150,8 @@ grows_also whole n old mid new first next = record {
   copies = next.copies ∙ first.copies;
 }
 
-pub pairs_kept : (whole : Spec) (n : Places) (old new : Spec) (rel : ℕ) (rows : List RowId) (pairs : List Pair) → Grows whole n old new
+pub pairs_kept : (whole : Spec) (n : Places) (old new : Spec) (rel : ℕ) (rows : List RowId) (pairs : List Pair)
+    → Grows whole n old new
     → HasPairs old.relations rel rows pairs → HasPairs new.relations rel rows pairs
 pairs_kept whole n old new rel rows pairs grows has w at p o is c =
     let k = grows.kept rel w at in
@@ -162,7 +167,8 @@ one_pair rows p q old ascend a b =
     let attr : p.attr ≡ q.attr = a.attr ∙ sym b.attr in
     let earlier : p.earlier ≡ q.earlier = same_number p.earlier q.earlier
     (one_row rows p.earlier.0 q.earlier.0 old.earlier ascend a.earlier b.earlier) in
-    let later : p.later ≡ q.later = same_number p.later q.later (one_row rows p.later.0 q.later.0 old.later ascend a.later b.later) in
+    let later : p.later ≡ q.later = same_number p.later q.later (one_row rows p.later.0 q.later.0 old.later ascend
+    a.later b.later) in
     let make : AttrId → RowId → RowId → Pair = λ x y z. record { attr = x; earlier = y; later = z } in
     ap (λ x. make x p.earlier p.later) attr ∙ (ap (λ y. make q.attr y p.later) earlier ∙ ap (λ z. make q.attr q.earlier z) later)
 

@@ -28,7 +28,8 @@ pub kinds_same : (r new : Relation) (rows : List RowId) (entities : List EntId) 
     → kinds_of new ≡ kinds_of r
 kinds_same r new rows entities part = ap (λ attrs. map (λ a. a.kind) attrs) part.attrs
 
-module _ (relations : List Relation) (copies : List CopyFunction) (n : Places) (part : List Relation) (cut : AreCuttable relations n)
+module _ (relations : List Relation) (copies : List CopyFunction) (n : Places) (part : List Relation)
+    (cut : AreCuttable relations n)
     (are : ArePartsSoFar relations n (length relations) part) (facts : AreCopies relations copies) where
   -- a copy function, and the relations of the part that it is between
   record Between (copy : CopyFunction) : Type 0 where
@@ -57,14 +58,23 @@ module _ (relations : List Relation) (copies : List CopyFunction) (n : Places) (
         source_part = s.2;
       }
 
-  pub copy_cut_of : AreClosedCopies copies n → (k : ℕ) (copy : CopyFunction) → slice_get copies k ≡ Some copy → IsCopyCutOf n part copy
+  pub copy_cut_of : AreClosedCopies copies n → (k : ℕ) (copy : CopyFunction) → slice_get copies k ≡ Some copy
+      → IsCopyCutOf n part copy
   copy_cut_of closed k copy at = record {
     target = b.target;
     source = b.source;
     is_target = b.is_target;
     is_source = b.is_source;
-    target_within = omega (arith, slice_get_within relations copy.target.0 b.among.target b.among.is_target, cut.rows_per_relation);
-    source_within = omega (arith, slice_get_within relations copy.source.0 b.among.source b.among.is_source, cut.rows_per_relation);
+    target_within = omega (
+      arith,
+      slice_get_within relations copy.target.0 b.among.target b.among.is_target,
+      cut.rows_per_relation,
+    );
+    source_within = omega (
+      arith,
+      slice_get_within relations copy.source.0 b.among.source b.among.is_source,
+      cut.rows_per_relation,
+    );
     cut = record {
       targets_ascend = (cut.each copy.target.0 b.among.target b.among.is_target).rows_ascend;
       sources_ascend = (cut.each copy.source.0 b.among.source b.among.is_source).rows_ascend;
@@ -85,10 +95,12 @@ module _ (relations : List Relation) (copies : List CopyFunction) (n : Places) (
           → All (λ p. p.target.0 < length (values_of b.target.rows row)) copy.places
       in_target row old from at_row maps =
           let equal = (b.among.copied old from maps).equal in
-          let same = values_same b.among.target b.target (rows_in n copy.target.0) (entities_in n copy.target.0) row old b.target_part
+          let same = values_same b.among.target b.target (rows_in n copy.target.0) (entities_in n copy.target.0) row
+          old b.target_part
           at_row in
           each_has (λ (p : Place). p.target.0 < length (values_of b.target.rows row)) copy.places (λ i p at_p.
-          let one = item_has (AreEqualAt (values_of b.among.target.rows old) (values_of b.among.source.rows from)) copy.places equal i p
+          let one = item_has (AreEqualAt (values_of b.among.target.rows old) (values_of b.among.source.rows from))
+          copy.places equal i p
           at_p in
           subst (λ (vs : List Value). p.target.0 < length vs) (sym same)
           (slice_get_within (values_of b.among.target.rows old) p.target.0 one.value one.in_target))
@@ -97,10 +109,12 @@ module _ (relations : List Relation) (copies : List CopyFunction) (n : Places) (
           → All (λ p. p.source.0 < length (values_of b.source.rows row)) copy.places
       in_source row old from at_row maps =
           let equal = (b.among.copied old from maps).equal in
-          let same = values_same b.among.source b.source (rows_in n copy.source.0) (entities_in n copy.source.0) row from b.source_part
+          let same = values_same b.among.source b.source (rows_in n copy.source.0) (entities_in n copy.source.0) row
+          from b.source_part
           at_row in
           each_has (λ (p : Place). p.source.0 < length (values_of b.source.rows row)) copy.places (λ i p at_p.
-          let one = item_has (AreEqualAt (values_of b.among.target.rows old) (values_of b.among.source.rows from)) copy.places equal i p
+          let one = item_has (AreEqualAt (values_of b.among.target.rows old) (values_of b.among.source.rows from))
+          copy.places equal i p
           at_p in
           subst (λ (vs : List Value). p.source.0 < length vs) (sym same)
           (slice_get_within (values_of b.among.source.rows from) p.source.0 one.value one.in_source))
@@ -114,7 +128,8 @@ module _ (relations : List Relation) (copies : List CopyFunction) (n : Places) (
     is_target = target_at;
     is_source = source_at_part;
     places = subst (λ ps. All (IsPlaceBetween b.target b.source) ps) (sym is.places)
-        (All-weaker (IsPlaceBetween b.among.target b.among.source) (IsPlaceBetween b.target b.source) place copy.places b.among.places);
+        (All-weaker (IsPlaceBetween b.among.target b.among.source) (IsPlaceBetween b.target b.source) place
+        copy.places b.among.places);
     copied = copied b.target b.source target_at source_at_part;
   }
     where
@@ -131,9 +146,11 @@ module _ (relations : List Relation) (copies : List CopyFunction) (n : Places) (
       place p h = record {
         kind = h.kind;
         in_target = ap (λ ks. slice_get ks p.target.0)
-            (kinds_same b.among.target b.target (rows_in n copy.target.0) (entities_in n copy.target.0) b.target_part) ∙ h.in_target;
+            (kinds_same b.among.target b.target (rows_in n copy.target.0) (entities_in n copy.target.0)
+            b.target_part) ∙ h.in_target;
         in_source = ap (λ ks. slice_get ks p.source.0)
-            (kinds_same b.among.source b.source (rows_in n copy.source.0) (entities_in n copy.source.0) b.source_part) ∙ h.in_source;
+            (kinds_same b.among.source b.source (rows_in n copy.source.0) (entities_in n copy.source.0)
+            b.source_part) ∙ h.in_source;
       }
 
   module _ (k : ℕ) (copy new : CopyFunction) (done : List CopyFunction) (at : slice_get copies k ≡ Some copy)
@@ -189,15 +206,18 @@ pub copies_none : (n : Places) (copies : List CopyFunction) → AreCopiesSoFar n
 copies_none n copies = record { many = refl; each = λ k copy one at at_one. absurd (none-some one at_one) }
 
 -- what is copied between the rows of the part's relations
-pub copied_in : {E : Type 0} (relations : List Relation) (copy : CopyFunction) (targets sources : List RowId) (target source : Relation)
-    → slice_get relations copy.target.0 ≡ Some target → slice_get relations copy.source.0 ≡ Some source → (result : Result CopyFunction E)
+pub copied_in : {E : Type 0} (relations : List Relation) (copy : CopyFunction) (targets sources : List RowId)
+    (target source : Relation)
+    → slice_get relations copy.target.0 ≡ Some target → slice_get relations copy.source.0 ≡ Some source →
+    (result : Result CopyFunction E)
     → IfOk result (IsCopyPart copy targets sources) → IfOk result (λ new. IsCopied new target.rows source.rows)
     → IfOk result (IsCopiedIn relations)
 copied_in relations copy targets sources target source at_target at_source (Err e) is copied = tt
 copied_in relations copy targets sources target source at_target at_source (Ok new) is copied = λ t s at_t at_s.
     let t_is : target ≡ t = same_Some target t (sym at_target ∙ ap (λ i. slice_get relations i.0) (sym is.target) ∙ at_t) in
     let s_is : source ≡ s = same_Some source s (sym at_source ∙ ap (λ i. slice_get relations i.0) (sym is.source) ∙ at_s) in
-    subst (λ (x : Relation). IsCopied new x.rows s.rows) t_is (subst (λ (x : Relation). IsCopied new target.rows x.rows) s_is copied)
+    subst (λ (x : Relation). IsCopied new x.rows s.rows) t_is
+    (subst (λ (x : Relation). IsCopied new target.rows x.rows) s_is copied)
 
 -- what a call told, where its answer is handed on as want of memory
 pub handed_on : {A E F : Type 0} (P : Type 0) (outcome : Result A E) (result : Result A F) → OnOk result (is_ok outcome ≡ true)

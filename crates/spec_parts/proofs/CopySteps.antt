@@ -74,11 +74,18 @@ module _ (copy : CopyFunction) (targets sources : List RowId) (k target : RowId)
               × (slice_get sources to.0 ≡ Some old_from) × (source_at copy old ≡ Some old_from)
           by (inl here) =
               let is_k : row ≡ k = same_number row k here in
-              let same : source ≡ to = same_Some source to (sym maps.mapped ∙ ap (source_at new) (sym is_k) ∙ mapped) in
-              (target, from, ap (slice_get targets) here ∙ at, ap (λ (x : RowId). slice_get sources x.0) (sym same) ∙ at_source, maps_to)
+              let same : source ≡ to = same_Some source to (sym maps.mapped ∙ ap (source_at new) (sym is_k) ∙ mapped) in (
+                target,
+                from,
+                ap (slice_get targets) here ∙ at,
+                ap (λ (x : RowId). slice_get sources x.0) (sym same)
+                    ∙ at_source,
+                maps_to,
+              )
           by (inr apart) = are.mapped_are row to (sym (maps.others row (apart_from row apart)) ∙ mapped)
 
-      all : (row to old old_from : RowId) → row.0 < k.0 + 1 → slice_get targets row.0 ≡ Some old → slice_get sources to.0 ≡ Some old_from
+      all : (row to old old_from : RowId) → row.0 < k.0 + 1 → slice_get targets row.0 ≡ Some old
+          → slice_get sources to.0 ≡ Some old_from
           → source_at copy old ≡ Some old_from → source_at new row ≡ Some to
       all row to old old_from below at_row at_to mapped = by (cases_eq row.0 k.0)
         where
@@ -90,7 +97,8 @@ module _ (copy : CopyFunction) (targets sources : List RowId) (k target : RowId)
               let place : source ≡ to = same_number source to
               (one_row sources source.0 to.0 old_from ascend (at_source ∙ ap Some one) at_to) in
               ap (source_at new) is_k ∙ maps.mapped ∙ ap Some place
-          by (inr apart) = maps.others row (apart_from row apart) ∙ are.mapped_all row to old old_from (omega (arith, below, apart)) at_row
+          by (inr apart) = maps.others row (apart_from row apart) ∙ are.mapped_all row to old old_from
+              (omega (arith, below, apart)) at_row
               at_to mapped
 
 -- all rows are done

@@ -83,7 +83,8 @@ module _ (relations : List Relation) (scope : Scope) (n : Places) (facts : AreRe
       listed k row at_row =
           let found = row_in k row at_row in
           let one = row_of_entity r.rows row.0 found.ent found.is_of in
-          let below : one.0.entity.0 < length r.entities = item_has (λ (q : Row). q.entity.0 < length r.entities) r.rows is.entities row.0
+          let below : one.0.entity.0 < length r.entities = item_has (λ (q : Row). q.entity.0 < length r.entities)
+          r.rows is.entities row.0
           one.0 one.1 in
           record {
             old = one.0;

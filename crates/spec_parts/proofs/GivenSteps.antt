@@ -30,7 +30,8 @@ module _ (whole : Spec) (n : Places) (rel : ℕ) (cut : AreCuttable whole.relati
     pub earlier : Contains rows pair.earlier
     pub later : Contains rows pair.later
 
-  pub next_pair : (rows : List RowId) (pairs : List Pair) (i : ℕ) (d : Pair) → rows ≡ rows_in n rel → AreOfPart whole.relations n rel pairs
+  pub next_pair : (rows : List RowId) (pairs : List Pair) (i : ℕ) (d : Pair) → rows ≡ rows_in n rel
+      → AreOfPart whole.relations n rel pairs
       → i < length pairs → Next rows (get_or pairs i d)
   next_pair rows pairs i d same of below =
       let r = item_at whole.relations rel within in
@@ -50,7 +51,8 @@ module _ (whole : Spec) (n : Places) (rel : ℕ) (cut : AreCuttable whole.relati
 
   module _ (rows : List RowId) (same : rows ≡ rows_in n rel) (pairs : List Pair) (i : ℕ) (d : Pair)
       (of : AreOfPart whole.relations n rel pairs)
-      (below : i < length pairs) (old : Spec) (p : Pair) (are : ArePartsSoFar whole.relations n (length whole.relations) old.relations)
+      (below : i < length pairs) (old : Spec) (p : Pair)
+      (are : ArePartsSoFar whole.relations n (length whole.relations) old.relations)
       (is : IsPairPart rows p (get_or pairs i d)) where
     in_places : IsPairPart (rows_in n rel) p (get_or pairs i d)
     in_places = subst (λ l. IsPairPart l p (get_or pairs i d)) same is
@@ -59,20 +61,24 @@ module _ (whole : Spec) (n : Places) (rel : ℕ) (cut : AreCuttable whole.relati
     next = next_pair rows pairs i d same of below
 
     pub next_fits : IfSome (slice_get old.relations rel) (λ w. IsGivenPair w p)
-    next_fits = pair_fits whole.relations n old.relations rel next.relation p (get_or pairs i d) cut are next.is_relation next.given
+    next_fits = pair_fits whole.relations n old.relations rel next.relation p (get_or pairs i d) cut are
+        next.is_relation next.given
         in_places
 
     module _ (new : Spec) (adds : AddsGiven old.relations new.relations rel p) where
       pub next_grows : new.rules ≡ old.rules → new.copies ≡ old.copies → Grows whole n old new
       next_grows rules copies =
-          let q = part_at whole.relations n (length whole.relations) old.relations are rel next.relation within next.is_relation in
-          grows_one whole n old new rel p (get_or pairs i d) next.relation q.0 next.is_relation q.1 next.given in_places are adds rules
+          let q = part_at whole.relations n (length whole.relations) old.relations are rel next.relation within
+          next.is_relation in
+          grows_one whole n old new rel p (get_or pairs i d) next.relation q.0 next.is_relation q.1 next.given
+          in_places are adds rules
           copies
 
       pub next_added : Grows whole n old new → HasPairs old.relations rel (rows_in n rel) (take i pairs)
           → HasPairs new.relations rel (rows_in n rel) (take (i + 1) pairs)
       next_added grows has =
-          let q = part_at whole.relations n (length whole.relations) old.relations are rel next.relation within next.is_relation in
+          let q = part_at whole.relations n (length whole.relations) old.relations are rel next.relation within
+          next.is_relation in
           pairs_more new.relations rel (rows_in n rel) pairs i p (get_or pairs i d)
           (cut.each rel next.relation next.is_relation).rows_ascend
           (slice_get-get_or pairs i d below) in_places (pairs_kept whole n old new rel (rows_in n rel) (take i pairs) grows has)
@@ -89,7 +95,8 @@ listed_pairs index rel ent = slice_index_or (slice_index_or index rel []) ent.0 
 
 module _ (whole : Spec) (n : Places) (index : List (List (List Pair))) (rel : ℕ) (cut : AreCuttable whole.relations n)
     (indexed : AreIndexed whole.relations index) where
-  pub pairs_of_part : (ent : EntId) → Contains (entities_in n rel) ent → AreOfPart whole.relations n rel (listed_pairs index rel ent)
+  pub pairs_of_part : (ent : EntId) → Contains (entities_in n rel) ent → AreOfPart whole.relations n rel
+      (listed_pairs index rel ent)
   pairs_of_part ent c r at p listed =
       let facts = (indexed.each rel r at ent.0 p).0 listed in
       let is = cut.each rel r at in
@@ -101,9 +108,11 @@ module _ (whole : Spec) (n : Places) (index : List (List (List Pair))) (rel : �
       → ents ≡ entities_in n rel
       → i < length ents → (get_or ents i d).0 < length (slice_index_or index rel [])
   entity_listed r ents i d at same below =
-      let in_places : slice_get (entities_in n rel) i ≡ Some (get_or ents i d) = ap (λ l. slice_get l i) (sym same) ∙ slice_get-get_or ents
+      let in_places : slice_get (entities_in n rel) i ≡ Some (get_or ents i d) = ap (λ l. slice_get l i) (sym same)
+      ∙ slice_get-get_or ents
       i d below in
-      let named = item_has (λ (e : EntId). e.0 < length r.entities) (entities_in n rel) (cut.each rel r at).named i (get_or ents i d)
+      let named = item_has (λ (e : EntId). e.0 < length r.entities) (entities_in n rel) (cut.each rel r at).named i
+      (get_or ents i d)
       in_places in
       omega (arith, named, indexed.per_entity rel r at)
 
@@ -122,7 +131,8 @@ module _ (whole : Spec) (n : Places) (index : List (List (List Pair))) (rel : �
       by (inl before) = pairs_kept whole n old new rel (rows_in n rel) (listed_pairs index rel ent) grows (done k ent before at)
       by (inr after) =
           let here : k ≡ i = omega (arith, after, below_k) in
-          let read : slice_get (entities_in n rel) i ≡ Some (get_or ents i d) = ap (λ l. slice_get l i) (sym same) ∙ slice_get-get_or ents
+          let read : slice_get (entities_in n rel) i ≡ Some (get_or ents i d) = ap (λ l. slice_get l i) (sym same)
+          ∙ slice_get-get_or ents
           i d below in
           let one : get_or ents i d ≡ ent = same_Some (get_or ents i d) ent
           (sym read ∙ (ap (slice_get (entities_in n rel)) (sym here) ∙ at)) in
@@ -131,7 +141,8 @@ module _ (whole : Spec) (n : Places) (index : List (List (List Pair))) (rel : �
   pub all_done : (part : List Relation) (i : ℕ) → length (entities_in n rel) ≤ i → AreDone part i → HasGiven whole n part rel
   all_done part i end done r at w at_w p o is given =
       let cuttable = cut.each rel r at in
-      let row = item_has (IsListedRow r.rows (entities_in n rel)) (rows_in n rel) cuttable.listed p.earlier.0 o.earlier is.earlier in
+      let row = item_has (IsListedRow r.rows (entities_in n rel)) (rows_in n rel) cuttable.listed p.earlier.0
+      o.earlier is.earlier in
       let place = stands (entities_in n rel) row.old.entity row.listed in
       let below : place.0 < i = omega (arith, slice_get_within (entities_in n rel) place.0 row.old.entity place.1, end) in
       let listed = (indexed.each rel r at row.old.entity.0 o).1 (given, entity_of_row r.rows o.earlier.0 row.old row.is_old) in

@@ -26,7 +26,8 @@ indexed_none r pairs many empty = record {
   each = λ ent p. (λ c. absurd (not_in p (subst (λ l. Contains l p) (empty ent) c)), λ both. absurd (not_in p both.0));
 }
 
-pub indexed_more : (r : Relation) (done : List Pair) (pairs new : List (List Pair)) (p : Pair) (ent : ℕ) → IsIndexedSoFar r done pairs
+pub indexed_more : (r : Relation) (done : List Pair) (pairs new : List (List Pair)) (p : Pair) (ent : ℕ)
+    → IsIndexedSoFar r done pairs
     → entity_of r.rows p.earlier.0 ≡ Some ent → ent < length pairs
     → new ≡ slice_set pairs ent (slice_index_or pairs ent [] ++ p ∷ []) → IsIndexedSoFar r (done ++ p ∷ []) new
 indexed_more r done pairs new p ent are is within put = record {
@@ -53,7 +54,11 @@ indexed_more r done pairs new p ent are is within put = record {
           where
             pick : Contains (slice_index_or pairs ent []) q ⊎ (p ≡ q)
                 → Contains (done ++ p ∷ []) q × (entity_of r.rows q.earlier.0 ≡ Some other)
-            pick (inl old) = let was = (are.each ent q).0 old in (Contains-append_left done (p ∷ []) q was.0, was.1 ∙ ap Some (sym same))
+            pick (inl old) = let was = (are.each ent q).0 old in (
+              Contains-append_left done (p ∷ []) q was.0,
+              was.1
+                  ∙ ap Some (sym same),
+            )
             pick (inr one) = (
               subst (Contains (done ++ p ∷ [])) one (Contains-push done p),
               ap (λ (x : Pair). entity_of r.rows x.earlier.0) (sym one) ∙ is ∙ ap Some (sym same),
@@ -113,7 +118,8 @@ set_again [] i a b = refl
 set_again (x ∷ xs) zero a b = refl
 set_again (x ∷ xs) (suc i) a b = ap (λ l. x ∷ l) (set_again xs i a b)
 
-pub put_again : (lists mid new : List (List Pair)) (ent : ℕ) (list empty more : List Pair) (p : Pair) → slice_get lists ent ≡ Some list
+pub put_again : (lists mid new : List (List Pair)) (ent : ℕ) (list empty more : List Pair) (p : Pair)
+    → slice_get lists ent ≡ Some list
     → mid ≡ slice_set lists ent empty → more ≡ list ++ p ∷ [] → new ≡ slice_set mid ent more
     → new ≡ slice_set lists ent (slice_index_or lists ent [] ++ p ∷ [])
 put_again lists mid new ent list empty more p at taken pushed back =
@@ -126,5 +132,6 @@ put_again lists mid new ent list empty more p at taken pushed back =
 pub given_pair : (r : Relation) (k : ℕ) (p : Pair) → IsRelation r → slice_get r.given k ≡ Some p → IsGivenPair r p
 given_pair r k p facts at = item_has (IsGivenPair r) r.given facts.given k p at
 
-pub entity_within : (r : Relation) (row : ℕ) (one : Row) → IsRelation r → slice_get r.rows row ≡ Some one → one.entity.0 < length r.entities
+pub entity_within : (r : Relation) (row : ℕ) (one : Row) → IsRelation r → slice_get r.rows row ≡ Some one
+    → one.entity.0 < length r.entities
 entity_within r row one facts at = item_has (λ (q : Row). q.entity.0 < length r.entities) r.rows facts.entities row one at

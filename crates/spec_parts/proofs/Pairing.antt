@@ -34,18 +34,21 @@ at_push [] y (suc i) x is = absurd (none-some x is)
 at_push (z ∷ xs) y zero x is = inl is
 at_push (z ∷ xs) y (suc i) x is = step (at_push xs y i x is)
   where
-    step : (slice_get xs i ≡ Some x) ⊎ ((i ≡ length xs) × (y ≡ x)) → (slice_get xs i ≡ Some x) ⊎ ((suc i ≡ suc (length xs)) × (y ≡ x))
+    step : (slice_get xs i ≡ Some x) ⊎ ((i ≡ length xs) × (y ≡ x)) → (slice_get xs i ≡ Some x) ⊎
+        ((suc i ≡ suc (length xs)) × (y ≡ x))
     step (inl h) = inl h
     step (inr h) = inr (ap suc h.0, h.1)
 
 -- what stands in the first items of a list stands in the list
-pub get_take : {A : Type 0} (n : ℕ) (xs : List A) (i : ℕ) (x : A) → slice_get (take n xs) i ≡ Some x → (i < n) × (slice_get xs i ≡ Some x)
+pub get_take : {A : Type 0} (n : ℕ) (xs : List A) (i : ℕ) (x : A) → slice_get (take n xs) i ≡ Some x →
+    (i < n) × (slice_get xs i ≡ Some x)
 get_take zero xs i x at = absurd (none-some x at)
 get_take (suc n) [] i x at = absurd (none-some x at)
 get_take (suc n) (y ∷ xs) zero x at = (omega arith, at)
 get_take (suc n) (y ∷ xs) (suc i) x at = let more = get_take n xs i x at in (omega (arith, more.0), more.1)
 
-pub take_get : {A : Type 0} (n : ℕ) (xs : List A) (i : ℕ) (x : A) → i < n → slice_get xs i ≡ Some x → slice_get (take n xs) i ≡ Some x
+pub take_get : {A : Type 0} (n : ℕ) (xs : List A) (i : ℕ) (x : A) → i < n → slice_get xs i ≡ Some x
+    → slice_get (take n xs) i ≡ Some x
 take_get zero xs i x below at = absurd (omega arith)
 take_get (suc n) [] i x below at = at
 take_get (suc n) (y ∷ xs) zero x below at = at
@@ -68,24 +71,28 @@ paired_push {A} {B} R xs ys x y are r = record { many = omega (arith, length_pus
     each : (k : ℕ) (a : A) (b : B) → slice_get (xs ++ x ∷ []) k ≡ Some a → slice_get (ys ++ y ∷ []) k ≡ Some b → R a b
     each k a b at_a at_b = by (at_push xs x k a at_a) (at_push ys y k b at_b)
       where
-        by : (slice_get xs k ≡ Some a) ⊎ ((k ≡ length xs) × (x ≡ a)) → (slice_get ys k ≡ Some b) ⊎ ((k ≡ length ys) × (y ≡ b)) → R a b
+        by : (slice_get xs k ≡ Some a) ⊎ ((k ≡ length xs) × (x ≡ a)) → (slice_get ys k ≡ Some b) ⊎
+            ((k ≡ length ys) × (y ≡ b)) → R a b
         by (inl old) (inl old') = are.each k a b old old'
         by (inl old) (inr new') = absurd (omega (arith, slice_get_within xs k a old, new'.0, are.many))
         by (inr new) (inl old') = absurd (omega (arith, slice_get_within ys k b old', new.0, are.many))
         by (inr new) (inr new') = subst (R a) new'.1 (subst (λ z. R z y) new.1 r)
 
-pub paired_more : {A B : Type 0} (R : A → B → Type 0) (xs : List A) (i : ℕ) (ys new : List B) (x : A) (y : B) → slice_get xs i ≡ Some x
+pub paired_more : {A B : Type 0} (R : A → B → Type 0) (xs : List A) (i : ℕ) (ys new : List B) (x : A) (y : B)
+    → slice_get xs i ≡ Some x
     → ArePaired R (take i xs) ys → R x y → new ≡ ys ++ y ∷ [] → ArePaired R (take (i + 1) xs) new
 paired_more R xs i ys new x y at are r pushed =
     subst (ArePaired R (take (i + 1) xs)) (sym pushed)
     (subst (λ l. ArePaired R l (ys ++ y ∷ [])) (sym (take_next xs i x at)) (paired_push R (take i xs) ys x y are r))
 
-pub paired_all : {A B : Type 0} (R : A → B → Type 0) (xs : List A) (i : ℕ) (ys : List B) → take i xs ≡ xs → ArePaired R (take i xs) ys
+pub paired_all : {A B : Type 0} (R : A → B → Type 0) (xs : List A) (i : ℕ) (ys : List B) → take i xs ≡ xs
+    → ArePaired R (take i xs) ys
     → ArePaired R xs ys
 paired_all R xs i ys whole are = subst (λ l. ArePaired R l ys) whole are
 
 -- what goes with an item
-pub partner : {A B : Type 0} (R : A → B → Type 0) (xs : List A) (ys : List B) (k : ℕ) (x : A) → ArePaired R xs ys → slice_get xs k ≡ Some x
+pub partner : {A B : Type 0} (R : A → B → Type 0) (xs : List A) (ys : List B) (k : ℕ) (x : A) → ArePaired R xs ys
+    → slice_get xs k ≡ Some x
     → (y : B) × (slice_get ys k ≡ Some y) × R x y
 partner R xs ys k x are at =
     let within : k < length ys = omega (arith, slice_get_within xs k x at, are.many) in
@@ -99,12 +106,14 @@ paired_at R xs i d ys new y below are r pushed =
     paired_more R xs i ys new (get_or xs i d) y (slice_get-get_or xs i d below) are r pushed
 
 -- all items, at the end of a loop
-pub paired_end : {A B : Type 0} (R : A → B → Type 0) (xs : List A) (i : ℕ) (ys : List B) → length xs ≤ i → ArePaired R (take i xs) ys
+pub paired_end : {A B : Type 0} (R : A → B → Type 0) (xs : List A) (i : ℕ) (ys : List B) → length xs ≤ i
+    → ArePaired R (take i xs) ys
     → ArePaired R xs ys
 paired_end R xs i ys end are = subst (λ l. ArePaired R l ys) (take_all i xs end) are
 
 -- what a loop over a slice reads, where that slice is the list
-pub read_item : {A : Type 0} (xs ys : List A) (i : ℕ) (x : A) → ys ≡ xs → i < length ys → x ≡ get_or ys i x → slice_get xs i ≡ Some x
+pub read_item : {A : Type 0} (xs ys : List A) (i : ℕ) (x : A) → ys ≡ xs → i < length ys → x ≡ get_or ys i x
+    → slice_get xs i ≡ Some x
 read_item xs ys i x same below read =
     ap (λ l. slice_get l i) (sym same) ∙ (slice_get-get_or ys i x below ∙ ap Some (sym read))
 
@@ -116,7 +125,8 @@ unmapped f [] i y at = absurd (none-some y at)
 unmapped f (x ∷ xs) zero y at = (x, refl, same_Some (f x) y at)
 unmapped f (x ∷ xs) (suc i) y at = unmapped f xs i y at
 
-pub mapped : {A B : Type 0} (f : A → B) (xs : List A) (i : ℕ) (x : A) → slice_get xs i ≡ Some x → slice_get (map f xs) i ≡ Some (f x)
+pub mapped : {A B : Type 0} (f : A → B) (xs : List A) (i : ℕ) (x : A) → slice_get xs i ≡ Some x
+    → slice_get (map f xs) i ≡ Some (f x)
 mapped f [] i x at = absurd (none-some x at)
 mapped f (z ∷ xs) zero x at = ap (λ y. Some (f y)) (same_Some z x at)
 mapped f (z ∷ xs) (suc i) x at = mapped f xs i x at

@@ -27,7 +27,8 @@ module _ (relations : List Relation) (n : Places) (count : ℕ) (part : List Rel
       let found = item_at part rel (omega (arith, below, are.many)) in
       (found.0, found.1, are.each rel r found.0 at found.1)
 
-  pub parts_are_relations : AreCuttable relations n → ArePartsSoFar relations n count part → count ≤ length relations → AreRelations part
+  pub parts_are_relations : AreCuttable relations n → ArePartsSoFar relations n count part → count ≤ length relations
+      → AreRelations part
   parts_are_relations cut are few = record {
     few = omega (arith, are.many, few, cut.facts.few);
     each = each_has IsRelation part (λ rel new at.
@@ -53,7 +54,8 @@ module _ (relations : List Relation) (n : Places) (count : ℕ) (part : List Rel
           → IsPartSoFar q (rows_in n rel) (entities_in n rel) one
       each rel q one at_q at_one = by (at_push part new rel one at_one)
         where
-          by : (slice_get part rel ≡ Some one) ⊎ ((rel ≡ length part) × (new ≡ one)) → IsPartSoFar q (rows_in n rel) (entities_in n rel) one
+          by : (slice_get part rel ≡ Some one) ⊎ ((rel ≡ length part) × (new ≡ one)) → IsPartSoFar q (rows_in n rel)
+              (entities_in n rel) one
           by (inl old) = are.each rel q one at_q old
           by (inr last) =
               let same : count ≡ rel = omega (arith, last.0, are.many) in
@@ -72,4 +74,5 @@ pub parts_put : (relations : List Relation) (n : Places) (count : ℕ) (part : L
     → IsPartSoFar r rows entities new → ArePartsSoFar relations n (count + 1) (part ++ new ∷ [])
 parts_put relations n count part are r new rows entities at same_rows same_entities is =
     parts_next relations n count part are r new at
-    (subst (λ es. IsPartSoFar r (rows_in n count) es new) same_entities (subst (λ rs. IsPartSoFar r rs entities new) same_rows is))
+    (subst (λ es. IsPartSoFar r (rows_in n count) es new) same_entities
+    (subst (λ rs. IsPartSoFar r rs entities new) same_rows is))

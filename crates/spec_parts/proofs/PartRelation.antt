@@ -38,7 +38,8 @@ module _ (r : Relation) (rows : List RowId) (entities : List EntId) (new : Relat
   values_at k one at =
       let found = row_at k one at in
       ap (map kind_of) found.2.values
-      ∙ (item_has (λ (q : Row). map kind_of q.values ≡ kinds_of r) r.rows cut.facts.values found.0.0 found.2.old found.2.is_old ∙ sym kinds)
+      ∙ (item_has (λ (q : Row). map kind_of q.values ≡ kinds_of r) r.rows cut.facts.values found.0.0 found.2.old
+      found.2.is_old ∙ sym kinds)
 
   -- the entity of a row of the part, by that of the row of the whole
   entity_place : (k : ℕ) (row : RowId) (ent : ℕ) (old : EntId) → slice_get rows k ≡ Some row → slice_get entities ent ≡ Some old
@@ -53,7 +54,8 @@ module _ (r : Relation) (rows : List RowId) (entities : List EntId) (new : Relat
   inhabited_at : (ent : ℕ) → ent < length new.entities → HasRowOf new.rows ent
   inhabited_at ent below =
       let old = item_at entities ent (omega (arith, below, part.entities.many)) in
-      let has = cut.facts.inhabited old.0.0 (item_has (λ (e : EntId). e.0 < length r.entities) entities cut.named ent old.0 old.1) in
+      let has = cut.facts.inhabited old.0.0 (item_has (λ (e : EntId). e.0 < length r.entities) entities cut.named ent
+      old.0 old.1) in
       let row : RowId = record { 0 = has.at } in
       let of : entity_of r.rows has.at ≡ Some old.0.0 = entity_of_row r.rows has.at has.row has.is_row ∙ ap Some has.is_of in
       let place = stands rows row (cut.complete row old.0 of (is_in entities ent old.0 old.1)) in
@@ -70,7 +72,8 @@ module _ (r : Relation) (rows : List RowId) (entities : List EntId) (new : Relat
       mapped (λ (row : Row). row.name) r.rows p.0.0 p.2.old p.2.is_old ∙ ap Some (sym p.2.name ∙ a.2) in
       let second : slice_get (map (λ (row : Row). row.name) r.rows) q.0.0 ≡ Some x =
       mapped (λ (row : Row). row.name) r.rows q.0.0 q.2.old q.2.is_old ∙ ap Some (sym q.2.name ∙ b.2) in
-      let same : p.0 ≡ q.0 = ap (λ (k : ℕ). let y : RowId = record { 0 = k } in y) (cut.facts.row_names p.0.0 q.0.0 x first second) in
+      let same : p.0 ≡ q.0 = ap (λ (k : ℕ). let y : RowId = record { 0 = k } in y)
+      (cut.facts.row_names p.0.0 q.0.0 x first second) in
       one_row rows i j q.0 cut.rows_ascend (p.1 ∙ ap Some same) q.1
 
   entity_names_once : OnlyOnce new.entities

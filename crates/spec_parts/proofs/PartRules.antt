@@ -11,7 +11,8 @@ use Rattle.spec_parts.proofs.Pairing.{item_has, each_has, get_take, take_next, u
 length_front : {A : Type 0} (k : ℕ) (xs : List A) → length (take k xs) ≤ length xs
 length_front k xs = grind (arith, common_steps)
 
-first_rules : (relations : List Relation) (rules : List Rule) (k : ℕ) → AreRules relations rules → AreRules relations (take k rules)
+first_rules : (relations : List Relation) (rules : List Rule) (k : ℕ) → AreRules relations rules → AreRules relations
+    (take k rules)
 first_rules relations rules k are = record {
   few = omega (arith, length_front k rules, are.few);
   each = each_has (IsRuleOf relations) (take k rules)
@@ -40,4 +41,5 @@ pub rule_more : (start now new : Spec) (rules : List Rule) (k : ℕ) (rule copy 
     → new ≡ record start { rules = take (k + 1) rules }
 rule_more start now new rules k rule copy at same is put =
     put ∙ ap (λ (s : Spec). let t : Spec = record s { rules = s.rules ++ copy ∷ [] } in t) is
-    ∙ ap (λ rs. let t : Spec = record start { rules = rs } in t) (ap (λ c. take k rules ++ c ∷ []) same ∙ sym (take_next rules k rule at))
+    ∙ ap (λ rs. let t : Spec = record start { rules = rs } in t) (ap (λ c. take k rules ++ c ∷ []) same
+    ∙ sym (take_next rules k rule at))

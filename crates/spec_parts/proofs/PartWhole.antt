@@ -21,7 +21,8 @@ use Rattle.spec_parts.proofs.PartLists.{part_at}
 
 -- ---- what is required of the steps
 
-pub cuttable_places : (whole : Spec) (n : Places) → IsSpecification whole → AreClosedPlaces whole n → AreCuttable whole.relations n
+pub cuttable_places : (whole : Spec) (n : Places) → IsSpecification whole → AreClosedPlaces whole n
+    → AreCuttable whole.relations n
 cuttable_places whole n facts places = cuttable whole.relations places.0 n facts.relations places.1
 
 pub rules_of_part : (whole : Spec) (n : Places) (part : List Relation) → AreRules whole.relations whole.rules
@@ -47,7 +48,8 @@ closed_copies whole n facts places k copy at row from c mapped =
     let one = item_at among.source.rows from.0 (among.copied row from mapped).in_source in
     let of = entity_of_row among.source.rows from.0 one.0 one.1 in
     let same : scope copy.target.0 is_in.ent ≡ scope copy.source.0 one.0.entity.0 =
-    places.2 k copy at among.target among.source among.is_target among.is_source row from mapped is_in.ent one.0.entity.0 is_in.is_of of in
+    places.2 k copy at among.target among.source among.is_target among.is_source row from mapped is_in.ent
+    one.0.entity.0 is_in.is_of of in
     (places.1.rows copy.source.0 among.source among.is_source from).1
     (record { ent = one.0.entity.0; is_of = of; is_in = sym same ∙ is_in.is_in })
 
@@ -61,7 +63,8 @@ relation_part r new rows entities part all = record {
   per_row = part.rows.many;
   each_row = part.rows.each;
   per_entity = part.entities.many;
-  each_entity = λ k ent at. let found = partner (IsNamePart r.entities) entities new.entities k ent part.entities at in found.1 ∙ sym
+  each_entity = λ k ent at. let found = partner (IsNamePart r.entities) entities new.entities k ent part.entities
+      at in found.1 ∙ sym
       found.2;
   given_are = part.given;
   given_all = all;
@@ -84,7 +87,8 @@ built whole n part are given rules copies scope places closed = record {
 -- the same, from what each step says
 pub built_by_steps : (whole : Spec) (n : Places) (bare given ruled part : Spec) → Grows whole n bare given
     → ((rel : ℕ) → HasGiven whole n given.relations rel) → ruled ≡ record given { rules = whole.rules }
-    → AreCopiesSoFar n whole.copies (length whole.copies) part.copies → part.relations ≡ ruled.relations → part.rules ≡ ruled.rules
+    → AreCopiesSoFar n whole.copies (length whole.copies) part.copies → part.relations ≡ ruled.relations
+    → part.rules ≡ ruled.rules
     → IsBuilt whole n part
 built_by_steps whole n bare given ruled part grows has ruling copies same_relations same_rules =
     let relations : part.relations ≡ given.relations = same_relations ∙ ap (λ (s : Spec). s.relations) ruling in
@@ -93,7 +97,8 @@ built_by_steps whole n bare given ruled part grows has ruling copies same_relati
     (λ rel. subst (λ rs. HasGiven whole n rs rel) (sym relations) (has rel)) rules copies
 
 -- three clauses of a call whose answer is handed on
-pub on_ok_three : {T E : Type 0} (A B C D : Type 0) (result : Result T E) → OnOk result A → OnOk result B → OnOk result C → (A → B → C → D)
+pub on_ok_three : {T E : Type 0} (A B C D : Type 0) (result : Result T E) → OnOk result A → OnOk result B
+    → OnOk result C → (A → B → C → D)
     → OnOk result D
 on_ok_three A B C D (Ok x) a b c all = all a b c
 on_ok_three A B C D (Err e) a b c all = tt

@@ -29,7 +29,8 @@ module _ {A : Type 0} (key : A → ℕ) (xs : List A) (x : A) where
     where
       by : (c.0 < i) ⊎ (i ≤ c.0) → ⊥
       by (inl low) =
-          let less : key (get_or xs c.0 x) < key x = ranked _ (key x) _ (sym ((parted (rise up)).0 c.0 x (omega (arith, c.1)) low)) in
+          let less : key (get_or xs c.0 x) < key x = ranked _ (key x) _
+          (sym ((parted (rise up)).0 c.0 x (omega (arith, c.1)) low)) in
           absurd (omega (arith, less, ap key c.2))
       by (inr high) =
           let more : key x < key (get_or xs c.0 x) = ranked _ (key x) _ (sym ((parted (rise up)).1 c.0 x high c.1)) in
@@ -77,7 +78,8 @@ once key xs ascend i j x at at' = by (cases_lt i j) (cases_lt j i)
     by (inr high) (inl low) = absurd (omega (arith, ascend j i x x low at' at))
     by (inr high) (inr high') = omega (arith, high, high')
 
-pub one_row : (rows : List RowId) (i j : ℕ) (x : RowId) → RowsAscend rows → slice_get rows i ≡ Some x → slice_get rows j ≡ Some x → i ≡ j
+pub one_row : (rows : List RowId) (i j : ℕ) (x : RowId) → RowsAscend rows → slice_get rows i ≡ Some x
+    → slice_get rows j ≡ Some x → i ≡ j
 one_row rows i j x ascend at at' = once (λ y. y.0) rows ascend i j x at at'
 
 pub one_entity : (entities : List EntId) (i j : ℕ) (x : EntId) → EntitiesAscend entities → slice_get entities i ≡ Some x

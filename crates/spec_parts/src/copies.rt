@@ -1,4 +1,4 @@
-ghost use Rattle.std.specs.Prelude.{◌≡◌, ◌+◌, ◌<◌, true, is_ok, length, IfOk, OnOk};
+ghost use Rattle.std.specs.Prelude.{◌≡◌, ◌+◌, ◌<◌, length, IfOk, OnOk};
 ghost use Rattle.copy_functions.specs.Copies.{IsCopied};
 ghost use Rattle.part_laws.specs.Parts.{rows_in, IsCopyPart};
 ghost use Rattle.spec_model.specs.Facts.{AreCopies};
@@ -6,10 +6,10 @@ ghost use Rattle.spec_parts.specs.Steps.{ArePartsSoFar, AreCuttable, AreClosedCo
 
 use crate::laws::is_specification;
 use crate::place::place_of_row;
-use copy_functions::{CopyFault, CopyMap};
+use copy_functions::CopyMap;
 use currency_base::{NoMemory, RowId, Rows};
 use part_places::Places;
-use spec_duplicates::unmapped;
+use spec_duplicates::{or_no_memory, unmapped};
 use spec_model::Specification;
 use std::alloc::Global;
 
@@ -44,7 +44,8 @@ fn copy_between(
     part: &Specification,
 ) -> Result<CopyMap, NoMemory>
     requires { IsCopyCutOf places.now part.now.relations copy.now }
-    ensures part { IfOk result (IsCopyPart copy.now (rows_in places.now copy.now.target.0) (rows_in places.now copy.now.source.0)) }
+    ensures part { IfOk result (IsCopyPart copy.now (rows_in places.now copy.now.target.0)
+        (rows_in places.now copy.now.source.0)) }
     ensures copied { IfOk result (IsCopiedIn part.now.relations) }
 {
     let relations = part.relations();
@@ -105,21 +106,12 @@ fn map_row(
     requires cut { IsCopyCut copy.now targets.now sources.now target_rows.now source_rows.now }
     requires so_far { IsCopySoFar copy.now targets.now sources.now row.0 new.old }
     ensures so_far { OnOk result (IsCopySoFar copy.now targets.now sources.now (row.0 + 1) new.new) }
-    ensures copied { IsCopied new.old target_rows.now source_rows.now → OnOk result (IsCopied new.new target_rows.now source_rows.now) }
+    ensures copied { IsCopied new.old target_rows.now source_rows.now
+        → OnOk result (IsCopied new.new target_rows.now source_rows.now) }
 {
     let Some(from) = copy.source_of(targets[row.0 as usize]) else {
         return Ok(());
     };
     let source = place_of_row(sources, from);
     or_no_memory(new.add(alloc, target_rows, source_rows, row, source))
-}
-
-/// What maps a row of the part can only want memory, since the row is mapped in the whole, to a row of equal values.
-fn or_no_memory(outcome: Result<(), CopyFault>) -> Result<(), NoMemory>
-    ensures { OnOk result (is_ok outcome ≡ true) }
-{
-    match outcome {
-        Ok(()) => Ok(()),
-        Err(_) => Err(NoMemory),
-    }
 }

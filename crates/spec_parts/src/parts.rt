@@ -15,8 +15,9 @@ use part_places::Places;
 use spec_model::Specification;
 use std::alloc::Global;
 
-/// The part of these places: the same relations, rules and copy functions, with the rows, given pairs and mapped rows of its entities,
-/// numbered anew. Takes time in proportion to the part (times a logarithm), beside the relations' and rules' own texts.
+/// The part of these places: the same relations, rules and copy functions, with the rows, given pairs and mapped rows
+/// of its entities, numbered anew. Takes time in proportion to the part (times a logarithm), beside the relations' and
+/// rules' own texts.
 pub fn part(
     alloc: Global,
     spec: &Specification,

@@ -27,7 +27,8 @@ use Rattle.spec_syntax.specs.Reading.{attr_at, pair_at, ordering_at, ended_order
 
 reads_kind : IsReader (Says Grammar.kind_named) always (one Grammar.kind_named)
 reads_kind = reads_one Grammar.kind_named (a_fixed Word (codes "text")) Text
-    (ap (λ (b : Bool). cond b (Some Text) (cond (is_word (codes "int") (a_fixed Word (codes "text"))) (Some Int) None)) (a_fixed_is Word (codes "text")))
+    (ap (λ (b : Bool). cond b (Some Text) (cond (is_word (codes "int") (a_fixed Word (codes "text"))) (Some Int)
+    None)) (a_fixed_is Word (codes "text")))
 
 pub reads_attr : IsReader Grammar.SpellsAttr always attr_at
 unfolding attr_at
@@ -47,13 +48,15 @@ reads_pair =
 pub reads_ordering : IsReader Grammar.SpellsOrdering (unless (is_symbol (codes ","))) ordering_at
 unfolding ordering_at
 reads_ordering =
-    reads_made (reads_two reads_name (after_symbol (codes ".") (reads_two reads_name (after_symbol (codes ":") (listed_symbol (codes ",") reads_pair)))))
+    reads_made (reads_two reads_name
+    (after_symbol (codes ".") (reads_two reads_name (after_symbol (codes ":") (listed_symbol (codes ",") reads_pair)))))
     (λ x. record { relation = x.0; attr = x.1.0; pairs = x.1.1 }) (unless (is_symbol (codes ",")))
     (λ a t. refl) (λ x tokens h. h) (λ o tokens h. record { tree = (o.relation, (o.attr, o.pairs)); is = refl; spelled = h })
 
 pub reads_ended_ordering : IsReader Grammar.SpellsEndedOrdering always ended_ordering_at
 unfolding ended_ordering_at
-reads_ended_ordering = before_symbol (codes ";") reads_ordering (λ o t e. ap not (apart Symbol (codes ";") Symbol (codes ",") refl t e))
+reads_ended_ordering = before_symbol (codes ";") reads_ordering
+    (λ o t e. ap not (apart Symbol (codes ";") Symbol (codes ",") refl t e))
 
 -- ---- statements
 
@@ -62,7 +65,8 @@ Row row = Maybe (λ column. IsWord (codes "row") ⋅ SpellsName column) row
 
 reads_row : IsReader Row (maybe_ends always (is_word (codes "row"))) row_at
 unfolding row_at
-reads_row = reads_maybe (after_word (codes "row") reads_name) (is_word (codes "row")) (begins_fixed SpellsName Word (codes "row") (is_word (codes "row")) true (λ t e. e))
+reads_row = reads_maybe (after_word (codes "row") reads_name) (is_word (codes "row"))
+    (begins_fixed SpellsName Word (codes "row") (is_word (codes "row")) true (λ t e. e))
 
 -- what ends a row's column, or its absence: the word `entity`
 ends_row : Ended (maybe_ends {A = Named} always (is_word (codes "row"))) (is_word (codes "entity"))
@@ -74,7 +78,8 @@ Attrs attrs = IsSymbol (codes "(") ⋅ Listed (IsSymbol (codes ",")) Grammar.Spe
 
 reads_attrs : IsReader Attrs always attrs_at
 unfolding attrs_at
-reads_attrs = after_symbol (codes "(") (before_symbol (codes ")") (listed_symbol (codes ",") reads_attr) (λ a t e. ap not (apart Symbol (codes ")") Symbol (codes ",") refl t e)))
+reads_attrs = after_symbol (codes "(") (before_symbol (codes ")") (listed_symbol (codes ",") reads_attr)
+    (λ a t e. ap not (apart Symbol (codes ")") Symbol (codes ",") refl t e)))
 
 -- the parts of a relation: name, document, column of the row names, column of the entity names, attributes
 abbrev RelationParts : Type 0
@@ -104,10 +109,12 @@ reads_relation = reads_mapped parts relation_of ends_statement (λ a t. refl)
         (after (is_word (codes "entity")) (both (one named) attrs_at))
     entity = after_word (codes "entity") (reads_two reads_name reads_attrs)
 
-    row : IsReader (λ (x : Option Named × (Named × List AttrTree)). Row x.0 ⋅ IsWord (codes "entity") ⋅ SpellsName x.1.0 ⋅ Attrs x.1.1) always
+    row : IsReader (λ (x : Option Named × (Named × List AttrTree)). Row x.0 ⋅ IsWord (codes "entity") ⋅ SpellsName
+        x.1.0 ⋅ Attrs x.1.1) always
         (both row_at (after (is_word (codes "entity")) (both (one named) attrs_at)))
     row = reads_then reads_row entity (is_word (codes "entity"))
-        (begins_fixed (λ (x : Named × List AttrTree). SpellsName x.0 ⋅ Attrs x.1) Word (codes "entity") (is_word (codes "entity")) true (λ t e. e)) ends_row
+        (begins_fixed (λ (x : Named × List AttrTree). SpellsName x.0 ⋅ Attrs x.1) Word (codes "entity")
+        (is_word (codes "entity")) true (λ t e. e)) ends_row
 
     parts : IsReader SpellsRelation always
         (after (is_word (codes "relation")) (both (one named) (after (is_word (codes "from")) (both (one quoted)
@@ -133,7 +140,8 @@ SpellsOrders x = IsWord (codes "orders") ⋅ SpellsName x.0 ⋅ IsWord (codes "f
 
 reads_orders : IsReader (Image orders_of SpellsOrders) ends_statement orders_at
 unfolding orders_at
-reads_orders = reads_mapped (after_word (codes "orders") (reads_two reads_name (after_word (codes "from") reads_string))) orders_of ends_statement (λ x t. refl)
+reads_orders = reads_mapped (after_word (codes "orders")
+    (reads_two reads_name (after_word (codes "from") reads_string))) orders_of ends_statement (λ x t. refl)
 
 reads_constraint : IsReader (Image Rule SpellsRule) ends_statement constraint_at
 unfolding constraint_at
@@ -143,23 +151,31 @@ reads_copying : IsReader (Image Copy SpellsCopy) ends_statement copying_at
 unfolding copying_at
 reads_copying = reads_mapped reads_copy Copy ends_statement (λ c t. refl)
 
-begins_relation : (test : Lexeme → Bool) (b : Bool) → ((t : Lexeme) → is_word (codes "relation") t ≡ true → test t ≡ b) → Begins test b (Image relation_of SpellsRelation)
+begins_relation : (test : Lexeme → Bool) (b : Bool) → ((t : Lexeme) → is_word (codes "relation") t ≡ true
+    → test t ≡ b) → Begins test b (Image relation_of SpellsRelation)
 begins_relation test b goes = begins_image relation_of SpellsRelation test b
     (begins_fixed
-    (λ (x : RelationParts). SpellsName x.0 ⋅ IsWord (codes "from") ⋅ SpellsString x.1.0 ⋅ Row x.1.1.0 ⋅ IsWord (codes "entity") ⋅ SpellsName x.1.1.1.0 ⋅ Attrs x.1.1.1.1)
+    (λ (x : RelationParts). SpellsName x.0 ⋅ IsWord (codes "from") ⋅ SpellsString x.1.0 ⋅ Row x.1.1.0 ⋅ IsWord
+    (codes "entity") ⋅ SpellsName x.1.1.1.0 ⋅ Attrs x.1.1.1.1)
     Word (codes "relation") test b goes)
 
-begins_order : (test : Lexeme → Bool) (b : Bool) → ((t : Lexeme) → is_word (codes "order") t ≡ true → test t ≡ b) → Begins test b (Image Order SpellsOrder)
-begins_order test b goes = begins_image Order SpellsOrder test b (begins_fixed Grammar.SpellsOrdering Word (codes "order") test b goes)
+begins_order : (test : Lexeme → Bool) (b : Bool) → ((t : Lexeme) → is_word (codes "order") t ≡ true → test t ≡ b)
+    → Begins test b (Image Order SpellsOrder)
+begins_order test b goes = begins_image Order SpellsOrder test b (begins_fixed Grammar.SpellsOrdering Word
+    (codes "order") test b goes)
 
-begins_orders : (test : Lexeme → Bool) (b : Bool) → ((t : Lexeme) → is_word (codes "orders") t ≡ true → test t ≡ b) → Begins test b (Image orders_of SpellsOrders)
+begins_orders : (test : Lexeme → Bool) (b : Bool) → ((t : Lexeme) → is_word (codes "orders") t ≡ true → test t ≡ b)
+    → Begins test b (Image orders_of SpellsOrders)
 begins_orders test b goes = begins_image orders_of SpellsOrders test b
-    (begins_fixed (λ (x : OrdersParts). SpellsName x.0 ⋅ IsWord (codes "from") ⋅ SpellsString x.1) Word (codes "orders") test b goes)
+    (begins_fixed (λ (x : OrdersParts). SpellsName x.0 ⋅ IsWord (codes "from") ⋅ SpellsString x.1) Word
+    (codes "orders") test b goes)
 
-begins_constraint : (test : Lexeme → Bool) (b : Bool) → ((t : Lexeme) → is_word (codes "rule") t ≡ true → test t ≡ b) → Begins test b (Image Rule SpellsRule)
+begins_constraint : (test : Lexeme → Bool) (b : Bool) → ((t : Lexeme) → is_word (codes "rule") t ≡ true → test t ≡ b)
+    → Begins test b (Image Rule SpellsRule)
 begins_constraint test b goes = begins_image Rule SpellsRule test b (begins_rule test b goes)
 
-begins_copying : (test : Lexeme → Bool) (b : Bool) → ((t : Lexeme) → is_word (codes "copy") t ≡ true → test t ≡ b) → Begins test b (Image Copy SpellsCopy)
+begins_copying : (test : Lexeme → Bool) (b : Bool) → ((t : Lexeme) → is_word (codes "copy") t ≡ true → test t ≡ b)
+    → Begins test b (Image Copy SpellsCopy)
 begins_copying test b goes = begins_image Copy SpellsCopy test b (begins_copy test b goes)
 
 -- statements from some kind on, in the order in which they are tried
@@ -177,15 +193,18 @@ FromRelation = Either (Image relation_of SpellsRelation) FromOrder
 
 -- what a test answers at their first words
 begins_from_rule : (test : Lexeme → Bool) (b : Bool)
-    → ((t : Lexeme) → is_word (codes "rule") t ≡ true → test t ≡ b) → ((t : Lexeme) → is_word (codes "copy") t ≡ true → test t ≡ b) → Begins test b FromRule
+    → ((t : Lexeme) → is_word (codes "rule") t ≡ true → test t ≡ b) → ((t : Lexeme) → is_word (codes "copy") t ≡ true
+    → test t ≡ b) → Begins test b FromRule
 begins_from_rule test b rule copy s tokens (inl h) = begins_constraint test b rule s tokens h
 begins_from_rule test b rule copy s tokens (inr h) = begins_copying test b copy s tokens h
 
-begins_from_orders : (test : Lexeme → Bool) (b : Bool) → ((t : Lexeme) → is_word (codes "orders") t ≡ true → test t ≡ b) → Begins test b FromRule → Begins test b FromOrders
+begins_from_orders : (test : Lexeme → Bool) (b : Bool) → ((t : Lexeme) → is_word (codes "orders") t ≡ true
+    → test t ≡ b) → Begins test b FromRule → Begins test b FromOrders
 begins_from_orders test b orders others s tokens (inl h) = begins_orders test b orders s tokens h
 begins_from_orders test b orders others s tokens (inr h) = others s tokens h
 
-begins_from_order : (test : Lexeme → Bool) (b : Bool) → ((t : Lexeme) → is_word (codes "order") t ≡ true → test t ≡ b) → Begins test b FromOrders → Begins test b FromOrder
+begins_from_order : (test : Lexeme → Bool) (b : Bool) → ((t : Lexeme) → is_word (codes "order") t ≡ true
+    → test t ≡ b) → Begins test b FromOrders → Begins test b FromOrder
 begins_from_order test b order others s tokens (inl h) = begins_order test b order s tokens h
 begins_from_order test b order others s tokens (inr h) = others s tokens h
 
@@ -193,13 +212,17 @@ statement_spelled : (s : StatementTree) (tokens : List Lexeme) → FromRelation 
 statement_spelled s tokens (inl h) = subst (λ (s : StatementTree). Grammar.SpellsStatement s tokens) h.is h.spelled
 statement_spelled s tokens (inr (inl h)) = subst (λ (s : StatementTree). Grammar.SpellsStatement s tokens) h.is h.spelled
 statement_spelled s tokens (inr (inr (inl h))) = subst (λ (s : StatementTree). Grammar.SpellsStatement s tokens) h.is h.spelled
-statement_spelled s tokens (inr (inr (inr (inl h)))) = subst (λ (s : StatementTree). Grammar.SpellsStatement s tokens) h.is h.spelled
-statement_spelled s tokens (inr (inr (inr (inr h)))) = subst (λ (s : StatementTree). Grammar.SpellsStatement s tokens) h.is h.spelled
+statement_spelled s tokens (inr (inr (inr (inl h)))) = subst (λ (s : StatementTree). Grammar.SpellsStatement s
+    tokens) h.is h.spelled
+statement_spelled s tokens (inr (inr (inr (inr h)))) = subst (λ (s : StatementTree). Grammar.SpellsStatement s
+    tokens) h.is h.spelled
 
 spelled_statement : (s : StatementTree) (tokens : List Lexeme) → Grammar.SpellsStatement s tokens → FromRelation s tokens
-spelled_statement (Relation name document row entity attrs) tokens h = inl (record { tree = (name, (document, (row, (entity, attrs)))); is = refl; spelled = h })
+spelled_statement (Relation name document row entity attrs) tokens h =
+    inl (record { tree = (name, (document, (row, (entity, attrs)))); is = refl; spelled = h })
 spelled_statement (Order o) tokens h = inr (inl (record { tree = o; is = refl; spelled = h }))
-spelled_statement (Orders relation document) tokens h = inr (inr (inl (record { tree = (relation, document); is = refl; spelled = h })))
+spelled_statement (Orders relation document) tokens h =
+    inr (inr (inl (record { tree = (relation, document); is = refl; spelled = h })))
 spelled_statement (Rule r) tokens h = inr (inr (inr (inl (record { tree = r; is = refl; spelled = h }))))
 spelled_statement (Copy c) tokens h = inr (inr (inr (inr (record { tree = c; is = refl; spelled = h }))))
 
@@ -208,14 +231,16 @@ reads_from_rule = reads_choose reads_constraint reads_copying (is_word (codes "r
     (begins_constraint (is_word (codes "rule")) true (λ t e. e))
     (begins_copying (is_word (codes "rule")) false (apart Word (codes "copy") Word (codes "rule") refl))
 
-reads_from_orders : IsReader FromOrders ends_statement (choose (is_word (codes "orders")) orders_at (choose (is_word (codes "rule")) constraint_at copying_at))
+reads_from_orders : IsReader FromOrders ends_statement (choose (is_word (codes "orders")) orders_at
+    (choose (is_word (codes "rule")) constraint_at copying_at))
 reads_from_orders = reads_choose reads_orders reads_from_rule (is_word (codes "orders"))
     (begins_orders (is_word (codes "orders")) true (λ t e. e))
     (begins_from_rule (is_word (codes "orders")) false
     (apart Word (codes "rule") Word (codes "orders") refl) (apart Word (codes "copy") Word (codes "orders") refl))
 
 reads_from_order : IsReader FromOrder ends_statement
-    (choose (is_word (codes "order")) order_at (choose (is_word (codes "orders")) orders_at (choose (is_word (codes "rule")) constraint_at copying_at)))
+    (choose (is_word (codes "order")) order_at (choose (is_word (codes "orders")) orders_at
+    (choose (is_word (codes "rule")) constraint_at copying_at)))
 reads_from_order = reads_choose reads_order reads_from_orders (is_word (codes "order"))
     (begins_order (is_word (codes "order")) true (λ t e. e))
     (begins_from_orders (is_word (codes "order")) false (apart Word (codes "orders") Word (codes "order") refl)
@@ -249,14 +274,17 @@ reads_ended_statement = before_symbol (codes ";") reads_statement ends_at_semico
 begins_ended_statement : Begins (λ t. true) true Grammar.SpellsEndedStatement
 begins_ended_statement s tokens h = first_then (λ t. true) true (statement_begins s) h
   where
-    statement_begins : (s : StatementTree) (front : List Lexeme) → Grammar.SpellsStatement s front → FirstIs (λ t. true) true front
+    statement_begins : (s : StatementTree) (front : List Lexeme) → Grammar.SpellsStatement s front
+        → FirstIs (λ t. true) true front
     statement_begins s front h = elim (spelled_statement s front h) [
       | inl h ↦ begins_relation (λ t. true) true (λ t e. refl) s front h
-      | inr h ↦ begins_from_order (λ t. true) true (λ t e. refl) (begins_from_orders (λ t. true) true (λ t e. refl) (begins_from_rule (λ t. true) true (λ t e. refl) (λ t e. refl))) s front h
+      | inr h ↦ begins_from_order (λ t. true) true (λ t e. refl) (begins_from_orders (λ t. true) true (λ t e. refl)
+          (begins_from_rule (λ t. true) true (λ t e. refl) (λ t e. refl))) s front h
     ]
 
 pub reads_spec : IsReader Grammar.SpellsSpec (unless (λ t. true)) spec_at
 unfolding spec_at
 reads_spec =
-    reads_made (reads_many_plain reads_ended_statement (λ t. true) begins_ended_statement) (λ s. record { statements = s }) (unless (λ t. true))
+    reads_made (reads_many_plain reads_ended_statement (λ t. true) begins_ended_statement)
+    (λ s. record { statements = s }) (unless (λ t. true))
     (λ a t. refl) (λ x tokens h. h) (λ spec tokens h. record { tree = spec.statements; is = refl; spelled = h })

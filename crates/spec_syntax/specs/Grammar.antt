@@ -31,7 +31,8 @@ SpellsPair p = SpellsName p.first ⋅ IsSymbol (codes "<") ⋅ SpellsName p.seco
 -- ordering = name "." name ":" pair { "," pair }
 abbrev pub SpellsOrdering : OrderingTree → Language
 SpellsOrdering o =
-    SpellsName o.relation ⋅ IsSymbol (codes ".") ⋅ SpellsName o.attr ⋅ IsSymbol (codes ":") ⋅ Listed (IsSymbol (codes ",")) SpellsPair o.pairs
+    SpellsName o.relation ⋅ IsSymbol (codes ".") ⋅ SpellsName o.attr ⋅ IsSymbol (codes ":") ⋅ Listed
+    (IsSymbol (codes ",")) SpellsPair o.pairs
 
 -- ordering ";"
 abbrev pub SpellsEndedOrdering : OrderingTree → Language
@@ -49,7 +50,8 @@ SpellsStatement (Relation name document row entity attrs) =
     ⋅ IsWord (codes "entity") ⋅ SpellsName entity
     ⋅ IsSymbol (codes "(") ⋅ Listed (IsSymbol (codes ",")) SpellsAttr attrs ⋅ IsSymbol (codes ")")
 SpellsStatement (Order ordering) = IsWord (codes "order") ⋅ SpellsOrdering ordering
-SpellsStatement (Orders relation document) = IsWord (codes "orders") ⋅ SpellsName relation ⋅ IsWord (codes "from") ⋅ SpellsString document
+SpellsStatement (Orders relation document) = IsWord (codes "orders") ⋅ SpellsName relation ⋅ IsWord (codes "from") ⋅
+    SpellsString document
 SpellsStatement (Rule rule) = SpellsRule rule
 SpellsStatement (Copy copy) = SpellsCopy copy
 

@@ -22,7 +22,8 @@ pair_at = mapped (λ x. record { first = x.0; second = x.1 }) (both (one named) 
 unfoldable pub ordering_at : Parser OrderingTree
 ordering_at =
     mapped (λ x. record { relation = x.0; attr = x.1.0; pairs = x.1.1 })
-    (both (one named) (after (is_symbol (codes ".")) (both (one named) (after (is_symbol (codes ":")) (listed (is_symbol (codes ",")) pair_at)))))
+    (both (one named) (after (is_symbol (codes "."))
+    (both (one named) (after (is_symbol (codes ":")) (listed (is_symbol (codes ",")) pair_at)))))
 
 unfoldable pub ended_ordering_at : Parser OrderingTree
 ended_ordering_at = before ordering_at (is_symbol (codes ";"))
@@ -46,7 +47,8 @@ unfoldable pub order_at : Parser StatementTree
 order_at = mapped (λ o. Order o) (after (is_word (codes "order")) ordering_at)
 
 unfoldable pub orders_at : Parser StatementTree
-orders_at = mapped (λ x. Orders x.0 x.1) (after (is_word (codes "orders")) (both (one named) (after (is_word (codes "from")) (one quoted))))
+orders_at = mapped (λ x. Orders x.0 x.1)
+    (after (is_word (codes "orders")) (both (one named) (after (is_word (codes "from")) (one quoted))))
 
 -- a rule as a statement
 unfoldable pub constraint_at : Parser StatementTree

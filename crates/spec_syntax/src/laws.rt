@@ -17,5 +17,6 @@ pub fn one_specification()
 pub fn one_ordering()
     ensures one_tree { (source : List ℕ) (a b : OrderingTree) → ReadsOrdering source a → ReadsOrdering source b → a ≡ b }
     ensures one_refusal { (source : List ℕ) (e f : TextFault) → RefusesOrdering source e → RefusesOrdering source f → e ≡ f }
-    ensures not_both { (source : List ℕ) (tree : OrderingTree) (e : TextFault) → ReadsOrdering source tree → RefusesOrdering source e → ⊥ }
+    ensures not_both { (source : List ℕ) (tree : OrderingTree) (e : TextFault) → ReadsOrdering source tree
+        → RefusesOrdering source e → ⊥ }
 {}

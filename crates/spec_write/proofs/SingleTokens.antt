@@ -36,9 +36,12 @@ use Rattle.spec_write.proofs.Words.{IsToken}
 -- what is known of written names, strings and values
 pub record Laws : Type 0 where
   pub tokens : (pieces : List Piece) → All IsPiece pieces → HasTokens pieces
-  pub name_read : (bytes : List ℕ) → IsUtf8 bytes → (t : Lexeme) → piece_of t ≡ name_piece bytes → named t ≡ Some (on_line t.line bytes)
-  pub string_read : (bytes : List ℕ) → IsUtf8 bytes → (t : Lexeme) → piece_of t ≡ string_piece bytes → quoted t ≡ Some (on_line t.line bytes)
-  pub value_read : (v : Value) → IsValue v → (t : Lexeme) → piece_of t ≡ value_piece v → constant t ≡ Some (value_on_line t.line v)
+  pub name_read : (bytes : List ℕ) → IsUtf8 bytes → (t : Lexeme) → piece_of t ≡ name_piece bytes → named t ≡ Some
+      (on_line t.line bytes)
+  pub string_read : (bytes : List ℕ) → IsUtf8 bytes → (t : Lexeme) → piece_of t ≡ string_piece bytes
+      → quoted t ≡ Some (on_line t.line bytes)
+  pub value_read : (v : Value) → IsValue v → (t : Lexeme) → piece_of t ≡ value_piece v → constant t ≡ Some
+      (value_on_line t.line v)
   pub name_whole : (bytes : List ℕ) → IsUtf8 bytes → IsPiece (name_piece bytes)
   pub string_whole : (bytes : List ℕ) → IsUtf8 bytes → IsPiece (string_piece bytes)
   pub value_whole : (v : Value) → IsValue v → IsPiece (value_piece v)
@@ -65,18 +68,21 @@ alone_is t tokens e h = All-head IsToken t [] (subst (All IsToken) e h)
 -- ---- fixed tokens
 
 -- a fixed token is known by its piece
-same_fixed : (kind : TokenKind) (text : List ℕ) (t : Lexeme) → piece_of t ≡ record { kind = kind; text = text } → is_fixed kind text t ≡ true
+same_fixed : (kind : TokenKind) (text : List ℕ) (t : Lexeme) → piece_of t ≡ record { kind = kind; text = text }
+    → is_fixed kind text t ≡ true
 same_fixed kind text t e =
     ap (λ (p : Piece). is_fixed kind text (record { kind = p.kind; text = p.text; start = 0; line = 0 })) e ∙ fixed kind text
   where
-    fixed : (kind : TokenKind) (text : List ℕ) → is_fixed kind text (record { kind = kind; text = text; start = 0; line = 0 }) ≡ true
+    fixed : (kind : TokenKind) (text : List ℕ) → is_fixed kind text
+        (record { kind = kind; text = text; start = 0; line = 0 }) ≡ true
     fixed Word text = (bytes_eq-Decides text text).1 refl
     fixed Negative text = (bytes_eq-Decides text text).1 refl
     fixed Text text = (bytes_eq-Decides text text).1 refl
     fixed Symbol text = (bytes_eq-Decides text text).1 refl
     fixed Fault text = (bytes_eq-Decides text text).1 refl
 
-fixed_again : (kind : TokenKind) (text : List ℕ) (others : List Lexeme) → map piece_of others ≡ record { kind = kind; text = text } ∷ [] → Passes (is_fixed kind text) others
+fixed_again : (kind : TokenKind) (text : List ℕ) (others : List Lexeme) → map piece_of others ≡
+    record { kind = kind; text = text } ∷ [] → Passes (is_fixed kind text) others
 fixed_again kind text others e =
     let o : IsOne (record { kind = kind; text = text }) others = is_one (record { kind = kind; text = text }) others e in
     record { token = o.token; alone = o.alone; passes = same_fixed kind text o.token o.is }
@@ -112,7 +118,8 @@ rewritten_says {A} says piece unlined whole again = record {
 }
 
 -- what is text
-text_is : (bytes found : List ℕ) (b : Bool) → is_utf8 bytes ≡ b → ◌≡◌ {A = Option (List ℕ)} (cond b (Some bytes) None) (Some found) → IsUtf8 found
+text_is : (bytes found : List ℕ) (b : Bool) → is_utf8 bytes ≡ b → ◌≡◌ {A = Option (List ℕ)}
+    (cond b (Some bytes) None) (Some found) → IsUtf8 found
 text_is bytes found true h e = subst IsUtf8 (cc) (IsUtf8-from_is_utf8 bytes h)
 text_is bytes found false h e = absurd (cc)
 
@@ -178,7 +185,8 @@ record IsVariable (t : Lexeme) (v : Named) : Type 0 where
 variable_word : (k : TokenKind) (text found : List ℕ) → variable_in k text ≡ Some found → (k ≡ Word) × (text ≡ found)
 variable_word Word text found e = by (is_variable text) (is_utf8 text) e
   where
-    by : (b c : Bool) → ◌≡◌ {A = Option (List ℕ)} (cond b (cond c (Some text) None) None) (Some found) → (Word ≡ Word) × (text ≡ found)
+    by : (b c : Bool) → ◌≡◌ {A = Option (List ℕ)} (cond b (cond c (Some text) None) None) (Some found) →
+        (Word ≡ Word) × (text ≡ found)
     by true true h = (refl, cc)
     by true false h = absurd (cc)
     by false c h = absurd (cc)
@@ -189,23 +197,29 @@ variable_word Fault text found e = absurd (cc)
 
 is_a_variable : (t : Lexeme) (v : Named) → variable t ≡ Some v → IsVariable t v
 is_a_variable t v e =
-    let w : WasFound (on_line t.line) (variable_in t.kind t.text) v = was_found (on_line t.line) (variable_in t.kind t.text) v e in
+    let w : WasFound (on_line t.line) (variable_in t.kind t.text) v = was_found (on_line t.line)
+    (variable_in t.kind t.text) v e in
     let h : (t.kind ≡ Word) × (t.text ≡ w.found) = variable_word t.kind t.text w.found w.is in
     let found : w.found ≡ v.name = ap (λ (x : Named). x.name) w.gives in
     let text : t.text ≡ v.name = h.1 ∙ found in
     record {
       kind_is = h.0;
       text_is = text;
-      said = sym (ap (λ (k : TokenKind). variable_in k v.name) h.0) ∙ sym (ap (variable_in t.kind) text) ∙ w.is ∙ ap (λ (x : List ℕ). Some x) found;
+      said = sym (ap (λ (k : TokenKind). variable_in k v.name) h.0) ∙ sym (ap (variable_in t.kind) text) ∙ w.is
+          ∙ ap (λ (x : List ℕ). Some x) found;
     }
 
-variable_again : (t u : Lexeme) (v : Named) → IsVariable t v → piece_of u ≡ word_piece v.name → variable u ≡ Some (on_line u.line v.name)
+variable_again : (t u : Lexeme) (v : Named) → IsVariable t v → piece_of u ≡ word_piece v.name → variable u ≡ Some
+    (on_line u.line v.name)
 variable_again t u v h e =
     ap (λ (p : Piece). option_map (on_line u.line) (variable_in p.kind p.text)) e ∙ ap (option_map (on_line u.line)) h.said
 
 pub rewritten_variable : IsRewritten SpellsVariable variable_pieces unlined_name
 rewritten_variable = rewritten_says variable (λ v. word_piece v.name) unlined_name
-    (λ t v h e. (let k : IsVariable t v = is_a_variable t v e in record { whole = subst AreWordBytes k.text_is (h.word k.kind_is) }))
+    (λ t v h e. (let k : IsVariable t v = is_a_variable t v e in record {
+      whole = subst AreWordBytes k.text_is
+          (h.word k.kind_is);
+    }))
     (λ t u v e same. (on_line u.line v.name, variable_again t u v (is_a_variable t v e) same, refl))
 
 -- ---- constants
@@ -215,13 +229,15 @@ abbrev Fits64 : ℤ → Type 0
 Fits64 n = (neg_ℤ (pos (2 ^ 63)) ≤ℤ n) × (n <ℤ pos (2 ^ 63))
 
 pos_fits : (d : ℕ) (b c : Bool) (n : ℤ) → (c ≡ true → d < 2 ^ 63) → cond (b && c) (Some (pos d)) None ≡ Some n → Fits64 n
-pos_fits d true true n h e = subst Fits64 (cc) (let small : d < 2 ^ 63 = h refl in let fits : Fits64 (pos d) = (omega (arith, ints), omega (arith, ints)) in fits)
+pos_fits d true true n h e = subst Fits64 (cc) (let small : d < 2 ^ 63 = h refl in let fits : Fits64 (pos d) =
+    (omega (arith, ints), omega (arith, ints)) in fits)
 pos_fits d true false n h e = absurd (cc)
 pos_fits d false c n h e = absurd (cc)
 
 neg_fits : (d : ℕ) (b c : Bool) (n : ℤ) → (c ≡ true → d ≤ 2 ^ 63) → cond (b && c) (Some (neg_ℤ (pos d))) None ≡ Some n → Fits64 n
 neg_fits zero true true n h e = subst Fits64 (cc) (let fits : Fits64 (pos 0) = (omega (arith, ints), omega (arith, ints)) in fits)
-neg_fits (suc d) true true n h e = subst Fits64 (cc) (let small : suc d ≤ 2 ^ 63 = h refl in let fits : Fits64 (negsuc d) = (omega (arith, ints), omega (arith, ints)) in fits)
+neg_fits (suc d) true true n h e = subst Fits64 (cc) (let small : suc d ≤ 2 ^ 63 = h refl in let fits : Fits64
+    (negsuc d) = (omega (arith, ints), omega (arith, ints)) in fits)
 neg_fits d true false n h e = absurd (cc)
 neg_fits d false c n h e = absurd (cc)
 
@@ -230,8 +246,10 @@ unfolding int_of
 int_fits text n e = by (starts_with_minus text) e
   where
     by : (b : Bool) → cond b (negative_of (drop 1 text)) (positive_of text) ≡ Some n → Fits64 n
-    by true h = neg_fits (digits_value 10 (drop 1 text)) (is_numeral (drop 1 text)) (nat_le (digits_value 10 (drop 1 text)) (2 ^ 63)) n (leb-true _ (2 ^ 63)) h
-    by false h = pos_fits (digits_value 10 text) (is_numeral text) (nat_lt (digits_value 10 text) (2 ^ 63)) n (ltb-true _ (2 ^ 63)) h
+    by true h = neg_fits (digits_value 10 (drop 1 text)) (is_numeral (drop 1 text))
+        (nat_le (digits_value 10 (drop 1 text)) (2 ^ 63)) n (leb-true _ (2 ^ 63)) h
+    by false h = pos_fits (digits_value 10 text) (is_numeral text) (nat_lt (digits_value 10 text) (2 ^ 63)) n
+        (ltb-true _ (2 ^ 63)) h
 
 number_fits : (text : List ℕ) (v : Value) → option_map int_value (int_of text) ≡ Some v → IsValue v
 number_fits text v e =
@@ -249,7 +267,8 @@ value_is Fault text v e = absurd (cc)
 
 is_a_value : (t : Lexeme) (c : Const) → constant t ≡ Some c → IsValue c.value
 is_a_value t c e =
-    let w : WasFound (value_on_line t.line) (value_in t.kind t.text) c = was_found (value_on_line t.line) (value_in t.kind t.text) c e in
+    let w : WasFound (value_on_line t.line) (value_in t.kind t.text) c = was_found (value_on_line t.line)
+    (value_in t.kind t.text) c e in
     subst IsValue (ap (λ (x : Const). x.value) w.gives) (value_is t.kind t.text w.found w.is)
 
 pub rewritten_const : Laws → IsRewritten SpellsConst const_pieces unlined_const

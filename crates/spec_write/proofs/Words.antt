@@ -28,7 +28,8 @@ word_bytes (c ∷ cs) = rw (take_while-cons is_word_byte c cs) (by (is_word_byte
 HoldsWord : TokenKind × List ℕ → Type 0
 HoldsWord x = x.0 ≡ Word → AreWordBytes x.1
 
-chosen_holds : (b : Bool) (x y : TokenKind × List ℕ) → (b ≡ true → HoldsWord x) → (b ≡ false → HoldsWord y) → HoldsWord (cond b x y)
+chosen_holds : (b : Bool) (x y : TokenKind × List ℕ) → (b ≡ true → HoldsWord x) → (b ≡ false → HoldsWord y)
+    → HoldsWord (cond b x y)
 chosen_holds true x y f g = f refl
 chosen_holds false x y f g = g refl
 

@@ -125,7 +125,8 @@ pair_pieces p = name_pieces p.first ++ (symbol (codes "<") ++ name_pieces p.seco
 -- ordering = name "." name ":" pair { "," pair }
 abbrev pub ordering_pieces : OrderingTree → List Piece
 ordering_pieces o =
-    name_pieces o.relation ++ (symbol (codes ".") ++ (name_pieces o.attr ++ (symbol (codes ":") ++ comma_listed pair_pieces o.pairs)))
+    name_pieces o.relation ++ (symbol (codes ".")
+    ++ (name_pieces o.attr ++ (symbol (codes ":") ++ comma_listed pair_pieces o.pairs)))
 
 -- ---- rules
 

@@ -88,7 +88,8 @@ unlined_copy c = record {
 -- a statement
 abbrev pub unlined_statement : StatementTree → StatementTree
 unlined_statement (Relation name document row entity attrs) =
-    Relation (unlined_name name) (unlined_name document) (option_map unlined_name row) (unlined_name entity) (map unlined_attr attrs)
+    Relation (unlined_name name) (unlined_name document) (option_map unlined_name row) (unlined_name entity)
+    (map unlined_attr attrs)
 unlined_statement (Order ordering) = Order (unlined_ordering ordering)
 unlined_statement (Orders relation document) = Orders (unlined_name relation) (unlined_name document)
 unlined_statement (Rule rule) = Rule (unlined_rule rule)

@@ -60,7 +60,8 @@ fn write_further<W: Written>(
     separator: Separator,
     items: &[W::Tree],
 ) -> Result<(), NoMemory>
-    ensures { OnOk result (into.new ≡ writes_all into.old (many_pieces (λ y. separator_pieces separator ++ W.pieces y) items.now)) }
+    ensures { OnOk result (into.new ≡ writes_all into.old
+        (many_pieces (λ y. separator_pieces separator ++ W.pieces y) items.now)) }
 {
     for item in items {
         write_separator(into, separator)?;

@@ -11,7 +11,8 @@ abbrev pub OneList : Type 0
 OneList = (bytes : List ℕ) (a b : List (List (List ℕ))) → AreRecordsOf bytes a → AreRecordsOf bytes b → a ≡ b
 
 -- a table gives one answer
-pub one_outcome : OneList → (told : List (List ℕ × List ℕ)) (name : List ℕ) (columns : List Column) (a b : Result (List (List Value)) BindFault)
+pub one_outcome : OneList → (told : List (List ℕ × List ℕ)) (name : List ℕ) (columns : List Column)
+    (a b : Result (List (List Value)) BindFault)
     → AreTuples told name columns a → AreTuples told name columns b → a ≡ b
 unfolding AreTuples
 one_outcome one told name columns a b (inl x) (inl y) = x.1 ∙ sym y.1

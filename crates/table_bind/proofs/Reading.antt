@@ -15,7 +15,9 @@ use Rattle.table_bind.specs.Steps.{Reads, ReadsTuples}
 
 -- the tuples of a table that was read
 pub of_table : (name : List ℕ) (columns : List Column) (bytes : List ℕ) (t : Table)
-    → (◌≡◌ {A = Result Table TableFault} (Ok t) (Err csv.NoMemory)) ⊎ ((records : List (List (List ℕ))) × AreRecordsOf bytes records × (◌≡◌ {A = Result Table TableFault} (Ok t) (table_of columns records)))
+    → (◌≡◌ {A = Result Table TableFault} (Ok t) (Err csv.NoMemory)) ⊎
+    ((records : List (List (List ℕ))) × AreRecordsOf bytes records × (◌≡◌ {A = Result Table TableFault} (Ok t)
+    (table_of columns records)))
     → ReadsTuples name columns bytes (Ok t.tuples)
 unfolding ReadsTuples tuples_read
 of_table name columns bytes t (inl e) = cc
@@ -23,7 +25,9 @@ of_table name columns bytes t (inr (records, are, e)) = inr (records, are, ap (t
 
 -- the refusal of a table that was not
 pub of_fault : (name : List ℕ) (columns : List Column) (bytes : List ℕ) (fault : TableFault) (refusal : BindFault)
-    → (◌≡◌ {A = Result Table TableFault} (Err fault) (Err csv.NoMemory)) ⊎ ((records : List (List (List ℕ))) × AreRecordsOf bytes records × (◌≡◌ {A = Result Table TableFault} (Err fault) (table_of columns records)))
+    → (◌≡◌ {A = Result Table TableFault} (Err fault) (Err csv.NoMemory)) ⊎
+    ((records : List (List (List ℕ))) × AreRecordsOf bytes records ×
+    (◌≡◌ {A = Result Table TableFault} (Err fault) (table_of columns records)))
     → (refusal ≡ NoMemory) ⊎ (refusal ≡ table_refusal name fault)
     → ReadsTuples name columns bytes (Err refusal)
 unfolding ReadsTuples tuples_read
@@ -34,12 +38,18 @@ of_fault name columns bytes fault refusal (inl e) (inr is) =
 of_fault name columns bytes fault refusal (inr (records, are, e)) (inr is) = inr (records, are, rw (← e) (ap Err is))
 
 -- what the bytes of the document give is what the table gives
-read_whole : (told : List (List ℕ × List ℕ)) (name : List ℕ) (columns : List Column) (bytes : List ℕ) (result : Result (List (List Value)) BindFault)
+read_whole : (told : List (List ℕ × List ℕ)) (name : List ℕ) (columns : List Column) (bytes : List ℕ)
+    (result : Result (List (List Value)) BindFault)
     → Reads told name (Ok bytes) → ReadsTuples name columns bytes result → IsSettled result → AreTuples told name columns result
 unfolding AreTuples ReadsTuples
 read_whole told name columns bytes result (is, within) (inl memory) settled = absurd (subst IsSettled memory settled)
 read_whole told name columns bytes result (is, within) (inr (records, are, due)) settled =
-    inr (subst (λ (bs : List ℕ). length bs ≤ table_bound) is within, records, subst (λ (bs : List ℕ). AreRecordsOf bs records) is are, due)
+    inr (
+      subst (λ (bs : List ℕ). length bs ≤ table_bound) is within,
+      records,
+      subst (λ (bs : List ℕ). AreRecordsOf bs records) is are,
+      due,
+    )
 
 -- a document that is too long
 read_long : (told : List (List ℕ × List ℕ)) (name : List ℕ) (columns : List Column) (fault : BindFault)
@@ -64,16 +74,20 @@ pub no_read_fault : (name : List ℕ) (columns : List Column) (bytes : List ℕ)
     → ReadsTuples name columns bytes result → IsReadFault result → ⊥
 unfolding ReadsTuples
 no_read_fault name columns bytes result (inl memory) fault = subst IsReadFault memory fault
-no_read_fault name columns bytes result (inr (records, are, due)) fault = tuples_reads name (table_of columns records) (subst IsReadFault due fault)
+no_read_fault name columns bytes result (inr (records, are, due)) fault = tuples_reads name
+    (table_of columns records) (subst IsReadFault due fault)
 
 -- the same two, where the shelf tells its documents
-pub table_read : (texts : Option (List (List ℕ × List ℕ))) (name : List ℕ) (columns : List Column) (bytes : List ℕ) (result : Result (List (List Value)) BindFault)
+pub table_read : (texts : Option (List (List ℕ × List ℕ))) (name : List ℕ) (columns : List Column) (bytes : List ℕ)
+    (result : Result (List (List Value)) BindFault)
     → IfSome texts (λ told. Reads told name (Ok bytes)) → ReadsTuples name columns bytes result
     → IsSettled result → IfSome texts (λ told. AreTuples told name columns result)
 table_read None name columns bytes result reads tuples settled = tt
-table_read (Some told) name columns bytes result reads tuples settled = read_whole told name columns bytes result reads tuples settled
+table_read (Some told) name columns bytes result reads tuples settled = read_whole told name columns bytes result
+    reads tuples settled
 
-pub table_not_read : (texts : Option (List (List ℕ × List ℕ))) (name : List ℕ) (columns : List Column) (fault : BindFault) (result : Result (List (List Value)) BindFault)
+pub table_not_read : (texts : Option (List (List ℕ × List ℕ))) (name : List ℕ) (columns : List Column)
+    (fault : BindFault) (result : Result (List (List Value)) BindFault)
     → IfSome texts (λ told. Reads told name (Err fault)) → result ≡ Err fault
     → IsSettled result → IfSome texts (λ told. AreTuples told name columns result)
 table_not_read None name columns fault result reads e settled = tt
@@ -83,4 +97,5 @@ table_not_read (Some told) name columns fault result reads e settled =
 -- reading records tells of no table that could not be read
 pub no_table_fault : (name : List ℕ) (columns : List Column) (bytes : List ℕ) (result : Result (List (List Value)) BindFault)
     → ReadsTuples name columns bytes result → (table : List ℕ) → IsReadFaultOf result table → ⊥
-no_table_fault name columns bytes result reads table h = no_read_fault name columns bytes result reads (read_fault_of result table h)
+no_table_fault name columns bytes result reads table h = no_read_fault name columns bytes result reads
+    (read_fault_of result table h)

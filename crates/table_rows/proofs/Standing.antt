@@ -38,7 +38,8 @@ only_once names distinct i j x at_i at_j =
     omega arith
 
 -- a name that stands at a place is found
-pub taken : (names : List (List ℕ)) (name : List ℕ) (place : ℕ) → slice_get names place ≡ Some name → list_any (bytes_eq name) names ≡ true
+pub taken : (names : List (List ℕ)) (name : List ℕ) (place : ℕ) → slice_get names place ≡ Some name
+    → list_any (bytes_eq name) names ≡ true
 taken names name place there =
     list_any_at (bytes_eq name) names place [] (slice_get_within names place name there)
     ((bytes_eq-Decides name _).1 (sym (get_or_from_slice_get names place name [] there)))
@@ -56,7 +57,8 @@ place_is names name place distinct there =
     let is_name : get_or names place [] ≡ name = get_or_from_slice_get names place name [] there in
     let earlier : (k : ℕ) → k < place → bytes_eq name (get_or names k []) ≡ false =
     λ k below. false_from_ne_true _ (λ e.
-    AllPairs-from_IsDistinct bytes_eq-Decides names distinct k place [] below within (sym ((bytes_eq-Decides name _).0 e) ∙ sym is_name)) in
+    AllPairs-from_IsDistinct bytes_eq-Decides names distinct k place [] below within
+    (sym ((bytes_eq-Decides name _).0 e) ∙ sym is_name)) in
     position_or_len_is (bytes_eq name) names place [] (omega arith) earlier (λ _. (bytes_eq-Decides name _).1 (sym is_name))
 
 -- a name that stands in a list keeps its place where the list grows
@@ -79,7 +81,8 @@ place_within p (name ∷ names) there =
 
 -- ---- the names without those that stand before
 
-pub standing_append : (so_far xs ys : List (List ℕ)) → first_standing so_far (xs ++ ys) ≡ first_standing (first_standing so_far xs) ys
+pub standing_append : (so_far xs ys : List (List ℕ)) → first_standing so_far (xs ++ ys) ≡ first_standing
+    (first_standing so_far xs) ys
 standing_append so_far [] ys = refl
 standing_append so_far (x ∷ xs) ys = standing_append (cond (list_any (bytes_eq x) so_far) so_far (so_far ++ x ∷ [])) xs ys
 
@@ -114,7 +117,8 @@ standing_few so_far (x ∷ xs) =
     omega arith
 
 -- what stands there goes on standing
-pub standing_kept : (p : List ℕ → Bool) (so_far names : List (List ℕ)) → list_any p so_far ≡ true → list_any p (first_standing so_far names) ≡ true
+pub standing_kept : (p : List ℕ → Bool) (so_far names : List (List ℕ)) → list_any p so_far ≡ true → list_any p
+    (first_standing so_far names) ≡ true
 standing_kept p so_far [] there = there
 standing_kept p so_far (x ∷ xs) there =
     let next = cond (list_any (bytes_eq x) so_far) so_far (so_far ++ x ∷ []) in

@@ -21,7 +21,8 @@ text_of (value.Int n) = []
 abbrev pub text_at : List Value → ℕ → List ℕ
 text_at tuple place = text_of (slice_index_or tuple place (value.Text []))
 
--- the name of the row of a tuple, which stands first in a table that names its rows, and is otherwise the row's number, counted from 1
+-- the name of the row of a tuple, which stands first in a table that names its rows, and is otherwise the row's number,
+-- counted from 1
 abbrev pub row_name : Bool → ℕ × List Value → List ℕ
 row_name true (place, tuple) = text_at tuple 0
 row_name false (place, tuple) = decimal (place + 1)
@@ -39,7 +40,8 @@ attribute_values false tuple = drop 1 tuple
 -- the names, without those that stand before
 abbrev pub first_standing : List (List ℕ) → List (List ℕ) → List (List ℕ)
 first_standing so_far [] = so_far
-first_standing so_far (name ∷ names) = first_standing (if list_any (bytes_eq name) so_far then so_far else so_far ++ name ∷ []) names
+first_standing so_far (name ∷ names) = first_standing (if list_any (bytes_eq name) so_far then so_far else so_far
+    ++ name ∷ []) names
 
 -- the entities of a table, in the order of their first rows
 abbrev pub entities_of : Bool → List (List Value) → List (List ℕ)

@@ -54,11 +54,13 @@ unfolding a_fixed
 a_fixed_is kind text = ap (λ (b : Bool). b && bytes_eq text text) (kind_is kind) ∙ (bytes_eq-Decides text text).1 refl
 
 -- a token is not both of two fixed ones: `refl` proves that they differ
-pub apart : (kind : TokenKind) (text : List ℕ) (kind' : TokenKind) (text' : List ℕ) → same_kind kind kind' && bytes_eq text text' ≡ false
+pub apart : (kind : TokenKind) (text : List ℕ) (kind' : TokenKind) (text' : List ℕ) → same_kind kind kind'
+    && bytes_eq text text' ≡ false
     → (t : Lexeme) → is_fixed kind text t ≡ true → is_fixed kind' text' t ≡ false
 apart kind text kind' text' e t h =
     let f : FixedIs kind text t = fixed_is kind text t h in
-    ap (λ (k : TokenKind). same_kind k kind' && bytes_eq t.text text') f.kind_is ∙ ap (λ (x : List ℕ). same_kind kind kind' && bytes_eq x text') f.text_is ∙ e
+    ap (λ (k : TokenKind). same_kind k kind' && bytes_eq t.text text') f.kind_is
+    ∙ ap (λ (x : List ℕ). same_kind kind kind' && bytes_eq x text') f.text_is ∙ e
 
 -- where each of two tests rules a third out, so does the test that passes where one of them does
 pub either_apart : (a b d : Bool) → (a ≡ true → d ≡ false) → (b ≡ true → d ≡ false) → a || b ≡ true → d ≡ false
@@ -67,7 +69,8 @@ either_apart false b d f g e = g e
 
 -- ---- their readers
 
-pub reads_fixed : (kind : TokenKind) (text : List ℕ) → IsReader (λ (u : Unit {0}). Passes (is_fixed kind text)) always (passing (is_fixed kind text))
+pub reads_fixed : (kind : TokenKind) (text : List ℕ) → IsReader (λ (u : Unit {0}). Passes (is_fixed kind text))
+    always (passing (is_fixed kind text))
 reads_fixed kind text = reads_passing (is_fixed kind text) (a_fixed kind text) (a_fixed_is kind text)
 
 pub reads_word : (text : List ℕ) → IsReader (λ (u : Unit {0}). IsWord text) always (passing (is_word text))
@@ -87,16 +90,19 @@ after_symbol text r = reads_after (is_symbol text) (a_fixed Symbol text) (a_fixe
 
 -- a reader and then a fixed token, at which it ends
 pub before_word : {A : Type 0} {P : A → List Lexeme → Type 0} {stop : A → Lexeme → Bool} {p : Parser A}
-    → (text : List ℕ) → IsReader P stop p → Ended stop (is_word text) → IsReader (λ a. P a ⋅ IsWord text) always (before p (is_word text))
+    → (text : List ℕ) → IsReader P stop p → Ended stop (is_word text) → IsReader (λ a. P a ⋅ IsWord text) always
+    (before p (is_word text))
 before_word text r goes = reads_before r (is_word text) (a_fixed Word text) (a_fixed_is Word text) goes
 
 pub before_symbol : {A : Type 0} {P : A → List Lexeme → Type 0} {stop : A → Lexeme → Bool} {p : Parser A}
-    → (text : List ℕ) → IsReader P stop p → Ended stop (is_symbol text) → IsReader (λ a. P a ⋅ IsSymbol text) always (before p (is_symbol text))
+    → (text : List ℕ) → IsReader P stop p → Ended stop (is_symbol text) → IsReader (λ a. P a ⋅ IsSymbol text) always
+    (before p (is_symbol text))
 before_symbol text r goes = reads_before r (is_symbol text) (a_fixed Symbol text) (a_fixed_is Symbol text) goes
 
 -- a list with a word or a symbol between two items that every token ends
 pub listed_symbol : {A : Type 0} {P : A → List Lexeme → Type 0} {p : Parser A}
-    → (text : List ℕ) → IsReader P always p → IsReader (Listed (IsSymbol text) P) (unless (is_symbol text)) (listed (is_symbol text) p)
+    → (text : List ℕ) → IsReader P always p → IsReader (Listed (IsSymbol text) P) (unless (is_symbol text))
+    (listed (is_symbol text) p)
 listed_symbol text r = reads_listed_plain r (is_symbol text) (a_fixed Symbol text) (a_fixed_is Symbol text)
 
 pub listed_word : {A : Type 0} {P : A → List Lexeme → Type 0} {p : Parser A}
@@ -106,7 +112,8 @@ listed_word text r = reads_listed_plain r (is_word text) (a_fixed Word text) (a_
 -- ---- what a rule begins with
 
 -- a rule that begins with a fixed token, seen by the test for this or another one
-pub begins_fixed : {A : Type 0} (P : A → List Lexeme → Type 0) (kind : TokenKind) (text : List ℕ) (test : Lexeme → Bool) (b : Bool)
+pub begins_fixed : {A : Type 0} (P : A → List Lexeme → Type 0) (kind : TokenKind) (text : List ℕ)
+    (test : Lexeme → Bool) (b : Bool)
     → ((t : Lexeme) → is_fixed kind text t ≡ true → test t ≡ b) → Begins test b (λ a. Passes (is_fixed kind text) ⋅ P a)
 begins_fixed P kind text test b goes a tokens h = first_then test b (first_passes (is_fixed kind text) test b goes) h
 

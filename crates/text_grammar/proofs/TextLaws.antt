@@ -41,7 +41,8 @@ refuses_text r source NoMemory h = h
 -- ---- the clauses of a call that reads a text
 
 pub read_by : {A : Type 0} {P : A → List Lexeme → Type 0} {stop : A → Lexeme → Bool} {p : Parser A}
-    → IsReader P stop p → (source : List ℕ) (result : Result A TextFault) → IfOk result (λ tree. WholeRead p source tree) → IfOk result (λ tree. ReadsText P source tree)
+    → IsReader P stop p → (source : List ℕ) (result : Result A TextFault) → IfOk result
+    (λ tree. WholeRead p source tree) → IfOk result (λ tree. ReadsText P source tree)
 read_by r source (Ok tree) h = reads_text r source tree h
 read_by r source (Err e) h = h
 
@@ -87,34 +88,41 @@ none_refused P source tree NoMemory h k = k
 
 -- ---- one refusal
 
-shorter_front : {A : Type 0} (P : A → List Lexeme → Type 0) (front : List Lexeme) (t : Lexeme) (mid : List Lexeme) → CanGoOn P (front ++ t ∷ mid) → CanGoOn P (front ++ t ∷ [])
+shorter_front : {A : Type 0} (P : A → List Lexeme → Type 0) (front : List Lexeme) (t : Lexeme) (mid : List Lexeme)
+    → CanGoOn P (front ++ t ∷ mid) → CanGoOn P (front ++ t ∷ [])
 shorter_front P front t mid g = record {
   more = mid ++ g.more;
   tree = g.tree;
-  spelled = subst (P g.tree) (ap (λ (l : List Lexeme). l ++ g.more) (one_more front t mid) ∙ append_assoc (front ++ t ∷ []) mid g.more) g.spelled;
+  spelled = subst (P g.tree) (ap (λ (l : List Lexeme). l ++ g.more) (one_more front t mid) ∙ append_assoc
+      (front ++ t ∷ []) mid g.more) g.spelled;
 }
 
-not_later : {A : Type 0} (P : A → List Lexeme → Type 0) (tokens left left' : List Lexeme) (h : RefusedAt P tokens left) (k : RefusedAt P tokens left')
+not_later : {A : Type 0} (P : A → List Lexeme → Type 0) (tokens left left' : List Lexeme)
+    (h : RefusedAt P tokens left) (k : RefusedAt P tokens left')
     (mid : List Lexeme) → k.front ≡ h.front ++ mid → left ≡ mid ++ left' → left ≡ left'
 not_later P tokens left left' h k [] e f = f
 not_later P tokens left left' h k (t ∷ mid) e f =
     absurd (h.here t (mid ++ left') f (shorter_front P h.front t mid (subst (CanGoOn P) e k.before)))
 
-pub one_place : {A : Type 0} (P : A → List Lexeme → Type 0) (tokens left left' : List Lexeme) → RefusedAt P tokens left → RefusedAt P tokens left' → left ≡ left'
+pub one_place : {A : Type 0} (P : A → List Lexeme → Type 0) (tokens left left' : List Lexeme) → RefusedAt P tokens
+    left → RefusedAt P tokens left' → left ≡ left'
 one_place P tokens left left' h k = elim (overlaps h.front left k.front left' (sym h.split ∙ k.split)) [
   | inl o ↦ sym (not_later P tokens left' left k h o.mid o.longer o.shorter)
   | inr o ↦ not_later P tokens left left' h k o.mid o.longer o.shorter
 ]
 
 -- two refusals of a text are on one line
-same_line : {A : Type 0} (P : A → List Lexeme → Type 0) (source : List ℕ) (line line' : ℕ) → RefusedOn P source line → RefusedOn P source line' → line ≡ line'
+same_line : {A : Type 0} (P : A → List Lexeme → Type 0) (source : List ℕ) (line line' : ℕ) → RefusedOn P source line
+    → RefusedOn P source line' → line ≡ line'
 same_line P source line line' h k =
     let lexemes : h.lexemes ≡ k.lexemes = one_list source h.lexemes k.lexemes h.tokens k.tokens in
-    let left : h.left ≡ k.left = one_place P k.lexemes h.left k.left (subst (λ (l : List Lexeme). RefusedAt P l h.left) lexemes h.place) k.place in
+    let left : h.left ≡ k.left = one_place P k.lexemes h.left k.left
+    (subst (λ (l : List Lexeme). RefusedAt P l h.left) lexemes h.place) k.place in
     h.on_line ∙ ap (line_at source) left ∙ sym k.on_line
 
 -- a text is refused with one fault
-pub one_refusal : {A : Type 0} (P : A → List Lexeme → Type 0) (source : List ℕ) (e f : TextFault) → RefusesText P source e → RefusesText P source f → e ≡ f
+pub one_refusal : {A : Type 0} (P : A → List Lexeme → Type 0) (source : List ℕ) (e f : TextFault)
+    → RefusesText P source e → RefusesText P source f → e ≡ f
 one_refusal P source (NotUtf8 line) (NotUtf8 line') h k = ap (λ (n : ℕ). NotUtf8 n) (h.1 ∙ sym k.1)
 one_refusal P source (NotUtf8 line) (Syntax line') h k = absurd (h.0 k.utf8)
 one_refusal P source (NotUtf8 line) NoMemory h k = absurd k

@@ -13,7 +13,8 @@ use Rattle.text_grammar.specs.declared.named.Named.{Named}
 
 -- ---- a token that spells a variable is one
 
-variable_by : (k : TokenKind) (text : List ℕ) (line : ℕ) (v : Named) → option_map (on_line line) (variable_in k text) ≡ Some v → same_kind k Word && is_variable text ≡ true
+variable_by : (k : TokenKind) (text : List ℕ) (line : ℕ) (v : Named) → option_map (on_line line)
+    (variable_in k text) ≡ Some v → same_kind k Word && is_variable text ≡ true
 variable_by Word text line v e = by (is_variable text) e
   where
     by : (b : Bool) → option_map (on_line line) (cond b (as_text text) None) ≡ Some v → b ≡ true
@@ -56,11 +57,13 @@ not_reserved t e =
 
 pub variable_not_if : (t : Lexeme) → is_variable_token t ≡ true → is_word (codes "if") t ≡ false
 variable_not_if t e =
-    neither_first (bytes_eq t.text (codes "if")) (bytes_eq t.text (codes "false")) (bytes_eq t.text (codes "orders")) (same_kind t.kind Word) (not_reserved t e)
+    neither_first (bytes_eq t.text (codes "if")) (bytes_eq t.text (codes "false")) (bytes_eq t.text (codes "orders"))
+    (same_kind t.kind Word) (not_reserved t e)
 
 pub variable_not_false : (t : Lexeme) → is_variable_token t ≡ true → is_word (codes "false") t ≡ false
 variable_not_false t e =
-    neither_second (bytes_eq t.text (codes "if")) (bytes_eq t.text (codes "false")) (bytes_eq t.text (codes "orders")) (same_kind t.kind Word) (not_reserved t e)
+    neither_second (bytes_eq t.text (codes "if")) (bytes_eq t.text (codes "false"))
+    (bytes_eq t.text (codes "orders")) (same_kind t.kind Word) (not_reserved t e)
 
 -- ---- and no constant
 
@@ -80,16 +83,20 @@ no_digits false b c v = refl
 no_number : (text : List ℕ) → begins_with_letter text ≡ true → int_of text ≡ None
 unfolding int_of
 no_number [] e = absurd (cc)
-no_number (c ∷ cs) e = rw (letter_no_minus c e, letter_no_digit c e) (no_digits (ltb 0 (length (c ∷ cs))) (all_ascii_digits cs) _ _)
+no_number (c ∷ cs) e = rw (letter_no_minus c e, letter_no_digit c e)
+    (no_digits (ltb 0 (length (c ∷ cs))) (all_ascii_digits cs) _ _)
 
-constant_by : (k : TokenKind) (text : List ℕ) (line : ℕ) (c : Const) → option_map (value_on_line line) (value_in k text) ≡ Some c → same_kind k Word && is_variable text ≡ false
+constant_by : (k : TokenKind) (text : List ℕ) (line : ℕ) (c : Const) → option_map (value_on_line line)
+    (value_in k text) ≡ Some c → same_kind k Word && is_variable text ≡ false
 constant_by Word text line c e = by (is_variable text) refl
   where
     by : (b : Bool) → is_variable text ≡ b → b ≡ false
     by false f = refl
     by true f = absurd (
-        let none : int_of text ≡ None = no_number text (first_true (begins_with_letter text) _ (first_true (begins_with_letter text && not (is_reserved text)) _ f)) in
-        let said : option_map (value_on_line line) (option_map int_value None) ≡ Some c = ap (λ (n : _). option_map (value_on_line line) (option_map int_value n)) (sym none) ∙ e in
+        let none : int_of text ≡ None = no_number text
+        (first_true (begins_with_letter text) _ (first_true (begins_with_letter text && not (is_reserved text)) _ f)) in
+        let said : option_map (value_on_line line) (option_map int_value None) ≡ Some c =
+        ap (λ (n : _). option_map (value_on_line line) (option_map int_value n)) (sym none) ∙ e in
         cc)
 constant_by Negative text line c e = refl
 constant_by Text text line c e = refl

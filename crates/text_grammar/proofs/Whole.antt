@@ -9,7 +9,8 @@ use Rattle.text_grammar.proofs.Outcomes
 
 -- ---- what the end of a text says of what was read
 
-at_end_ok : {A : Type 0} (a : A) (rest : List Lexeme) (tree : A) → at_end a rest ≡ Ok tree → ◌≡◌ {A = Outcome A} (Ok (a, rest)) (Ok (tree, []))
+at_end_ok : {A : Type 0} (a : A) (rest : List Lexeme) (tree : A) → at_end a rest ≡ Ok tree → ◌≡◌ {A = Outcome A}
+    (Ok (a, rest)) (Ok (tree, []))
 at_end_ok a [] tree e = ap (λ (b : _). Ok (b, [])) (same a tree e)
   where
     tree_of : {A : Type 0} → A → Result A Stop → A
@@ -44,7 +45,8 @@ ended_err {A} (Err r) s e = inl (ap (λ (q : Stop). Err q) (Outcomes.same_stop {
 
 -- ---- the whole text
 
-pub reads_whole : {A : Type 0} {P : A → List Lexeme → Type 0} {stop : A → Lexeme → Bool} {p : Parser A} → IsReader P stop p → IsWhole P (whole p)
+pub reads_whole : {A : Type 0} {P : A → List Lexeme → Type 0} {stop : A → Lexeme → Bool} {p : Parser A}
+    → IsReader P stop p → IsWhole P (whole p)
 reads_whole {A} {P} {stop} {p} r = record { right = right; all = all; refused = refused }
   where
     right : (tokens : List Lexeme) (tree : A) → whole p tokens ≡ Ok tree → P tree tokens
@@ -78,8 +80,10 @@ reads_whole {A} {P} {stop} {p} r = record { right = right; all = all; refused = 
             let first : l.token ≡ t = (let k : l.token ∷ l.rest ≡ t ∷ rest = l.left ∙ f in cc) in
             let mine : p (h.front ++ t ∷ g.more) ≡ Ok (l.tree, t ∷ g.more) =
             r.complete l.tree h.front (t ∷ g.more) h.spelled (subst (λ (u : Lexeme). stop l.tree u ≡ true) first h.stops) in
-            let other : p ((h.front ++ t ∷ []) ++ g.more) ≡ Ok (g.tree, []) = read ((h.front ++ t ∷ []) ++ g.more) g.tree g.spelled in
-            let rests : t ∷ g.more ≡ [] = Outcomes.same_rest l.tree g.tree (t ∷ g.more) [] (sym mine ∙ ap p (one_more h.front t g.more) ∙ other) in
+            let other : p ((h.front ++ t ∷ []) ++ g.more) ≡ Ok (g.tree, []) = read ((h.front ++ t ∷ []) ++ g.more)
+            g.tree g.spelled in
+            let rests : t ∷ g.more ≡ [] = Outcomes.same_rest l.tree g.tree (t ∷ g.more) []
+            (sym mine ∙ ap p (one_more h.front t g.more) ∙ other) in
             cc
 
     refused : (tokens : List Lexeme) (s : Stop) → whole p tokens ≡ Err s → RefusedAt P tokens s.left

@@ -10,7 +10,8 @@ Stopped stop [] = Unit {0}
 Stopped stop (t ∷ ts) = stop t ≡ true
 
 -- the tokens are a spelling of the tree and then the rest, before which reading ends
-pub record Reads {A : Type 0} (P : A → List Lexeme → Type 0) (stop : A → Lexeme → Bool) (tokens : List Lexeme) (tree : A) (rest : List Lexeme) : Type 0 where
+pub record Reads {A : Type 0} (P : A → List Lexeme → Type 0) (stop : A → Lexeme → Bool) (tokens : List Lexeme)
+    (tree : A) (rest : List Lexeme) : Type 0 where
   pub front : List Lexeme
   pub split : tokens ≡ front ++ rest
   pub spelled : P tree front
@@ -28,7 +29,8 @@ pub record HaltsAt {A : Type 0} (P : A → List Lexeme → Type 0) (tokens left 
 pub record IsReader {A : Type 0} (P : A → List Lexeme → Type 0) (stop : A → Lexeme → Bool) (p : Parser A) : Type 0 where
   pub some : CanGoOn P []
   pub sound : (tokens : List Lexeme) (tree : A) (rest : List Lexeme) → p tokens ≡ Ok (tree, rest) → Reads P stop tokens tree rest
-  pub complete : (tree : A) (front rest : List Lexeme) → P tree front → Stopped (stop tree) rest → p (front ++ rest) ≡ Ok (tree, rest)
+  pub complete : (tree : A) (front rest : List Lexeme) → P tree front → Stopped (stop tree) rest
+      → p (front ++ rest) ≡ Ok (tree, rest)
   pub refused : (tokens : List Lexeme) (s : Stop) → p tokens ≡ Err s → HaltsAt P tokens s.left
 
 -- a reader of whole texts gives exactly the trees that a grammar spells, and refuses each text at its first wrong token

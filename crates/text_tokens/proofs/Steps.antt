@@ -72,13 +72,18 @@ next_line source at t next =
     ∙ ap line_after (front source t.start (length t.text))
 
 -- one more token is found
-pub found_more : (found : List Token) (t : Token) (ts : List Lexeme) → map lexeme_of (found ++ t ∷ []) ++ ts ≡ map lexeme_of found ++ (lexeme_of t ∷ ts)
+pub found_more : (found : List Token) (t : Token) (ts : List Lexeme) → map lexeme_of (found ++ t ∷ [])
+    ++ ts ≡ map lexeme_of found ++ (lexeme_of t ∷ ts)
 found_more found t ts = rw (map_push lexeme_of found t, append_assoc (map lexeme_of found) (lexeme_of t ∷ []) ts) refl
 
 -- what the code has found at a place is the next token there
 pub token_found : (source : List ℕ) (at start more : ℕ) (t : Lexeme) → at ≤ start → start < length source
     → more ≤ length (drop (start + 1) source) → after_gap false (drop at source) ≡ drop start source
-    → token_at (get_or source start 0) (drop (start + 1) source) ≡ (t.kind, get_or source start 0 ∷ take more (drop (start + 1) source))
+    → token_at (get_or source start 0) (drop (start + 1) source) ≡ (
+      t.kind,
+      get_or source start 0
+          ∷ take more (drop (start + 1) source),
+    )
     → t.text ≡ take (start + 1 + more - start) (drop start source) → t.start ≡ start → t.line ≡ line_after (take start source)
     → IsNext source at t
 token_found source at start more t behind inside short gap token text start_is line =
@@ -94,6 +99,7 @@ token_found source at start more t behind inside short gap token text start_is l
       gap = gap ∙ ap (λ n. drop n source) (sym start_is);
       token = (let P : List ℕ → Type 0 = λ xs. first_token xs ≡ (t.kind, t.text) in
           rw start_is (subst P (sym here) (token ∙ ap (λ xs. (t.kind, xs)) (sym bytes))));
-      bytes = text ∙ ap (λ n. take n (drop start source)) (count ∙ sym size) ∙ ap (λ n. take (length t.text) (drop n source)) (sym start_is);
+      bytes = text ∙ ap (λ n. take n (drop start source)) (count ∙ sym size)
+          ∙ ap (λ n. take (length t.text) (drop n source)) (sym start_is);
       line = line ∙ ap (λ n. line_after (take n source)) (sym start_is);
     }

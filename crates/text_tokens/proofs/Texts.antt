@@ -45,7 +45,8 @@ ascii_word : (xs : List ℕ) → IsAscii (take_while is_word_byte xs)
 ascii_word [] = none_low
 ascii_word (x ∷ xs) =
     let P : List ℕ → Type 0 = λ ys. IsAscii ys in
-    subst P (sym (take_while-cons is_word_byte x xs)) (ascii_if x (take_while is_word_byte xs) (is_word_byte x) refl (ascii_word xs))
+    subst P (sym (take_while-cons is_word_byte x xs)) (ascii_if x (take_while is_word_byte xs) (is_word_byte x) refl
+    (ascii_word xs))
 
 -- a token of such bytes
 low_holds : (k : TokenKind) (c : ℕ) (xs : List ℕ) → c < 128 → IsAscii xs → Holds (k, c ∷ xs)
@@ -64,7 +65,8 @@ mapped : (o : Option ℕ) (n : ℕ) → option_map (λ n. n + 1) o ≡ Some n �
 mapped None n e = absurd (cc)
 mapped (Some m) n e = let f : m + 1 ≡ n = cc in (m, refl, omega arith)
 
-past_quote : (q : Bool) (c : ℕ) (cs : List ℕ) (m : ℕ) → c ≡ 34 → get_or (34 ∷ cs) m 0 ≡ 34 → m ≤ length cs → Closed q (c ∷ cs) (suc m)
+past_quote : (q : Bool) (c : ℕ) (cs : List ℕ) (m : ℕ) → c ≡ 34 → get_or (34 ∷ cs) m 0 ≡ 34 → m ≤ length cs
+    → Closed q (c ∷ cs) (suc m)
 past_quote q c cs m e h short = let P : ℕ → Type 0 = λ x. get_or (x ∷ cs) m 0 ≡ 34 in
     (omega arith, subst P (sym e) h, λ _. omega arith)
 
@@ -123,9 +125,11 @@ chosen false x y f g = g refl
 token_holds : (c : ℕ) (cs : List ℕ) → (c < 128 → IsUtf8 (c ∷ cs)) → Holds (token_at c cs)
 token_holds c cs u =
     chosen (is_word_byte c) _ _ (λ e. low_holds Word c (take_while is_word_byte cs) (word_low c e) (ascii_word cs)) (λ e1.
-    chosen ((c == 45) && begins_with is_word_byte cs) _ _ (λ e. low_holds Negative c (take_while is_word_byte cs) (is_low c 45 (omega arith) (and_parts _ _ e).0) (ascii_word cs)) (λ e2.
+    chosen ((c == 45) && begins_with is_word_byte cs) _ _ (λ e. low_holds Negative c (take_while is_word_byte cs)
+    (is_low c 45 (omega arith) (and_parts _ _ e).0) (ascii_word cs)) (λ e2.
     chosen (c == 34) _ _ (λ e. quote_holds c cs (eqb-true c 34 e) u) (λ e3.
-    chosen (is_before_equals c && begins_with (λ x. x == 61) cs) _ _ (λ e. low_holds Symbol c (61 ∷ []) (before_low c (and_parts _ _ e).0) (ascii_cons 61 [] (omega arith) none_low)) (λ e4.
+    chosen (is_before_equals c && begins_with (λ x. x == 61) cs) _ _
+    (λ e. low_holds Symbol c (61 ∷ []) (before_low c (and_parts _ _ e).0) (ascii_cons 61 [] (omega arith) none_low)) (λ e4.
     chosen (is_symbol_byte c) _ _ (λ e. low_holds Symbol c [] (symbol_low c e) none_low) (λ e5. fault_holds c [])))))
 
 -- all tokens
@@ -150,14 +154,16 @@ all_hold before text (t ∷ ts) u tokens =
     let c = tokens.1 in
     let cs = tokens.2 in
     let rest = tokens.3 in
-    let here : before ++ text ≡ before ++ gap ++ (c ∷ cs) = ap (λ ys. before ++ ys) tokens.4 ∙ sym (append_assoc before gap (c ∷ cs)) in
+    let here : before ++ text ≡ before ++ gap ++ (c ∷ cs) = ap (λ ys. before ++ ys) tokens.4
+    ∙ sym (append_assoc before gap (c ∷ cs)) in
     let next : before ++ text ≡ before ++ gap ++ t.text ++ rest =
     here ∙ ap (λ ys. before ++ gap ++ ys) tokens.7 ∙ sym (append_assoc (before ++ gap) t.text rest) in
     All-cons HoldsText t ts
     (holds_from t (token_at c cs) tokens.6 (token_holds c cs (suffix_text (before ++ gap) c cs (subst P here u))))
     (all_hold (before ++ gap ++ t.text) rest ts (subst P next u) tokens.10)
 
-marked_if : (b : Bool) (x y z : ℕ) (rest : List ℕ) → (if b then x ∷ y ∷ z ∷ [] else []) ++ (if b then rest else x ∷ y ∷ z ∷ rest) ≡ x ∷ y ∷ z ∷ rest
+marked_if : (b : Bool) (x y z : ℕ) (rest : List ℕ) → (if b then x ∷ y ∷ z ∷ [] else [])
+    ++ (if b then rest else x ∷ y ∷ z ∷ rest) ≡ x ∷ y ∷ z ∷ rest
 marked_if true x y z rest = refl
 marked_if false x y z rest = refl
 

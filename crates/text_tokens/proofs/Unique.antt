@@ -8,7 +8,8 @@ use Rattle.text_tokens.specs.declared.token.TokenKind.{TokenKind}
 same_lexeme : (t u : Lexeme) → t.kind ≡ u.kind → t.text ≡ u.text → t.start ≡ u.start → t.line ≡ u.line → t ≡ u
 same_lexeme t u a b c d =
     let F : TokenKind → List ℕ → ℕ → ℕ → Lexeme = λ k x s l. record { kind = k; text = x; start = s; line = l } in
-    ap (λ k. F k t.text t.start t.line) a ∙ ap (λ x. F u.kind x t.start t.line) b ∙ ap (λ s. F u.kind u.text s t.line) c ∙ ap (λ l. F u.kind u.text u.start l) d
+    ap (λ k. F k t.text t.start t.line) a ∙ ap (λ x. F u.kind x t.start t.line) b
+    ∙ ap (λ s. F u.kind u.text s t.line) c ∙ ap (λ l. F u.kind u.text u.start l) d
 
 same_gap : (text gap gap' after after' : List ℕ) → text ≡ gap ++ after → text ≡ gap' ++ after' → after ≡ after' → gap ≡ gap'
 same_gap text gap gap' after after' p q e = append_cancel_right gap gap' after' (ap (λ x. gap ++ x) (sym e) ∙ sym p ∙ q)
@@ -20,7 +21,8 @@ same_rest (x ∷ xs) rest rest' e = same_rest xs rest rest' (cc)
 same_at : (c d : ℕ) (cs ds : List ℕ) → c ∷ cs ≡ d ∷ ds → token_at c cs ≡ token_at d ds
 same_at c d cs ds e = let a : c ≡ d = cc in let b : cs ≡ ds = cc in rw (a, b)
 
-same_kind : (j k : TokenKind) (xs ys : List ℕ) → (let P : TokenKind × List ℕ = (j, xs) in let Q : TokenKind × List ℕ = (k, ys) in P ≡ Q) → (j ≡ k) × (xs ≡ ys)
+same_kind : (j k : TokenKind) (xs ys : List ℕ) → (let P : TokenKind × List ℕ = (j, xs) in let Q : TokenKind × List
+    ℕ = (k, ys) in P ≡ Q) → (j ≡ k) × (xs ≡ ys)
 same_kind j k xs ys e = (ap (λ (p : TokenKind × List ℕ). p.0) e, ap (λ (p : TokenKind × List ℕ). p.1) e)
 
 same_tokens : (before text : List ℕ) (a b : List Lexeme) → AreTokens before text a → AreTokens before text b → a ≡ b

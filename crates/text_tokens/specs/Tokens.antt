@@ -17,7 +17,8 @@ is_word_byte c = (nat_le 48 c && nat_le c 57) || (nat_le 65 c && nat_le c 90) ||
 
 -- `;` `,` `:` `(` `)` `.` `<` `>` `=`, the symbols of one byte
 abbrev pub is_symbol_byte : ℕ → Bool
-is_symbol_byte c = (c == 59) || (c == 44) || (c == 58) || (c == 40) || (c == 41) || (c == 46) || (c == 60) || (c == 62) || (c == 61)
+is_symbol_byte c = (c == 59) || (c == 44) || (c == 58) || (c == 40) || (c == 41) || (c == 46) || (c == 60)
+    || (c == 62) || (c == 61)
 
 -- `<`, `>` or `!`, which begin a symbol of two bytes where `=` follows
 abbrev pub is_before_equals : ℕ → Bool

@@ -29,8 +29,10 @@ closed_here : (rest : List ℕ) → begins_with (λ c. c == 34) rest ≡ false �
 closed_here [] h = refl
 closed_here (c ∷ cs) h = rw h refl
 
-closed_by : (c : ℕ) (cs rest : List ℕ) (b : Bool) → (c == 34) ≡ b → string_len_after false (doubled cs ++ 34 ∷ rest) ≡ Some (length (doubled cs) + 1)
-    → string_len_after false ((if b then 34 ∷ 34 ∷ doubled cs else c ∷ doubled cs) ++ 34 ∷ rest) ≡ Some (length (if b then 34 ∷ 34 ∷ doubled cs else c ∷ doubled cs) + 1)
+closed_by : (c : ℕ) (cs rest : List ℕ) (b : Bool) → (c == 34) ≡ b → string_len_after false
+    (doubled cs ++ 34 ∷ rest) ≡ Some (length (doubled cs) + 1)
+    → string_len_after false ((if b then 34 ∷ 34 ∷ doubled cs else c ∷ doubled cs) ++ 34 ∷ rest) ≡ Some
+    (length (if b then 34 ∷ 34 ∷ doubled cs else c ∷ doubled cs) + 1)
 closed_by c cs rest true e h =
     let n = length (doubled cs) in
     let same : n + 1 + 1 + 1 ≡ suc (suc n) + 1 = omega arith in
@@ -40,16 +42,19 @@ closed_by c cs rest false e h =
     let same : n + 1 + 1 ≡ suc n + 1 = omega arith in
     rw e (ap (λ o. option_map (λ n. n + 1) o) h ∙ ap Some same)
 
-closed : (bytes rest : List ℕ) → begins_with (λ c. c == 34) rest ≡ false → string_len_after false (doubled bytes ++ 34 ∷ rest) ≡ Some (length (doubled bytes) + 1)
+closed : (bytes rest : List ℕ) → begins_with (λ c. c == 34) rest ≡ false → string_len_after false
+    (doubled bytes ++ 34 ∷ rest) ≡ Some (length (doubled bytes) + 1)
 closed [] rest h = ap (λ o. option_map (λ n. n + 1) o) (closed_here rest h)
 closed (c ∷ cs) rest h = closed_by c cs rest (c == 34) refl (closed cs rest h)
 
 -- the string at the front of a text ends at its closing quote, where no quote follows
 pub string_is : (bytes rest : List ℕ) → begins_with (λ c. c == 34) rest ≡ false
-    → string_token (doubled bytes ++ 34 ∷ [] ++ rest) (string_len_after false (doubled bytes ++ 34 ∷ [] ++ rest)) ≡ (Text, quote bytes)
+    → string_token (doubled bytes ++ 34 ∷ [] ++ rest) (string_len_after false (doubled bytes ++ 34 ∷ [] ++ rest)) ≡
+    (Text, quote bytes)
 string_is bytes rest h =
     let whole : doubled bytes ++ 34 ∷ [] ++ rest ≡ doubled bytes ++ 34 ∷ rest = append_assoc (doubled bytes) (34 ∷ []) rest in
-    ap (λ xs. string_token xs (string_len_after false xs)) whole ∙ ap (λ o. string_token (doubled bytes ++ 34 ∷ rest) o) (closed bytes rest h)
+    ap (λ xs. string_token xs (string_len_after false xs)) whole
+    ∙ ap (λ o. string_token (doubled bytes ++ 34 ∷ rest) o) (closed bytes rest h)
     ∙ ap (λ (xs : List ℕ). (Text, 34 ∷ xs)) (take-append-add (doubled bytes) (34 ∷ rest) 1)
 
 -- ---- that it is text
@@ -72,7 +77,8 @@ cut_at_quote front cs u =
     )
 
 doubled_by : (front : List ℕ) (c : ℕ) (cs : List ℕ) (b : Bool) → (c == 34) ≡ b → IsUtf8 (front ++ c ∷ cs)
-    → ((front : List ℕ) → IsUtf8 (front ++ cs) → IsUtf8 (front ++ doubled cs)) → IsUtf8 (front ++ (if b then 34 ∷ 34 ∷ doubled cs else c ∷ doubled cs))
+    → ((front : List ℕ) → IsUtf8 (front ++ cs) → IsUtf8 (front ++ doubled cs))
+    → IsUtf8 (front ++ (if b then 34 ∷ 34 ∷ doubled cs else c ∷ doubled cs))
 doubled_by front c cs true e u later =
     let P : List ℕ → Type 0 = λ xs. IsUtf8 xs in
     let Q : ℕ → Type 0 = λ x. IsUtf8 (front ++ x ∷ cs) in
@@ -82,7 +88,8 @@ doubled_by front c cs true e u later =
     (later two (IsUtf8-append two cs (IsUtf8-append (front ++ 34 ∷ []) (34 ∷ []) cut.0 quote_alone) cut.1))
 doubled_by front c cs false e u later =
     let P : List ℕ → Type 0 = λ xs. IsUtf8 xs in
-    subst P (append_assoc front (c ∷ []) (doubled cs)) (later (front ++ c ∷ []) (subst P (sym (append_assoc front (c ∷ []) cs)) u))
+    subst P (append_assoc front (c ∷ []) (doubled cs))
+    (later (front ++ c ∷ []) (subst P (sym (append_assoc front (c ∷ []) cs)) u))
 
 doubled_is_text : (front bytes : List ℕ) → IsUtf8 (front ++ bytes) → IsUtf8 (front ++ doubled bytes)
 doubled_is_text front [] u = u
@@ -91,4 +98,5 @@ doubled_is_text front (c ∷ cs) u = doubled_by front c cs (c == 34) refl u (λ 
 -- a string of text is text
 pub quote_is_text : (bytes : List ℕ) → IsUtf8 bytes → IsUtf8 (quote bytes)
 quote_is_text bytes u =
-    IsUtf8-append (34 ∷ doubled bytes) (34 ∷ []) (IsUtf8-append (34 ∷ []) (doubled bytes) quote_alone (doubled_is_text [] bytes u)) quote_alone
+    IsUtf8-append (34 ∷ doubled bytes) (34 ∷ []) (IsUtf8-append (34 ∷ []) (doubled bytes) quote_alone
+    (doubled_is_text [] bytes u)) quote_alone

@@ -26,7 +26,8 @@ string_says : (bytes : List ℕ) → IsUtf8 bytes → string_in Text (quote byte
 string_says bytes u = ap as_text (undoubled bytes) ∙ text_says bytes u
 
 name_says_by : (bytes : List ℕ) (b : Bool) → is_plain bytes ≡ b → IsUtf8 bytes
-    → (let p : Piece = if b then record { kind = Word; text = bytes } else string_piece bytes in name_in p.kind p.text ≡ Some bytes)
+    → (let p : Piece = if b then record { kind = Word; text = bytes } else string_piece bytes in name_in p.kind
+    p.text ≡ Some bytes)
 name_says_by bytes true e u =
     let free : is_reserved bytes ≡ false = not-true (is_reserved bytes) (and_parts _ _ e).1 in
     rw free (text_says bytes u)
@@ -43,16 +44,21 @@ value_says (value.Int (pos n)) h = ap (λ o. option_map int_value o) (int_of_pos
 value_says (value.Int (negsuc n)) h = ap (λ o. option_map int_value o) (int_of_negative n (negative_within n h))
 
 -- a name's token is read as the name
-pub name_read : (bytes : List ℕ) → IsUtf8 bytes → (t : Lexeme) → piece_of t ≡ name_piece bytes → named t ≡ Some (on_line t.line bytes)
-name_read bytes u t e = ap (λ (p : Piece). option_map (on_line t.line) (name_in p.kind p.text)) e ∙ ap (λ o. option_map (on_line t.line) o) (name_says bytes u)
+pub name_read : (bytes : List ℕ) → IsUtf8 bytes → (t : Lexeme) → piece_of t ≡ name_piece bytes → named t ≡ Some
+    (on_line t.line bytes)
+name_read bytes u t e = ap (λ (p : Piece). option_map (on_line t.line) (name_in p.kind p.text)) e
+    ∙ ap (λ o. option_map (on_line t.line) o) (name_says bytes u)
 
 -- a string's token is read as its content
-pub string_read : (bytes : List ℕ) → IsUtf8 bytes → (t : Lexeme) → piece_of t ≡ string_piece bytes → quoted t ≡ Some (on_line t.line bytes)
-string_read bytes u t e = ap (λ (p : Piece). option_map (on_line t.line) (string_in p.kind p.text)) e ∙ ap (λ o. option_map (on_line t.line) o) (string_says bytes u)
+pub string_read : (bytes : List ℕ) → IsUtf8 bytes → (t : Lexeme) → piece_of t ≡ string_piece bytes → quoted t ≡ Some
+    (on_line t.line bytes)
+string_read bytes u t e = ap (λ (p : Piece). option_map (on_line t.line) (string_in p.kind p.text)) e
+    ∙ ap (λ o. option_map (on_line t.line) o) (string_says bytes u)
 
 -- a value's token is read as the value
 pub value_read : (v : Value) → IsValue v → (t : Lexeme) → piece_of t ≡ value_piece v → constant t ≡ Some (value_on_line t.line v)
-value_read v h t e = ap (λ (p : Piece). option_map (value_on_line t.line) (value_in p.kind p.text)) e ∙ ap (λ o. option_map (value_on_line t.line) o) (value_says v h)
+value_read v h t e = ap (λ (p : Piece). option_map (value_on_line t.line) (value_in p.kind p.text)) e
+    ∙ ap (λ o. option_map (value_on_line t.line) o) (value_says v h)
 
 -- ---- that they are whole
 
@@ -60,7 +66,8 @@ value_read v h t e = ap (λ (p : Piece). option_map (value_on_line t.line) (valu
 pub string_is_whole : (bytes : List ℕ) → IsUtf8 bytes → IsPiece (string_piece bytes)
 string_is_whole bytes u = record { whole = record { bytes = bytes; utf8 = u; text_is = refl } }
 
-name_is_whole_by : (bytes : List ℕ) (b : Bool) → is_plain bytes ≡ b → IsUtf8 bytes → IsPiece (if b then record { kind = Word; text = bytes } else string_piece bytes)
+name_is_whole_by : (bytes : List ℕ) (b : Bool) → is_plain bytes ≡ b → IsUtf8 bytes
+    → IsPiece (if b then record { kind = Word; text = bytes } else string_piece bytes)
 name_is_whole_by bytes true e u =
     let parts = and_parts (nat_lt 0 (length bytes) && list_all is_word_byte bytes) (not (is_reserved bytes)) e in
     let word = and_parts (nat_lt 0 (length bytes)) (list_all is_word_byte bytes) parts.0 in
@@ -76,7 +83,10 @@ name_is_whole bytes u = name_is_whole_by bytes (is_plain bytes) refl u
 pub value_is_whole : (v : Value) → IsValue v → IsPiece (value_piece v)
 unfolding value_piece
 value_is_whole (value.Text bytes) u = string_is_whole bytes u
-value_is_whole (value.Int (pos n)) h = let low : n < 2 ^ 64 = omega (arith, positive_within n h) in record { whole = decimal_is_word n low }
+value_is_whole (value.Int (pos n)) h = let low : n < 2 ^ 64 = omega (arith, positive_within n h) in record {
+  whole =
+      decimal_is_word n low;
+}
 value_is_whole (value.Int (negsuc n)) h =
     let low : n + 1 < 2 ^ 64 = omega (arith, negative_within n h) in
     record { whole = record { digits = _; is_digits = decimal_is_word (n + 1) low; text_is = refl } }

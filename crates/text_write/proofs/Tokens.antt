@@ -43,7 +43,8 @@ stops_here : (rest : List ℕ) → begins_with is_word_byte rest ≡ false → t
 stops_here [] h = refl
 stops_here (c ∷ cs) h = take_while-cons is_word_byte c cs ∙ rw h refl
 
-word_goes : (bytes rest : List ℕ) → list_all is_word_byte bytes ≡ true → begins_with is_word_byte rest ≡ false → take_while is_word_byte (bytes ++ rest) ≡ bytes
+word_goes : (bytes rest : List ℕ) → list_all is_word_byte bytes ≡ true → begins_with is_word_byte rest ≡ false
+    → take_while is_word_byte (bytes ++ rest) ≡ bytes
 word_goes [] rest e h = stops_here rest h
 word_goes (c ∷ cs) rest e h =
     let parts = and_parts (is_word_byte c) (list_all is_word_byte cs) e in
@@ -61,7 +62,8 @@ word_front (c ∷ cs) rest h apart =
       first = c;
       more = cs;
       text_is = refl;
-      token = cond-true (is_word_byte c) _ _ parts.0 ∙ ap (λ (xs : List ℕ). (Word, c ∷ xs)) (word_goes cs rest parts.1 apart.word);
+      token = cond-true (is_word_byte c) _ _ parts.0 ∙ ap (λ (xs : List ℕ). (Word, c ∷ xs))
+          (word_goes cs rest parts.1 apart.word);
       blank = byte.0;
       note = byte.1;
       low = byte.2;
@@ -75,7 +77,8 @@ negative_front (c ∷ cs) rest h apart =
       first = 45;
       more = c ∷ cs;
       text_is = refl;
-      token = cond-true (is_word_byte c) _ _ parts.0 ∙ ap (λ (xs : List ℕ). (Negative, 45 ∷ xs)) (word_goes (c ∷ cs) rest h.each apart.word);
+      token = cond-true (is_word_byte c) _ _ parts.0 ∙ ap (λ (xs : List ℕ). (Negative, 45 ∷ xs))
+          (word_goes (c ∷ cs) rest h.each apart.word);
       blank = refl;
       note = refl;
       low = omega arith;
@@ -94,20 +97,49 @@ string_front bytes rest apart = record {
 
 -- a symbol is the token there, if no blank follows it ever, or what follows is apart
 abbrev IsFrontSymbol : List ℕ → Type 0
-IsFrontSymbol text = (rest : List ℕ) → (is_spaced (record { kind = Symbol; text = text }) ≡ false) ⊎ IsApart rest → IsFront Symbol text rest
+IsFrontSymbol text = (rest : List ℕ) → (is_spaced (record { kind = Symbol; text = text }) ≡ false) ⊎ IsApart rest
+    → IsFront Symbol text rest
 
 -- a symbol that is one whatever follows
-whole_symbol : (c : ℕ) (more : List ℕ) → ((rest : List ℕ) → token_at c (more ++ rest) ≡ (Symbol, c ∷ more)) → is_blank c ≡ false → (c == 35) ≡ false → c < 128
+whole_symbol : (c : ℕ) (more : List ℕ) → ((rest : List ℕ) → token_at c (more ++ rest) ≡ (Symbol, c ∷ more))
+    → is_blank c ≡ false → (c == 35) ≡ false → c < 128
     → IsFrontSymbol (c ∷ more)
-whole_symbol c more token blank note low rest h = record { first = c; more = more; text_is = refl; token = token rest; blank = blank; note = note; low = low }
+whole_symbol c more token blank note low rest h = record {
+  first = c;
+  more = more;
+  text_is = refl;
+  token =
+      token rest;
+  blank = blank;
+  note = note;
+  low = low;
+}
 
 less : IsFrontSymbol (codes "<")
 less rest (inl e) = absurd (cc e)
-less rest (inr apart) = record { first = 60; more = []; text_is = refl; token = rw (apart.equals) refl; blank = refl; note = refl; low = omega arith }
+less rest (inr apart) = record {
+  first = 60;
+  more = [];
+  text_is = refl;
+  token = rw (apart.equals) refl;
+  blank =
+      refl;
+  note = refl;
+  low = omega arith;
+}
 
 greater : IsFrontSymbol (codes ">")
 greater rest (inl e) = absurd (cc e)
-greater rest (inr apart) = record { first = 62; more = []; text_is = refl; token = rw (apart.equals) refl; blank = refl; note = refl; low = omega arith }
+greater rest (inr apart) = record {
+  first = 62;
+  more = [];
+  text_is = refl;
+  token = rw (apart.equals) refl;
+  blank =
+      refl;
+  note = refl;
+  low = omega arith;
+}
 
 all_symbols : All IsFrontSymbol symbols
 all_symbols =
@@ -156,9 +188,11 @@ front_of Word text h rest (inl e) = absurd (cc e)
 front_of Word text h rest (inr apart) = word_front text rest h apart
 front_of Negative text h rest (inl e) = absurd (cc e)
 front_of Negative text h rest (inr apart) =
-    let P : List ℕ → Type 0 = λ xs. IsFront Negative xs rest in subst P (sym h.text_is) (negative_front h.digits rest h.is_digits apart)
+    let P : List ℕ → Type 0 = λ xs. IsFront Negative xs rest in subst P (sym h.text_is)
+    (negative_front h.digits rest h.is_digits apart)
 front_of Text text h rest (inl e) = absurd (cc e)
-front_of Text text h rest (inr apart) = let P : List ℕ → Type 0 = λ xs. IsFront Text xs rest in subst P (sym h.text_is) (string_front h.bytes rest apart)
+front_of Text text h rest (inr apart) = let P : List ℕ → Type 0 = λ xs. IsFront Text xs rest in subst P
+    (sym h.text_is) (string_front h.bytes rest apart)
 front_of Symbol text h rest o = All-contains IsFrontSymbol symbols text all_symbols h rest o
 front_of Fault text h rest o = absurd h
 
@@ -171,7 +205,8 @@ apart_at c cs word quote equals = record { word = word; quote = quote; equals = 
 symbol_is : (text : List ℕ) (q : Piece) → is_the_symbol text q ≡ true → q.text ≡ text
 symbol_is text q e = (bytes_eq-Decides q.text text).0 (and_parts (same_kind q.kind Symbol) (bytes_eq q.text text) e).1
 
-apart_symbol : (text : List ℕ) (q : Piece) (more : List ℕ) → is_the_symbol text q ≡ true → IsApart (text ++ more) → IsApart (q.text ++ more)
+apart_symbol : (text : List ℕ) (q : Piece) (more : List ℕ) → is_the_symbol text q ≡ true → IsApart (text ++ more)
+    → IsApart (q.text ++ more)
 apart_symbol text q more e h = let P : List ℕ → Type 0 = λ xs. IsApart (xs ++ more) in subst P (sym (symbol_is text q e)) h
 
 -- a piece that no blank precedes is apart from what stands before it
@@ -182,32 +217,38 @@ apart_tight q more e = last (or_cases _ _ e)
     first (inl e) = apart_symbol (codes ";") q more e (apart_at 59 more refl refl refl)
     first (inr e) = apart_symbol (codes ",") q more e (apart_at 44 more refl refl refl)
 
-    second : ((is_the_symbol (codes ";") q || is_the_symbol (codes ",") q) ≡ true) ⊎ (is_the_symbol (codes ":") q ≡ true) → IsApart (q.text ++ more)
+    second : ((is_the_symbol (codes ";") q || is_the_symbol (codes ",") q) ≡ true) ⊎
+        (is_the_symbol (codes ":") q ≡ true) → IsApart (q.text ++ more)
     second (inl e) = first (or_cases _ _ e)
     second (inr e) = apart_symbol (codes ":") q more e (apart_at 58 more refl refl refl)
 
-    third : ((is_the_symbol (codes ";") q || is_the_symbol (codes ",") q || is_the_symbol (codes ":") q) ≡ true) ⊎ (is_the_symbol (codes ")") q ≡ true) → IsApart (q.text ++ more)
+    third : ((is_the_symbol (codes ";") q || is_the_symbol (codes ",") q || is_the_symbol (codes ":") q) ≡ true) ⊎
+        (is_the_symbol (codes ")") q ≡ true) → IsApart (q.text ++ more)
     third (inl e) = second (or_cases _ _ e)
     third (inr e) = apart_symbol (codes ")") q more e (apart_at 41 more refl refl refl)
 
-    last : ((is_the_symbol (codes ";") q || is_the_symbol (codes ",") q || is_the_symbol (codes ":") q || is_the_symbol (codes ")") q) ≡ true) ⊎ (is_the_symbol (codes ".") q ≡ true) → IsApart (q.text ++ more)
+    last : ((is_the_symbol (codes ";") q || is_the_symbol (codes ",") q || is_the_symbol (codes ":") q
+        || is_the_symbol (codes ")") q) ≡ true) ⊎ (is_the_symbol (codes ".") q ≡ true) → IsApart (q.text ++ more)
     last (inl e) = third (or_cases _ _ e)
     last (inr e) = apart_symbol (codes ".") q more e (apart_at 46 more refl refl refl)
 
 -- the blank after a piece that wants one
-blank_seen : (p q : Piece) → is_spaced p ≡ true → (b : Bool) → is_tight_before q ≡ b → blank_before (Some p) q ≡ (if b then [] else 32 ∷ [])
+blank_seen : (p q : Piece) → is_spaced p ≡ true → (b : Bool) → is_tight_before q ≡ b → blank_before (Some p) q ≡
+    (if b then [] else 32 ∷ [])
 blank_seen p q spaced b e =
     let open_end : (ends_line p || is_tight_after p) ≡ false = not-true (ends_line p || is_tight_after p) spaced in
     let blank : Bool → List ℕ = λ x. if x then [] else 32 ∷ [] in
     ap (λ x. blank (x || is_tight_before q)) open_end ∙ ap blank e
 
-next_apart : (p q : Piece) (qs : List Piece) → is_spaced p ≡ true → (b : Bool) → is_tight_before q ≡ b → IsApart (text_after (Some p) (q ∷ qs))
+next_apart : (p q : Piece) (qs : List Piece) → is_spaced p ≡ true → (b : Bool) → is_tight_before q ≡ b
+    → IsApart (text_after (Some p) (q ∷ qs))
 next_apart p q qs spaced b e =
     let rest = text_after (Some q) qs in
     let P : List ℕ → Type 0 = λ blank. IsApart (blank ++ q.text ++ line_end q ++ rest) in
     subst P (sym (blank_seen p q spaced b e)) (by b e)
   where
-    by : (b : Bool) → is_tight_before q ≡ b → IsApart ((if b then [] else 32 ∷ []) ++ q.text ++ line_end q ++ text_after (Some q) qs)
+    by : (b : Bool) → is_tight_before q ≡ b → IsApart ((if b then [] else 32 ∷ []) ++ q.text ++ line_end q
+        ++ text_after (Some q) qs)
     by true e =
         let rest = text_after (Some q) qs in
         let P : List ℕ → Type 0 = λ xs. IsApart xs in
@@ -225,7 +266,8 @@ follows p ps = by (is_spaced p) refl
     by : (b : Bool) → is_spaced p ≡ b → (is_spaced p ≡ false) ⊎ IsApart (line_end p ++ text_after (Some p) ps)
     by false e = inl e
     by true e =
-        let open_line : ends_line p ≡ false = (or_parts (ends_line p) (is_tight_after p) (not-true (ends_line p || is_tight_after p) e)).0 in
+        let open_line : ends_line p ≡ false =
+        (or_parts (ends_line p) (is_tight_after p) (not-true (ends_line p || is_tight_after p) e)).0 in
         let P : Bool → Type 0 = λ b. IsApart ((if b then 10 ∷ [] else []) ++ text_after (Some p) ps) in
         inr (subst P (sym open_line) (after_apart p ps e))
 
@@ -256,7 +298,8 @@ gap_by false false c cs blank note = gap_at c cs blank note
 gap_skipped : (before : Option Piece) (q : Piece) (c : ℕ) (cs : List ℕ) → is_blank c ≡ false → (c == 35) ≡ false
     → after_gap false (ended before ++ blank_before before q ++ c ∷ cs) ≡ c ∷ cs
 gap_skipped None q c cs blank note = gap_at c cs blank note
-gap_skipped (Some p) q c cs blank note = gap_by (ends_line p) (ends_line p || is_tight_after p || is_tight_before q) c cs blank note
+gap_skipped (Some p) q c cs blank note = gap_by (ends_line p) (ends_line p || is_tight_after p || is_tight_before q)
+    c cs blank note
 
 line_only : (b : Bool) → after_gap false ((if b then 10 ∷ [] else []) ++ []) ≡ []
 line_only true = refl
@@ -269,7 +312,8 @@ gap_at_end (Some p) = line_only (ends_line p)
 regrouped : (e b t l r : List ℕ) → e ++ (b ++ t ++ l ++ r) ≡ e ++ b ++ (t ++ (l ++ r))
 regrouped e b t l r = simp append_assoc
 
-found : (before : Option Piece) (ps : List Piece) → All IsPiece ps → (done : List ℕ) → Found done (ended before ++ text_after before ps) ps
+found : (before : Option Piece) (ps : List Piece) → All IsPiece ps → (done : List ℕ) → Found done
+    (ended before ++ text_after before ps) ps
 found before [] whole done = record { lexemes = []; tokens = gap_at_end before; same = refl }
 found before (q ∷ qs) whole done =
     let rest : List ℕ = line_end q ++ text_after (Some q) qs in
@@ -277,7 +321,8 @@ found before (q ∷ qs) whole done =
     let gap : List ℕ = ended before ++ blank_before before q in
     let t : Lexeme = record { kind = q.kind; text = q.text; start = length (done ++ gap); line = line_after (done ++ gap) } in
     let here : ended before ++ text_after before (q ∷ qs) ≡ gap ++ front.first ∷ (front.more ++ rest) =
-    regrouped (ended before) (blank_before before q) q.text (line_end q) (text_after (Some q) qs) ∙ ap (λ xs. gap ++ (xs ++ rest)) front.text_is in
+    regrouped (ended before) (blank_before before q) q.text (line_end q) (text_after (Some q) qs)
+    ∙ ap (λ xs. gap ++ (xs ++ rest)) front.text_is in
     let later : Found (done ++ gap ++ q.text) rest qs = found (Some q) qs (All-tail IsPiece q qs whole) (done ++ gap ++ q.text) in
     record {
       lexemes = t ∷ later.lexemes;
@@ -313,14 +358,16 @@ low_is_ascii (c ∷ cs) e =
 
 symbols_are_text : All IsUtf8 symbols
 symbols_are_text =
-    All-weaker (λ text. list_all (λ c. nat_lt c 128) text ≡ true) IsUtf8 (λ text low. IsUtf8-from_ascii text (low_is_ascii text low))
+    All-weaker (λ text. list_all (λ c. nat_lt c 128) text ≡ true) IsUtf8
+    (λ text low. IsUtf8-from_ascii text (low_is_ascii text low))
     symbols (AllPass-from_list_all (λ text. list_all (λ c. nat_lt c 128) text) symbols refl)
 
 piece_is_text : (kind : TokenKind) (text : List ℕ) → IsOfKind kind text → IsUtf8 text
 piece_is_text Word text h = IsUtf8-from_ascii text (word_is_ascii text h.each)
 piece_is_text Negative text h =
     let P : List ℕ → Type 0 = λ xs. IsUtf8 xs in
-    subst P (sym h.text_is) (IsUtf8-from_ascii (45 ∷ h.digits) (IsAscii-cons 45 h.digits (omega arith) (word_is_ascii h.digits h.is_digits.each)))
+    subst P (sym h.text_is) (IsUtf8-from_ascii (45 ∷ h.digits)
+    (IsAscii-cons 45 h.digits (omega arith) (word_is_ascii h.digits h.is_digits.each)))
 piece_is_text Text text h = let P : List ℕ → Type 0 = λ xs. IsUtf8 xs in subst P (sym h.text_is) (quote_is_text h.bytes h.utf8)
 piece_is_text Symbol text h = All-contains IsUtf8 symbols text symbols_are_text h
 piece_is_text Fault text h = absurd h
@@ -346,7 +393,8 @@ text_is_text before (q ∷ qs) whole =
     let blank = blank_before before q in
     IsUtf8-append (blank ++ q.text ++ line_end q) (text_after (Some q) qs)
     (IsUtf8-append (blank ++ q.text) (line_end q)
-    (IsUtf8-append blank q.text (blank_is_text before q) (piece_is_text q.kind q.text (All-head IsPiece q qs whole).whole)) (line_is_text (ends_line q)))
+    (IsUtf8-append blank q.text (blank_is_text before q)
+    (piece_is_text q.kind q.text (All-head IsPiece q qs whole).whole)) (line_is_text (ends_line q)))
     (text_is_text (Some q) qs (All-tail IsPiece q qs whole))
 
 -- a text without a byte order mark

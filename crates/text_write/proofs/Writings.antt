@@ -31,7 +31,8 @@ held_text text (Some q) = refl
 regrouped : (t b x l rest : List ℕ) → (t ++ b ++ x ++ l) ++ rest ≡ t ++ (b ++ x ++ l ++ rest)
 regrouped t b x l rest = simp append_assoc
 
-text_held : (text : List ℕ) (before : Option Piece) (ps : List Piece) → (writes_all (held text before) ps).text ≡ text ++ text_after before ps
+text_held : (text : List ℕ) (before : Option Piece) (ps : List Piece) → (writes_all (held text before) ps).text ≡
+    text ++ text_after before ps
 unfolding writes
 text_held text before [] = held_text text before ∙ sym (append-nil text)
 text_held text before (p ∷ ps) =

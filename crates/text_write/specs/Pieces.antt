@@ -39,7 +39,8 @@ is_tight_after p = is_the_symbol (codes "(") p || is_the_symbol (codes ".") p
 -- `;` `,` `:` `)` or `.`, which no blank precedes
 abbrev pub is_tight_before : Piece → Bool
 is_tight_before p =
-    is_the_symbol (codes ";") p || is_the_symbol (codes ",") p || is_the_symbol (codes ":") p || is_the_symbol (codes ")") p || is_the_symbol (codes ".") p
+    is_the_symbol (codes ";") p || is_the_symbol (codes ",") p || is_the_symbol (codes ":") p || is_the_symbol
+    (codes ")") p || is_the_symbol (codes ".") p
 
 -- the blank between a piece and the next one, where there is one; a line that has ended needs none
 abbrev pub blank_between : Piece → Piece → List ℕ

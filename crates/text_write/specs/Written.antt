@@ -11,7 +11,8 @@ use Rattle.text_write.specs.Spelling.{quote}
 -- the symbols of the languages
 abbrev pub symbols : List (List ℕ)
 symbols =
-    codes ";" ∷ codes "," ∷ codes ":" ∷ codes "(" ∷ codes ")" ∷ codes "." ∷ codes "<=" ∷ codes ">=" ∷ codes "!=" ∷ codes "<" ∷ codes ">" ∷ codes "=" ∷ []
+    codes ";" ∷ codes "," ∷ codes ":" ∷ codes "(" ∷ codes ")" ∷ codes "." ∷ codes "<=" ∷ codes ">=" ∷ codes "!="
+    ∷ codes "<" ∷ codes ">" ∷ codes "=" ∷ []
 
 -- bytes of a word: one or more, and each a word's
 pub record AreWordBytes (bytes : List ℕ) : Type 0 where

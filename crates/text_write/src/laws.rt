@@ -14,12 +14,14 @@ pub fn pieces_are_tokens()
 
 /// A law: a token that is a name's piece is read as this name.
 pub fn name_is_read()
-    ensures { (bytes : List ℕ) → IsUtf8 bytes → (t : Lexeme) → piece_of t ≡ name_piece bytes → named t ≡ Some (on_line t.line bytes) }
+    ensures { (bytes : List ℕ) → IsUtf8 bytes → (t : Lexeme) → piece_of t ≡ name_piece bytes → named t ≡ Some
+        (on_line t.line bytes) }
 {}
 
 /// A law: a token that is a string's piece is read as the string's content.
 pub fn string_is_read()
-    ensures { (bytes : List ℕ) → IsUtf8 bytes → (t : Lexeme) → piece_of t ≡ string_piece bytes → quoted t ≡ Some (on_line t.line bytes) }
+    ensures { (bytes : List ℕ) → IsUtf8 bytes → (t : Lexeme) → piece_of t ≡ string_piece bytes → quoted t ≡ Some
+        (on_line t.line bytes) }
 {}
 
 /// A law: a token that is a value's piece is read as this value.

@@ -24,7 +24,8 @@ use Rattle.told_answers.specs.Answers.{IsAnswer, ask_trouble}
 
 -- reading what was written of a report that can be written gives the report again
 abbrev pub WrittenIsRead : Type 0
-WrittenIsRead = (relations : List Relation) (r : Report) → AreRelations relations → All HasTextNames relations → IsWritableReport relations r
+WrittenIsRead = (relations : List Relation) (r : Report) → AreRelations relations → All HasTextNames relations
+    → IsWritableReport relations r
     → (lines : Lines) × ReadsReport relations (text_of (report_pieces relations r)) (record { report = r; lines = lines })
 
 -- what an answer has
@@ -36,12 +37,23 @@ pub record Answer (s : Spec) (q : Question) (budget : ℕ) (r : Report) : Type 0
   pub enough : IsDecidedBy s q budget r
   pub first : NamesFirst s q r.verdict
 
-pub is_answer : WrittenIsRead → (s : Spec) (q : Question) (budget : ℕ) (r : Report) → AreRelations s.relations → All HasTextNames s.relations
+pub is_answer : WrittenIsRead → (s : Spec) (q : Question) (budget : ℕ) (r : Report) → AreRelations s.relations
+    → All HasTextNames s.relations
     → Answer s q budget r → IsAnswer s q budget r
 is_answer law s q budget r relations names a =
-    let read : (lines : Lines) × ReadsReport s.relations (text_of (report_pieces s.relations r)) (record { report = r; lines = lines }) =
+    let read : (lines : Lines) × ReadsReport s.relations (text_of (report_pieces s.relations r))
+    (record { report = r; lines = lines }) =
     law s.relations r relations names a.writable in
-    record { shown = a.shown; right = a.right; lines = read.0; reread = read.1; within = a.within; enough = a.enough; first = a.first }
+    record {
+      shown = a.shown;
+      right = a.right;
+      lines = read.0;
+      reread = read.1;
+      within = a.within;
+      enough =
+          a.enough;
+      first = a.first;
+    }
 
 -- where a query has too many answers, that is told
 pub too_many_told : (s : Spec) (q : Question) (told : AskFault) (e : Trouble)

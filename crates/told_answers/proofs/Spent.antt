@@ -14,9 +14,11 @@ true_not_false h = cc
 
 -- nothing else is answered undecided
 no_kind : (r : Report) (v : Verdict) → r.verdict ≡ v → is_decided (kind_of v) ≡ true → is_decided (kind_of r.verdict) ≡ false → ⊥
-no_kind r v is decided undecided = true_not_false (sym decided ∙ subst (λ (w : Verdict). is_decided (kind_of w) ≡ false) is undecided)
+no_kind r v is decided undecided = true_not_false
+    (sym decided ∙ subst (λ (w : Verdict). is_decided (kind_of w) ≡ false) is undecided)
 
-undecided_at : (s : Spec) (q : Question) (budget : ℕ) (r : Report) (v : Verdict) → r.verdict ≡ v → IsAnswerWithin s q budget r → is_decided (kind_of r.verdict) ≡ false
+undecided_at : (s : Spec) (q : Question) (budget : ℕ) (r : Report) (v : Verdict) → r.verdict ≡ v → IsAnswerWithin s q
+    budget r → is_decided (kind_of r.verdict) ≡ false
     → r.verdict ≡ verdict.Undecided budget
 undecided_at s q budget r verdict.Inconsistent is within undecided = absurd (no_kind r _ is refl undecided)
 undecided_at s q budget r verdict.Consistent is within undecided = absurd (no_kind r _ is refl undecided)
@@ -27,6 +29,10 @@ undecided_at s q budget r (verdict.NotSame rel attr ent) is within undecided = a
 undecided_at s q budget r (verdict.Answers tuples) is within undecided = absurd (no_kind r _ is refl undecided)
 undecided_at s q budget r (verdict.Undecided counted) is within undecided = is ∙ ap verdict.Undecided ((rw is at within).1)
 
-pub short : (s : Spec) (q : Question) (budget : ℕ) (r : Report) → IsAnswer s q budget r → is_decided (kind_of r.verdict) ≡ false → IsShort s q budget r.verdict
-short s q budget r answer undecided =
-    (undecided_at s q budget r r.verdict refl answer.within undecided, λ count counts enough. true_not_false (sym (answer.enough count counts enough) ∙ undecided))
+pub short : (s : Spec) (q : Question) (budget : ℕ) (r : Report) → IsAnswer s q budget r → is_decided
+    (kind_of r.verdict) ≡ false → IsShort s q budget r.verdict
+short s q budget r answer undecided = (
+  undecided_at s q budget r r.verdict refl answer.within undecided,
+  λ count counts enough. true_not_false
+      (sym (answer.enough count counts enough) ∙ undecided),
+)

@@ -47,13 +47,18 @@ answer_text relations brief r =
 
 -- what a question comes to that this report answers
 abbrev pub answer_done : List Relation → Bool → Report → Done
-answer_done relations brief r = record { text = answer_text relations brief r; ending = ending_of (is_decided (kind_of r.verdict)) }
+answer_done relations brief r = record {
+  text = answer_text relations brief r;
+  ending = ending_of
+      (is_decided (kind_of r.verdict));
+}
 
 -- a budget was spent on a question: the verdict says so, and the budget is less than three to the number of the question's
 -- variables, however many answers a query has over each consistent completion
 abbrev pub IsShort : Spec → Question → ℕ → Verdict → Type 0
 IsShort s question budget v =
-    (v ≡ Undecided budget) × ((count : Rankings → ℕ) → CountsAnswers s question count → IsEnough s (currents_of question) count budget → ⊥)
+    (v ≡ Undecided budget) × ((count : Rankings → ℕ) → CountsAnswers s question count → IsEnough s
+    (currents_of question) count budget → ⊥)
 
 -- a question about a specification is answered where both are read, decided or not; unless it is a query that has more answers
 -- over a consistent completion than are gone through, or memory ran out

@@ -93,7 +93,8 @@ pub fn report_on(
     requires question { IsQuestionOn spec.now.relations question.now }
     ensures answer { IfOk result (IsAnswer spec.now question.now budget) }
     ensures writable { IfOk result (IsWritableReport spec.now.relations) }
-    ensures too_many { IfErr result (λ e. IsDetermined e → (c : Rankings) × HasTooMany spec.now question.now c × (e ≡ Trouble.Limit 3)) }
+    ensures too_many { IfErr result (λ e. IsDetermined e → (c : Rankings) × HasTooMany spec.now question.now c ×
+        (e ≡ Trouble.Limit 3)) }
     ensures inside { IsReadFault result → ⊥ }
     ensures not_words { IfErr result (λ e. e ≢ Trouble.Words) }
 {

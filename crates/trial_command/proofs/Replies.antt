@@ -20,7 +20,8 @@ abbrev OneSpec : Type 0
 OneSpec = (told : List (List ℕ × List ℕ)) (name : List ℕ) → IsOne (IsSpecRead told name)
 
 abbrev OneQuestion : Type 0
-OneQuestion = (told : List (List ℕ × List ℕ)) (relations : List Relation) (name : List ℕ) → IsOne (IsQuestionRead told relations name)
+OneQuestion = (told : List (List ℕ × List ℕ)) (relations : List Relation) (name : List ℕ)
+    → IsOne (IsQuestionRead told relations name)
 
 -- ---- what is due differs in no more than which reports answer
 
@@ -39,7 +40,8 @@ tried_like size s questions x y (inr (inr h)) (inr (inr k)) = same_alike x y (h.
 same_list : (a b c d : Question) → IsOne (λ (o : Result (List Question) Trouble). o ≡ Ok (a ∷ b ∷ c ∷ d ∷ []))
 same_list a b c d x y h k = h ∙ sym k
 
-questions_one : OneQuestion → (told : List (List ℕ × List ℕ)) (relations : List Relation) → IsOne (AreQuestionsRead told relations)
+questions_one : OneQuestion → (told : List (List ℕ × List ℕ)) (relations : List Relation)
+    → IsOne (AreQuestionsRead told relations)
 questions_one one_question told relations =
     then_one (IsQuestionRead told relations (codes "q1")) _ (one_question told relations (codes "q1")) (λ a.
     then_one (IsQuestionRead told relations (codes "q2")) _ (one_question told relations (codes "q2")) (λ b.
@@ -50,7 +52,8 @@ questions_one one_question told relations =
 pub trial_like : OneSpec → OneQuestion → (told : List (List ℕ × List ℕ)) (size : ℕ) → IsLike (IsTrialDueOver told size)
 trial_like one_spec one_question told size =
     then_like (IsSpecRead told (codes "spec")) _ (one_spec told (codes "spec")) (λ s.
-    then_like (AreQuestionsRead told s.relations) (AreTried size s) (questions_one one_question told s.relations) (tried_like size s))
+    then_like (AreQuestionsRead told s.relations) (AreTried size s) (questions_one one_question told s.relations)
+    (tried_like size s))
 
 -- ---- what is told, by the status
 
@@ -59,12 +62,14 @@ abbrev told_as : List ℕ → Ending → Done
 told_as text e = record { text = text; ending = e }
 
 of_told : (size : ℕ) (P : Spec → Type 0) (text : List ℕ) (e : Ending) → IsTrialTold size text e
-    → ((s : Spec) → IsSpecRead (documents size) (codes "spec") (Ok s) → (questions : List Question) → AreTried size s questions (Ok (told_as text e)) → P s)
+    → ((s : Spec) → IsSpecRead (documents size) (codes "spec") (Ok s) → (questions : List Question)
+    → AreTried size s questions (Ok (told_as text e)) → P s)
     → (s : Spec) × IsSpecRead (documents size) (codes "spec") (Ok s) × P s
 of_told size P text e told by = of_spec told.0 told.1 told.2
   where
     of_questions : (s : Spec) → IsSpecRead (documents size) (codes "spec") (Ok s) → (r : Result (List Question) Trouble)
-        → MatchResult r (λ qs. AreTried size s qs (Ok (told_as text e))) (λ t. ◌≡◌ {A = Result Done Trouble} (Ok (told_as text e)) (Err t)) → P s
+        → MatchResult r (λ qs. AreTried size s qs (Ok (told_as text e)))
+        (λ t. ◌≡◌ {A = Result Done Trouble} (Ok (told_as text e)) (Err t)) → P s
     of_questions s read (Ok qs) h = by s read qs h
     of_questions s read (Err t) h = absurd (done_apart (told_as text e) t h)
 
@@ -91,19 +96,22 @@ not_both : ending.Undecided ≡ ending.Decided → ⊥
 not_both e = cc
 
 -- it ends as a question
-is_no_text : (size : ℕ) (text : List ℕ) (s : Spec) (questions : List Question) → AreTried size s questions (Ok (told_as text ending.Told)) → ⊥
+is_no_text : (size : ℕ) (text : List ℕ) (s : Spec) (questions : List Question) → AreTried size s questions
+    (Ok (told_as text ending.Told)) → ⊥
 is_no_text size text s questions (inl h) = not_told_yet (same_end text _ ending.Told ending.Decided h.is_text)
 is_no_text size text s questions (inr (inl h)) = not_told_spent (same_end text _ ending.Told ending.Undecided h.is_text)
 is_no_text size text s questions (inr (inr h)) = done_apart (told_as text ending.Told) (trouble.Limit 3) h.is_limit
 
-pub decided_told : (size : ℕ) (text : List ℕ) (e : Ending) → ending_status e ≡ 0 → IsTrialTold size text e → IsTrialTold size text ending.Decided
+pub decided_told : (size : ℕ) (text : List ℕ) (e : Ending) → ending_status e ≡ 0 → IsTrialTold size text e
+    → IsTrialTold size text ending.Decided
 decided_told size text ending.Told zero h =
     absurd (of_told size (λ s. ⊥) text ending.Told h (λ s read questions tried. is_no_text size text s questions tried)).2
 decided_told size text ending.Decided zero h = h
 decided_told size text ending.Undecided zero h = absurd (omega (arith, zero))
 
 spent_of : (size : ℕ) (text : List ℕ) (s : Spec) (questions : List Question) → IsTrialTold size text ending.Undecided
-    → IsSpecRead (documents size) (codes "spec") (Ok s) → AreTried size s questions (Ok (told_as text ending.Undecided)) → IsTrialSpent size text
+    → IsSpecRead (documents size) (codes "spec") (Ok s) → AreTried size s questions
+    (Ok (told_as text ending.Undecided)) → IsTrialSpent size text
 spent_of size text s questions told read (inl h) = absurd (not_both (same_end text _ ending.Undecided ending.Decided h.is_text))
 spent_of size text s questions told read (inr (inl h)) = record {
   told = told;
@@ -115,10 +123,12 @@ spent_of size text s questions told read (inr (inl h)) = record {
   is_text = same_text text _ ending.Undecided ending.Undecided h.is_text;
   short = short s h.question trial_budget h.report h.answer h.undecided;
 }
-spent_of size text s questions told read (inr (inr h)) = absurd (done_apart (told_as text ending.Undecided) (trouble.Limit 3) h.is_limit)
+spent_of size text s questions told read (inr (inr h)) = absurd (done_apart (told_as text ending.Undecided)
+    (trouble.Limit 3) h.is_limit)
 
 pub spent_told : (size : ℕ) (text : List ℕ) (e : Ending) → ending_status e ≡ 3 → IsTrialTold size text e → IsTrialSpent size text
 spent_told size text ending.Told three h = absurd (omega (arith, three))
 spent_told size text ending.Decided three h = absurd (omega (arith, three))
 spent_told size text ending.Undecided three h =
-    (of_told size (λ s. IsTrialSpent size text) text ending.Undecided h (λ s read questions tried. spent_of size text s questions h read tried)).2
+    (of_told size (λ s. IsTrialSpent size text) text ending.Undecided h
+    (λ s read questions tried. spent_of size text s questions h read tried)).2

@@ -94,7 +94,8 @@ pub record IsPastLimit (s : Spec) (questions : List Question) (outcome : Result 
 
 -- the job: the questions are answered in turn
 abbrev pub AreTried : ℕ → Spec → List Question → Result Done Trouble → Type 0
-AreTried size s questions outcome = AreSummed size s questions outcome ⊎ (IsSpentAt s questions outcome ⊎ IsPastLimit s questions outcome)
+AreTried size s questions outcome = AreSummed size s questions outcome ⊎
+    (IsSpentAt s questions outcome ⊎ IsPastLimit s questions outcome)
 
 -- ---- the stages
 
@@ -118,9 +119,9 @@ IsTrialDue size = IsTrialDueOver (documents size) size
 
 -- ---- what is told
 
--- the generated documents are read as a specification and four questions, by the same stages as those of `ask`, and this is told of
--- the reports that answer them: the summary of four right verdicts; or the whole report for the first question that the budget was
--- spent on
+-- the generated documents are read as a specification and four questions, by the same stages as those of `ask`, and
+-- this is told of the reports that answer them: the summary of four right verdicts; or the whole report for the first
+-- question that the budget was spent on
 abbrev pub IsTrialTold : ℕ → List ℕ → Ending → Type 0
 IsTrialTold size text ending = IsTrialDue size (Ok (record { text = text; ending = ending }))
 

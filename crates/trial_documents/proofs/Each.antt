@@ -11,7 +11,8 @@ each_one_more : (n : ℕ) (lines : ℕ → List ℕ) → each (n + 1) lines ≡ 
 unfolding each
 each_one_more n lines =
     let same : ℕ → ℕ = λ k. k in
-    sym (flat_map-map lines same (range_with_len 0 (n + 1))) ∙ ap (λ ks. flat_map lines ks) (map-range_with_len_more same 0 n n (omega arith))
+    sym (flat_map-map lines same (range_with_len 0 (n + 1))) ∙ ap (λ ks. flat_map lines ks)
+    (map-range_with_len_more same 0 n n (omega arith))
     ∙ flat_map-append lines _ (n ∷ []) ∙ ap (λ ks. ks ++ (lines n ++ [])) (flat_map-map lines same (range_with_len 0 n))
     ∙ ap (λ ks. flat_map lines (range_with_len 0 n) ++ ks) (append-nil (lines n))
 

@@ -26,7 +26,8 @@ copy_line i j = line (View i j ∷ Item i j ∷ [])
 
 -- the items at the places q and q + 1 of entity i stand in this order by b: a line where this is given
 unfoldable pub given_line : ℕ → ℕ → ℕ → List ℕ
-given_line size i q = if is_given i q then line (Attribute B ∷ Item i (row_at size i q) ∷ Item i (row_at size i (q + 1)) ∷ []) else []
+given_line size i q = if is_given i q then line (Attribute B ∷ Item i (row_at size i q)
+    ∷ Item i (row_at size i (q + 1)) ∷ []) else []
 
 -- do the items at the first and the last place of entity i stand in this order by c?
 unfoldable pub asked_line : ℕ → ℕ → List ℕ

@@ -18,12 +18,15 @@ use Rattle.ucq_answers.proofs.Values.{value_same}
 pub lower_orders : (tuples : List (List Value)) (place : ℕ) → IsStrictWeakOrder (is_lower tuples place)
 lower_orders tuples place = ranks_by (options_total value_total) (key_of tuples place)
 
-pub ranks_rise : (tuples : List (List Value)) (place : ℕ) (ents : List EntId) (value : Value) → IsByValue tuples place ents → IsNonDecreasingBy (rank_to tuples place value) ents
-ranks_rise tuples place ents value is = searchable_from_sorted (options_total value_total) (key_of tuples place) ents (Some value) is.sorted
+pub ranks_rise : (tuples : List (List Value)) (place : ℕ) (ents : List EntId) (value : Value)
+    → IsByValue tuples place ents → IsNonDecreasingBy (rank_to tuples place value) ents
+ranks_rise tuples place ents value is = searchable_from_sorted (options_total value_total) (key_of tuples place) ents
+    (Some value) is.sorted
 
 -- where the tuples of a value start and end
 
-pub in_order : (tuples : List (List Value)) (place : ℕ) (value : Value) (ents : List EntId) (start end : ℕ) → start ≤ length ents → StartsAt tuples place value ents start
+pub in_order : (tuples : List (List Value)) (place : ℕ) (value : Value) (ents : List EntId) (start end : ℕ)
+    → start ≤ length ents → StartsAt tuples place value ents start
     → EndsAt tuples place value ents end → start ≤ end
 in_order tuples place value ents start end inside starts ends = by (cases_lt end start)
   where
@@ -36,10 +39,12 @@ in_order tuples place value ents start end inside starts ends = by (cases_lt end
         absurd (omega (arith, low, high))
 
 -- an item from a first place on, and before a last one
-read_range : {A : Type 0} (xs : List A) (start end k : ℕ) (x : A) → start ≤ k → k < end → end ≤ length xs → get_or xs k x ≡ x → Contains (slice_range xs start end) x
+read_range : {A : Type 0} (xs : List A) (start end k : ℕ) (x : A) → start ≤ k → k < end → end ≤ length xs
+    → get_or xs k x ≡ x → Contains (slice_range xs start end) x
 read_range [] start end k x from below inside at = absurd (omega (arith, from, below, inside))
 read_range (y ∷ xs) zero zero k x from below inside at = absurd (omega (arith, below))
-read_range (y ∷ xs) zero (suc end) zero x from below inside at = let more : suc end - 0 ≡ suc (end - 0) = omega arith in rw more (0, omega arith, at)
+read_range (y ∷ xs) zero (suc end) zero x from below inside at = let more : suc end - 0 ≡ suc (end - 0) =
+    omega arith in rw more (0, omega arith, at)
 read_range (y ∷ xs) zero (suc end) (suc k) x from below inside at =
     let more : suc end - 0 ≡ suc (end - 0) = omega arith in
     let rest = read_range xs zero end k x (omega arith) (omega (arith, below)) (omega (arith, inside)) at in
@@ -50,8 +55,10 @@ read_range (y ∷ xs) (suc start) (suc end) (suc k) x from below inside at =
     let less : suc end - suc start ≡ end - start = omega arith in
     rw less (read_range xs start end k x (omega (arith, from)) (omega (arith, below)) (omega (arith, inside)) at)
 
-pub alike_tuples : (tuples : List (List Value)) (place : ℕ) (ents : List EntId) (value : Value) (start end : ℕ) → IsByValue tuples place ents → start ≤ length ents
-    → end ≤ length ents → StartsAt tuples place value ents start → EndsAt tuples place value ents end → AreAlike tuples place value (slice_range ents start end)
+pub alike_tuples : (tuples : List (List Value)) (place : ℕ) (ents : List EntId) (value : Value) (start end : ℕ)
+    → IsByValue tuples place ents → start ≤ length ents
+    → end ≤ length ents → StartsAt tuples place value ents start → EndsAt tuples place value ents end
+    → AreAlike tuples place value (slice_range ents start end)
 alike_tuples tuples place ents value start end is inside within starts ends at tuple is_tuple has =
     read_range ents start end there.0 own (from (cases_lt there.0 start)) (before (cases_lt there.0 end)) within there.2
   where
@@ -65,7 +72,8 @@ alike_tuples tuples place ents value start end is inside within starts ends at t
     key = ap (option_and_then (λ t. slice_get t place)) is_tuple ∙ has
 
     rank : rank_to tuples place value (get_or ents there.0 own) ≡ 1
-    rank = ap (rank_to tuples place value) there.2 ∙ ap (λ k. ordering_index (option_cmp value_cmp k (Some value))) key ∙ ap ordering_index (value_same value)
+    rank = ap (rank_to tuples place value) there.2 ∙ ap (λ k. ordering_index (option_cmp value_cmp k (Some value)))
+        key ∙ ap ordering_index (value_same value)
 
     from : (there.0 < start) ⊎ (start ≤ there.0) → start ≤ there.0
     from (inr is) = is

@@ -20,7 +20,8 @@ pub from_contains : {A : Type 0} (xs : List A) (x : A) → Contains xs x → Amo
 from_contains [] x is = absurd (omega (arith, is.1))
 from_contains {A} (y ∷ ys) x is = by is.0 is.1 is.2 (λ k below at. from_contains ys x (k, below, at))
   where
-    by : (k : ℕ) → k < length (y ∷ ys) → slice_index_or (y ∷ ys) k x ≡ x → ((j : ℕ) → j < length ys → slice_index_or ys j x ≡ x → Among ys x) → (y ≡ x) ⊎ Among ys x
+    by : (k : ℕ) → k < length (y ∷ ys) → slice_index_or (y ∷ ys) k x ≡ x →
+        ((j : ℕ) → j < length ys → slice_index_or ys j x ≡ x → Among ys x) → (y ≡ x) ⊎ Among ys x
     by zero below at more = inl at
     by (suc j) below at more = inr (more j (omega arith) at)
 
@@ -58,7 +59,8 @@ kept_inserted (x ∷ xs) k y is = by (slice_cmp value_cmp k x) is (λ more. kept
     by Greater (inl same) more = inl same
     by Greater (inr rest) more = inr (more rest)
 
-pub of_inserted : (xs : List (List Value)) (k y : List Value) → Among (insert_key (slice_cmp value_cmp) xs k) y → Among xs y ⊎ (k ≡ y)
+pub of_inserted : (xs : List (List Value)) (k y : List Value) → Among (insert_key (slice_cmp value_cmp) xs k) y
+    → Among xs y ⊎ (k ≡ y)
 of_inserted [] k y (inl same) = inr same
 of_inserted [] k y (inr none) = absurd none
 of_inserted (x ∷ xs) k y is = by (slice_cmp value_cmp k x) is (λ more. of_inserted xs k y more)

@@ -31,7 +31,8 @@ adds_none P old never =
     }
 
 -- some, and then others
-pub adds_also : (P Q R : List Value → Type 0) (old mid new : Bounded) (is_full : Bool) → Adds P old mid false → Adds Q mid new is_full → ((tuple : List Value) → P tuple ⊎ Q tuple → R tuple)
+pub adds_also : (P Q R : List Value → Type 0) (old mid new : Bounded) (is_full : Bool) → Adds P old mid false
+    → Adds Q mid new is_full → ((tuple : List Value) → P tuple ⊎ Q tuple → R tuple)
     → (is_full ≡ false → (tuple : List Value) → R tuple → P tuple ⊎ Q tuple) → Adds R old new is_full
 adds_also P Q R old mid new is_full first rest to from =
     record {
@@ -55,7 +56,8 @@ adds_also P Q R old mid new is_full first rest to from =
     there opened tuple (inr is) = rest.complete opened tuple is
 
 -- the same, said otherwise
-pub adds_same : (P R : List Value → Type 0) (old new : Bounded) (is_full : Bool) → Adds P old new is_full → ((tuple : List Value) → P tuple → R tuple)
+pub adds_same : (P R : List Value → Type 0) (old new : Bounded) (is_full : Bool) → Adds P old new is_full →
+    ((tuple : List Value) → P tuple → R tuple)
     → (is_full ≡ false → (tuple : List Value) → R tuple → P tuple) → Adds R old new is_full
 adds_same P R old new is_full adds to from =
     record {
@@ -71,14 +73,20 @@ adds_same P R old new is_full adds to from =
     by tuple (inr is) = inr (to tuple is)
 
 -- one tuple
-pub adds_one : (P : List Value → Type 0) (old new : Bounded) (tuple : List Value) (is_full : Bool) → new.at_most ≡ old.at_most → new.tuples ≡ insert_key (slice_cmp value_cmp) old.tuples tuple
-    → IsTrue is_full ↔ (new.at_most < length new.tuples) → P tuple → ((other : List Value) → P other → tuple ≡ other) → Adds P old new is_full
+pub adds_one : (P : List Value → Type 0) (old new : Bounded) (tuple : List Value) (is_full : Bool)
+    → new.at_most ≡ old.at_most → new.tuples ≡ insert_key (slice_cmp value_cmp) old.tuples tuple
+    → IsTrue is_full ↔ (new.at_most < length new.tuples) → P tuple → ((other : List Value) → P other → tuple ≡ other)
+    → Adds P old new is_full
 adds_one P old new tuple is_full bound after tells meant only =
     record {
       at_most = bound;
-      kept = λ other was. placed other (to_contains _ other (kept_inserted old.tuples tuple other (from_contains old.tuples other was)));
-      sound = λ other is. by other (of_inserted old.tuples tuple other (from_contains _ other (subst (λ l. Contains l other) after is)));
-      complete = λ opened other is. placed other (subst (Contains (insert_key (slice_cmp value_cmp) old.tuples tuple)) (only other is) (to_contains _ tuple (in_inserted old.tuples tuple)));
+      kept = λ other was. placed other
+          (to_contains _ other (kept_inserted old.tuples tuple other (from_contains old.tuples other was)));
+      sound = λ other is. by other (of_inserted old.tuples tuple other
+          (from_contains _ other (subst (λ l. Contains l other) after is)));
+      complete = λ opened other is. placed other
+          (subst (Contains (insert_key (slice_cmp value_cmp) old.tuples tuple)) (only other is)
+          (to_contains _ tuple (in_inserted old.tuples tuple)));
       full = λ closed. tells.0 closed;
     }
   where
@@ -92,14 +100,16 @@ adds_one P old new tuple is_full bound after tells meant only =
 -- ---- one candidate after another
 
 -- the tuple is the head of a solution that begins with the tuple at this place
-pub record IsHeadAt (instance : List (List (List Value))) (tests : List Test) (head : List ℕ) (atom : Atom) (rest : List Atom) (b : List (Option Value)) (ent : EntId)
+pub record IsHeadAt (instance : List (List (List Value))) (tests : List Test) (head : List ℕ) (atom : Atom)
+    (rest : List Atom) (b : List (Option Value)) (ent : EntId)
     (tuple : List Value) : Type 0 where
   pub next : List (Option Value)
   pub fits : Some next ≡ option_and_then (λ t. fit b atom.terms t) (slice_get (tuples_of instance atom) ent.0)
   pub head_below : IsHeadOfSome instance tests head rest next tuple
 
 -- at one of these places
-pub record IsHeadBelow (instance : List (List (List Value))) (tests : List Test) (head : List ℕ) (atom : Atom) (rest : List Atom) (b : List (Option Value)) (ents : List EntId)
+pub record IsHeadBelow (instance : List (List (List Value))) (tests : List Test) (head : List ℕ) (atom : Atom)
+    (rest : List Atom) (b : List (Option Value)) (ents : List EntId)
     (tuple : List Value) : Type 0 where
   pub ent : EntId
   pub is_ent : Contains ents ent
@@ -136,7 +146,8 @@ none_below g tuple is = from_contains [] is.ent is.is_ent
 none_at : (g : Going) (ent : EntId) (tuple : List Value) → None ≡ fit_at g ent → HeadAt g ent tuple → ⊥
 none_at g ent tuple none is = none-some is.next (none ∙ sym is.fits)
 
-after_at : (g : Going) (ent : EntId) (next : List (Option Value)) (tuple : List Value) → Some next ≡ fit_at g ent → HeadAt g ent tuple → HeadAfter g next tuple
+after_at : (g : Going) (ent : EntId) (next : List (Option Value)) (tuple : List Value) → Some next ≡ fit_at g ent
+    → HeadAt g ent tuple → HeadAfter g next tuple
 after_at g ent next tuple own is =
     let same : is.next ≡ next = same_Some is.next next (is.fits ∙ sym own) in
     subst (λ d. HeadAfter g d tuple) same is.head_below
@@ -144,10 +155,12 @@ after_at g ent next tuple own is =
 more_below : (g : Going) (ents more : List EntId) (tuple : List Value) → HeadBelow g ents tuple → HeadBelow g (ents ++ more) tuple
 more_below g ents more tuple is = record { ent = is.ent; is_ent = Contains-append_left ents more is.ent is.is_ent; at = is.at }
 
-last_below : (g : Going) (ents : List EntId) (last : EntId) (tuple : List Value) → HeadAt g last tuple → HeadBelow g (ents ++ last ∷ []) tuple
+last_below : (g : Going) (ents : List EntId) (last : EntId) (tuple : List Value) → HeadAt g last tuple → HeadBelow g
+    (ents ++ last ∷ []) tuple
 last_below g ents last tuple is = record { ent = last; is_ent = Contains-push ents last; at = is }
 
-of_below : (g : Going) (ents : List EntId) (last : EntId) (tuple : List Value) → HeadBelow g (ents ++ last ∷ []) tuple → HeadBelow g ents tuple ⊎ HeadAt g last tuple
+of_below : (g : Going) (ents : List EntId) (last : EntId) (tuple : List Value) → HeadBelow g (ents ++ last ∷ [])
+    tuple → HeadBelow g ents tuple ⊎ HeadAt g last tuple
 of_below g ents last tuple is = by (Contains-push_cases ents last is.ent is.is_ent)
   where
     by : Contains ents is.ent ⊎ (last ≡ is.ent) → HeadBelow g ents tuple ⊎ HeadAt g last tuple
@@ -155,11 +168,13 @@ of_below g ents last tuple is = by (Contains-push_cases ents last is.ent is.is_e
     by (inr same) = inr (subst (λ e. HeadAt g e tuple) (sym same) is.at)
 
 -- a candidate that the atom does not fit
-pub step_none : (g : Going) (ents now : List EntId) (last : EntId) (old new : Bounded) → now ≡ ents ++ last ∷ [] → None ≡ fit_at g last → Adds (HeadBelow g ents) old new false
+pub step_none : (g : Going) (ents now : List EntId) (last : EntId) (old new : Bounded) → now ≡ ents ++ last ∷ []
+    → None ≡ fit_at g last → Adds (HeadBelow g ents) old new false
     → Adds (HeadBelow g now) old new false
 step_none g ents now last old new is none adds =
     subst (λ l. Adds (HeadBelow g l) old new false) (sym is)
-    (adds_same (HeadBelow g ents) (HeadBelow g (ents ++ last ∷ [])) old new false adds (λ tuple. more_below g ents (last ∷ []) tuple)
+    (adds_same (HeadBelow g ents) (HeadBelow g (ents ++ last ∷ [])) old new false adds
+    (λ tuple. more_below g ents (last ∷ []) tuple)
     (λ opened tuple there. by tuple (of_below g ents last tuple there)))
   where
     by : (tuple : List Value) → HeadBelow g ents tuple ⊎ HeadAt g last tuple → HeadBelow g ents tuple
@@ -167,11 +182,14 @@ step_none g ents now last old new is none adds =
     by tuple (inr here) = absurd (none_at g last tuple none here)
 
 -- one that it fits, from which all is collected
-pub step_some : (g : Going) (ents now : List EntId) (last : EntId) (next : List (Option Value)) (old mid new : Bounded) (is_full : Bool) → now ≡ ents ++ last ∷ [] → Some next ≡ fit_at g last
-    → is_full ≡ false → Adds (HeadBelow g ents) old mid false → Adds (HeadAfter g next) mid new is_full → Adds (HeadBelow g now) old new false
+pub step_some : (g : Going) (ents now : List EntId) (last : EntId) (next : List (Option Value))
+    (old mid new : Bounded) (is_full : Bool) → now ≡ ents ++ last ∷ [] → Some next ≡ fit_at g last
+    → is_full ≡ false → Adds (HeadBelow g ents) old mid false → Adds (HeadAfter g next) mid new is_full
+    → Adds (HeadBelow g now) old new false
 step_some g ents now last next old mid new is_full is own opened adds rest =
     subst (λ l. Adds (HeadBelow g l) old new false) (sym is)
-    (adds_also (HeadBelow g ents) (HeadAfter g next) (HeadBelow g (ents ++ last ∷ [])) old mid new false adds (subst (Adds (HeadAfter g next) mid new) opened rest) to
+    (adds_also (HeadBelow g ents) (HeadAfter g next) (HeadBelow g (ents ++ last ∷ [])) old mid new false adds
+    (subst (Adds (HeadAfter g next) mid new) opened rest) to
     (λ _ tuple there. from tuple (of_below g ents last tuple there)))
   where
     to : (tuple : List Value) → HeadBelow g ents tuple ⊎ HeadAfter g next tuple → HeadBelow g (ents ++ last ∷ []) tuple
@@ -192,10 +210,13 @@ at_head g ent tuple steps is =
     }
 
 -- too many were found
-pub stopped : (g : Going) (ents : List EntId) (last : EntId) (next : List (Option Value)) (old mid new : Bounded) (is_full : Bool) → g.steps ≡ g.atom ∷ g.rest → Some next ≡ fit_at g last
-    → is_full ≡ true → Adds (HeadBelow g ents) old mid false → Adds (HeadAfter g next) mid new is_full → Adds (HeadOf g) old new true
+pub stopped : (g : Going) (ents : List EntId) (last : EntId) (next : List (Option Value)) (old mid new : Bounded)
+    (is_full : Bool) → g.steps ≡ g.atom ∷ g.rest → Some next ≡ fit_at g last
+    → is_full ≡ true → Adds (HeadBelow g ents) old mid false → Adds (HeadAfter g next) mid new is_full
+    → Adds (HeadOf g) old new true
 stopped g ents last next old mid new is_full steps own closed adds rest =
-    adds_also (HeadBelow g ents) (HeadAfter g next) (HeadOf g) old mid new true adds (subst (Adds (HeadAfter g next) mid new) closed rest) to
+    adds_also (HeadBelow g ents) (HeadAfter g next) (HeadOf g) old mid new true adds
+    (subst (Adds (HeadAfter g next) mid new) closed rest) to
     (λ opened. absurd (false≢true (sym opened)))
   where
     to : (tuple : List Value) → HeadBelow g ents tuple ⊎ HeadAfter g next tuple → HeadOf g tuple
@@ -203,24 +224,36 @@ stopped g ents last next old mid new is_full steps own closed adds rest =
     to tuple (inr here) = at_head g last tuple steps record { next = next; fits = own; head_below = here }
 
 -- all candidates were tried
-pub all_tried : (g : Going) (ents now : List EntId) (old new : Bounded) → g.steps ≡ g.atom ∷ g.rest → now ≡ ents → AreCandidates (tuples_of g.instance g.atom) g.atom.terms g.b ents
+pub all_tried : (g : Going) (ents now : List EntId) (old new : Bounded) → g.steps ≡ g.atom ∷ g.rest → now ≡ ents
+    → AreCandidates (tuples_of g.instance g.atom) g.atom.terms g.b ents
     → Adds (HeadBelow g now) old new false → Adds (HeadOf g) old new false
 all_tried g ents now old new steps same are adds =
     adds_same (HeadBelow g ents) (HeadOf g) old new false (subst (λ l. Adds (HeadBelow g l) old new false) same adds)
-    (λ tuple is. at_head g is.ent tuple steps is.at) (λ opened tuple is. begin tuple is.values (subst (λ l. IsSolution g.instance g.tests l g.b is.values) steps is.solution) is.is_head)
+    (λ tuple is. at_head g is.ent tuple steps is.at) (λ opened tuple is. begin tuple is.values
+    (subst (λ l. IsSolution g.instance g.tests l g.b is.values) steps is.solution) is.is_head)
   where
-    begin : (tuple : List Value) (c : List (Option Value)) → IsSolution g.instance g.tests (g.atom ∷ g.rest) g.b c → head_at c g.head ≡ Some tuple → HeadBelow g ents tuple
+    begin : (tuple : List Value) (c : List (Option Value)) → IsSolution g.instance g.tests (g.atom ∷ g.rest) g.b c
+        → head_at c g.head ≡ Some tuple → HeadBelow g ents tuple
     begin tuple c solution is =
         let own = solution.reached.1 in
         let ent : EntId = record { 0 = own.place } in
-        let fits : fit_at g ent ≡ Some solution.reached.0 = ap (option_and_then (λ t. fit g.b g.atom.terms t)) own.is_tuple ∙ own.fits in
+        let fits : fit_at g ent ≡ Some solution.reached.0 = ap (option_and_then (λ t. fit g.b g.atom.terms t))
+        own.is_tuple ∙ own.fits in
         record {
           ent = ent;
           is_ent = are own.place own.tuple solution.reached.0 own.is_tuple own.fits;
           at = record {
             next = solution.reached.0;
             fits = sym fits;
-            head_below = record { values = c; solution = record { reached = solution.reached.2; passed = solution.passed }; is_head = is };
+            head_below = record {
+              values = c;
+              solution = record {
+                reached = solution.reached.2;
+                passed =
+                    solution.passed;
+              };
+              is_head = is;
+            };
           };
         }
 
@@ -229,5 +262,6 @@ pub none_left : (g : Going) (old : Bounded) → g.steps ≡ [] → None ≡ head
 none_left g old none lacks =
     adds_none (HeadOf g) old
     (λ tuple is.
-    let last : IsSolution g.instance g.tests [] g.b is.values = subst (λ l. IsSolution g.instance g.tests l g.b is.values) none is.solution in
+    let last : IsSolution g.instance g.tests [] g.b is.values =
+    subst (λ l. IsSolution g.instance g.tests l g.b is.values) none is.solution in
     none-some tuple (lacks ∙ ap (λ d. head_at d g.head) last.reached ∙ is.is_head))

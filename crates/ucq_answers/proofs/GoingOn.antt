@@ -41,7 +41,11 @@ pub extends_same : (b : List (Option Value)) → Extends b b
 extends_same b = record { as_many = refl; kept = λ v x is. is }
 
 pub extends_on : (b c d : List (Option Value)) → Extends b c → Extends c d → Extends b d
-extends_on b c d first rest = record { as_many = first.as_many ∙ rest.as_many; kept = λ v x is. rest.kept v x (first.kept v x is) }
+extends_on b c d first rest = record {
+  as_many = first.as_many ∙ rest.as_many;
+  kept = λ v x is. rest.kept v x
+      (first.kept v x is);
+}
 
 -- a term fits a value where its variable has it
 abbrev pub IsFitted : List (Option Value) → Term → Value → Type 0
@@ -59,8 +63,13 @@ pub record AreFitted (b : List (Option Value)) (terms : List Term) (tuple : List
   pub as_many : length terms ≡ length tuple
   pub each : (k : ℕ) (t : Term) (x : Value) → slice_get terms k ≡ Some t → slice_get tuple k ≡ Some x → IsFitted b t x
 
-pub all_on : (b c : List (Option Value)) (terms : List Term) (tuple : List Value) → Extends b c → AreFitted b terms tuple → AreFitted c terms tuple
-all_on b c terms tuple on are = record { as_many = are.as_many; each = λ k t x at is. fitted_on b c t x on (are.each k t x at is) }
+pub all_on : (b c : List (Option Value)) (terms : List Term) (tuple : List Value) → Extends b c
+    → AreFitted b terms tuple → AreFitted c terms tuple
+all_on b c terms tuple on are = record {
+  as_many = are.as_many;
+  each = λ k t x at is. fitted_on b c t x on
+      (are.each k t x at is);
+}
 
 -- ---- one variable
 
@@ -71,7 +80,8 @@ pub record IsBound (b c : List (Option Value)) (v : ℕ) (x : Value) : Type 0 wh
 pub bound_one : (b : List (Option Value)) (v : ℕ) (x : Value) (c : List (Option Value)) → bind b v x ≡ Some c → IsBound b c v x
 bound_one b v x c is = by (slice_get b v) refl is
   where
-    keeps : (w : ℕ) (y : Value) → slice_get b w ≡ Some (Some y) → ((eqb w v ≡ true) × (w ≡ v)) ⊎ ((eqb w v ≡ false) × (w ≢ v)) → slice_get b v ≡ Some None → set b v (Some x) ≡ c
+    keeps : (w : ℕ) (y : Value) → slice_get b w ≡ Some (Some y) → ((eqb w v ≡ true) × (w ≡ v)) ⊎
+        ((eqb w v ≡ false) × (w ≢ v)) → slice_get b v ≡ Some None → set b v (Some x) ≡ c
         → slice_get c w ≡ Some (Some y)
     keeps w y own (inl at) free same = let there : slice_get b w ≡ Some None = ap (λ n. slice_get b n) at.1 ∙ free in cc
     keeps w y own (inr other) free same = ap (λ l. slice_get l w) (sym same) ∙ get_set_other b v w (Some x) other.1 ∙ own
@@ -81,7 +91,11 @@ bound_one b v x c is = by (slice_get b v) refl is
         let below = slice_get_within b v None free in
         let has : slice_get c v ≡ Some (Some x) = ap (λ l. slice_get l v) (sym same) ∙ get_set_same b v (Some x) below in
         record {
-          extends = record { as_many = sym (length-set b v (Some x)) ∙ ap (λ l. length l) same; kept = λ w y own. keeps w y own (eqb_tells w v) free same };
+          extends = record {
+            as_many = sym (length-set b v (Some x)) ∙ ap (λ l. length l) same;
+            kept =
+                λ w y own. keeps w y own (eqb_tells w v) free same;
+          };
           has = has;
         }
 
@@ -99,14 +113,17 @@ pub record CanBind (o : Option (List (Option Value))) (d : List (Option Value)) 
   pub is : o ≡ Some next
   pub extends : Extends next d
 
-pub can_bind : (b d : List (Option Value)) (v : ℕ) (x : Value) → Extends b d → slice_get d v ≡ Some (Some x) → CanBind (bind b v x) d
+pub can_bind : (b d : List (Option Value)) (v : ℕ) (x : Value) → Extends b d → slice_get d v ≡ Some (Some x)
+    → CanBind (bind b v x) d
 can_bind b d v x on has = by (slice_get b v) refl
   where
     below : v < length b
     below = let inside = slice_get_within d v (Some x) has in let same = on.as_many in omega arith
 
-    keeps : (w : ℕ) (y : Value) → slice_get (set b v (Some x)) w ≡ Some (Some y) → ((eqb w v ≡ true) × (w ≡ v)) ⊎ ((eqb w v ≡ false) × (w ≢ v)) → slice_get d w ≡ Some (Some y)
-    keeps w y own (inl at) = ap (λ n. slice_get d n) at.1 ∙ has ∙ sym (get_set_same b v (Some x) below) ∙ ap (λ n. slice_get (set b v (Some x)) n) (sym at.1) ∙ own
+    keeps : (w : ℕ) (y : Value) → slice_get (set b v (Some x)) w ≡ Some (Some y) → ((eqb w v ≡ true) × (w ≡ v)) ⊎
+        ((eqb w v ≡ false) × (w ≢ v)) → slice_get d w ≡ Some (Some y)
+    keeps w y own (inl at) = ap (λ n. slice_get d n) at.1 ∙ has ∙ sym (get_set_same b v (Some x) below)
+        ∙ ap (λ n. slice_get (set b v (Some x)) n) (sym at.1) ∙ own
     keeps w y own (inr other) = on.kept w y (sym (get_set_other b v w (Some x) other.1) ∙ own)
 
     by : (o : Option (Option Value)) → slice_get b v ≡ o → CanBind (given o b v x) d
@@ -129,9 +146,11 @@ pub record TermFits (b c : List (Option Value)) (t : Term) (x : Value) : Type 0 
   pub extends : Extends b c
   pub fitted : IsFitted c t x
 
-term_fits : (b : List (Option Value)) (t : Term) (x : Value) (c : List (Option Value)) → fit_term b t x ≡ Some c → TermFits b c t x
+term_fits : (b : List (Option Value)) (t : Term) (x : Value) (c : List (Option Value)) → fit_term b t x ≡ Some c
+    → TermFits b c t x
 term_fits b (term.Var v) x c is = let bound = bound_one b v x c is in record { extends = bound.extends; fitted = bound.has }
-term_fits b term.Any x c is = subst (λ d. TermFits b d term.Any x) (same_Some b c is) record { extends = extends_same b; fitted = tt }
+term_fits b term.Any x c is = subst (λ d. TermFits b d term.Any x) (same_Some b c is)
+    record { extends = extends_same b; fitted = tt }
 term_fits b (term.Constant k) x c is =
     let both = cond_some (value_test Eq k x) b c is in
     subst (λ d. TermFits b d (term.Constant k) x) both.1 record { extends = extends_same b; fitted = tested_same k x both.0 }
@@ -149,7 +168,8 @@ pub record Fitted (b c : List (Option Value)) (terms : List Term) (tuple : List 
   pub extends : Extends b c
   pub fitted : AreFitted c terms tuple
 
-fitted_more : (b d c : List (Option Value)) (t : Term) (ts : List Term) (x : Value) (xs : List Value) → TermFits b d t x → Fitted d c ts xs → Fitted b c (t ∷ ts) (x ∷ xs)
+fitted_more : (b d c : List (Option Value)) (t : Term) (ts : List Term) (x : Value) (xs : List Value)
+    → TermFits b d t x → Fitted d c ts xs → Fitted b c (t ∷ ts) (x ∷ xs)
 fitted_more b d c t ts x xs first rest =
     record {
       extends = extends_on b d c first.extends rest.extends;
@@ -162,17 +182,20 @@ fitted_more b d c t ts x xs first rest =
         subst (λ w. IsFitted c w y) (same_Some t u is) (subst (λ w. IsFitted c t w) (same_Some x y own) here)
     at (suc k) u y is own = rest.fitted.each k u y is own
 
-pub all_fitted : (b : List (Option Value)) (terms : List Term) (tuple : List Value) (c : List (Option Value)) → fit b terms tuple ≡ Some c → Fitted b c terms tuple
+pub all_fitted : (b : List (Option Value)) (terms : List Term) (tuple : List Value) (c : List (Option Value))
+    → fit b terms tuple ≡ Some c → Fitted b c terms tuple
 all_fitted b [] [] c is =
     subst (λ d. Fitted b d [] []) (same_Some b c is)
     record { extends = extends_same b; fitted = record { as_many = refl; each = λ k t x at own. absurd (none-some t at) } }
 all_fitted b [] (x ∷ xs) c is = absurd (none-some c is)
 all_fitted b (t ∷ ts) [] c is = absurd (none-some c is)
 all_fitted b (t ∷ ts) (x ∷ xs) c is =
-    option_and_then_some (λ d. fit d ts xs) (fit_term b t x) c is (λ d first rest. fitted_more b d c t ts x xs (term_fits b t x d first) (all_fitted d ts xs c rest))
+    option_and_then_some (λ d. fit d ts xs) (fit_term b t x) c is (λ d first rest. fitted_more b d c t ts x xs
+    (term_fits b t x d first) (all_fitted d ts xs c rest))
 
 -- terms that fit in values to which these go on can be fitted
-pub can_fit : (b d : List (Option Value)) (terms : List Term) (tuple : List Value) → Extends b d → AreFitted d terms tuple → CanBind (fit b terms tuple) d
+pub can_fit : (b d : List (Option Value)) (terms : List Term) (tuple : List Value) → Extends b d
+    → AreFitted d terms tuple → CanBind (fit b terms tuple) d
 can_fit b d [] [] on are = record { next = b; is = refl; extends = on }
 can_fit b d [] (x ∷ xs) on are = absurd (omega (arith, are.as_many))
 can_fit b d (t ∷ ts) [] on are = absurd (omega (arith, are.as_many))
@@ -192,20 +215,24 @@ value_is b v x is = by (slice_get b v) is
     by None at = absurd (none-some x at)
     by (Some own) at = ap (λ u. Some u) at
 
-asked_same : (b c : List (Option Value)) (t : Term) (x value : Value) → Extends b c → asked_by b t ≡ Some value → IsFitted c t x → x ≡ value
+asked_same : (b c : List (Option Value)) (t : Term) (x value : Value) → Extends b c → asked_by b t ≡ Some value
+    → IsFitted c t x → x ≡ value
 asked_same b c (term.Var v) x value on asked fits = let own = on.kept v value (value_is b v value asked) in cc
 asked_same b c term.Any x value on asked fits = absurd (none-some value asked)
 asked_same b c (term.Constant k) x value on asked fits = sym fits ∙ same_Some k value asked
 
 -- a tuple that terms fit has the values that they ask for
-pub asked_has : (b c : List (Option Value)) (terms : List Term) (tuple : List Value) (place : ℕ) (value : Value) → asked_at b terms place ≡ Some value → fit b terms tuple ≡ Some c
+pub asked_has : (b c : List (Option Value)) (terms : List Term) (tuple : List Value) (place : ℕ) (value : Value)
+    → asked_at b terms place ≡ Some value → fit b terms tuple ≡ Some c
     → slice_get tuple place ≡ Some value
-asked_has b c terms tuple place value asked fits = option_and_then_some (asked_by b) (slice_get terms place) value asked (λ t at own. has t at own)
+asked_has b c terms tuple place value asked fits = option_and_then_some (asked_by b) (slice_get terms place) value
+    asked (λ t at own. has t at own)
   where
     are : Fitted b c terms tuple
     are = all_fitted b terms tuple c fits
 
-    from : (t : Term) → slice_get terms place ≡ Some t → asked_by b t ≡ Some value → (o : Option Value) → slice_get tuple place ≡ o → o ≡ Some value
+    from : (t : Term) → slice_get terms place ≡ Some t → asked_by b t ≡ Some value → (o : Option Value)
+        → slice_get tuple place ≡ o → o ≡ Some value
     from t at own None none =
         let inside = slice_get_within terms place t at in
         let same = are.fitted.as_many in

@@ -6,7 +6,8 @@ use Rattle.std.proofs.lemmas.List.Elements.{Contains-append_left, Contains-push}
 use Rattle.currency_base.specs.declared.ids.EntId.{EntId}
 
 -- one place more
-pub listed_more : (ents now : List EntId) (i at : ℕ) → at ≡ i → now ≡ ents ++ record { 0 = at } ∷ [] → ((k : ℕ) → k < i → Contains ents record { 0 = k })
+pub listed_more : (ents now : List EntId) (i at : ℕ) → at ≡ i → now ≡ ents ++ record { 0 = at } ∷ [] →
+    ((k : ℕ) → k < i → Contains ents record { 0 = k })
     → (k : ℕ) → k < i + 1 → Contains now record { 0 = k }
 listed_more ents now i at same after before k below = subst (λ l. Contains l record { 0 = k }) (sym after) (by (cases_lt k i))
   where

@@ -26,23 +26,28 @@ use Rattle.ucq_answers.proofs.Zipped.{zip_both, zip_length}
 
 -- the atom does not fit the tuple at this place
 abbrev pub NoFit : List (List (List Value)) → Atom → List (Option Value) → EntId → Type 0
-NoFit instance atom b ent = (c : List (Option Value)) → option_and_then (λ tuple. fit b atom.terms tuple) (slice_get (tuples_of instance atom) ent.0) ≡ Some c → ⊥
+NoFit instance atom b ent = (c : List (Option Value)) → option_and_then (λ tuple. fit b atom.terms tuple)
+    (slice_get (tuples_of instance atom) ent.0) ≡ Some c → ⊥
 
-pub fits_none : (instance : List (List (List Value))) (atom : Atom) (b : List (Option Value)) (ents : List EntId) → AreCandidates (tuples_of instance atom) atom.terms b ents
+pub fits_none : (instance : List (List (List Value))) (atom : Atom) (b : List (Option Value)) (ents : List EntId)
+    → AreCandidates (tuples_of instance atom) atom.terms b ents
     → All (NoFit instance atom b) ents → (c : List (Option Value)) → IsFit (tuples_of instance atom) atom.terms b c → ⊥
 fits_none instance atom b ents are none c is =
     let ent : EntId = record { 0 = is.place } in
-    All-contains (NoFit instance atom b) ents ent none (are is.place is.tuple c is.is_tuple is.fits) c (ap (option_and_then (λ tuple. fit b atom.terms tuple)) is.is_tuple ∙ is.fits)
+    All-contains (NoFit instance atom b) ents ent none (are is.place is.tuple c is.is_tuple is.fits) c
+    (ap (option_and_then (λ tuple. fit b atom.terms tuple)) is.is_tuple ∙ is.fits)
 
 pub fits_some : (instance : List (List (List Value))) (atom : Atom) (b next : List (Option Value)) (ent : EntId)
-    → option_and_then (λ tuple. fit b atom.terms tuple) (slice_get (tuples_of instance atom) ent.0) ≡ Some next → FitsAt instance b atom ent
+    → option_and_then (λ tuple. fit b atom.terms tuple) (slice_get (tuples_of instance atom) ent.0) ≡ Some next
+    → FitsAt instance b atom ent
 fits_some instance atom b next ent is =
     option_and_then_some (λ tuple. fit b atom.terms tuple) (slice_get (tuples_of instance atom) ent.0) next is
     (λ tuple at fits. record { tuple = tuple; next = next; is_tuple = at; fits = fits })
 
 -- ---- answers by a disjunct
 
-pub answer_from : (instance : List (List (List Value))) (d : Disjunct) (atoms : List Atom) (tuple : List Value) → IsDisjunct d → IsPermutation d.atoms atoms
+pub answer_from : (instance : List (List (List Value))) (d : Disjunct) (atoms : List Atom) (tuple : List Value)
+    → IsDisjunct d → IsPermutation d.atoms atoms
     → IsHeadOfSome instance d.tests d.head atoms (replicate d.vars None) tuple → IsAnswerBy instance d tuple
 answer_from instance d atoms tuple fits permuted some =
     let met = solution_met instance d atoms (replicate d.vars None) some.values fits permuted (many_none d.vars) some.solution in
@@ -55,38 +60,48 @@ answer_from instance d atoms tuple fits permuted some =
 from_nothing : (d : Disjunct) (values : List Value) → length values ≡ d.vars → Extends (replicate d.vars None) (full values)
 from_nothing d values many = nothing_extends d.vars (full values) (length-map values (λ x. Some x) ∙ many)
 
-pub answer_to : (instance : List (List (List Value))) (d : Disjunct) (atoms : List Atom) (tuple : List Value) → IsDisjunct d → IsPermutation d.atoms atoms
+pub answer_to : (instance : List (List (List Value))) (d : Disjunct) (atoms : List Atom) (tuple : List Value)
+    → IsDisjunct d → IsPermutation d.atoms atoms
     → IsAnswerBy instance d tuple → IsHeadOfSome instance d.tests d.head atoms (replicate d.vars None) tuple
 answer_to instance d atoms tuple fits permuted is =
     record {
       values = full is.values;
-      solution = met_solution instance d atoms (replicate d.vars None) is.values fits permuted (from_nothing d is.values is.meets.per_var) is.meets;
+      solution = met_solution instance d atoms (replicate d.vars None) is.values fits permuted
+          (from_nothing d is.values is.meets.per_var) is.meets;
       is_head = head_full is.values d.head tuple is.is_head;
     }
 
 -- all heads of solutions are added, which are the answers by a disjunct
-pub adds_answers : (instance : List (List (List Value))) (d : Disjunct) (tests : List Test) (head : List ℕ) (atoms : List Atom) (b : List (Option Value)) (old new : Bounded) (is_full : Bool)
-    → tests ≡ d.tests → head ≡ d.head → b ≡ replicate d.vars None → IsDisjunct d → IsPermutation d.atoms atoms → Adds (IsHeadOfSome instance tests head atoms b) old new is_full
+pub adds_answers : (instance : List (List (List Value))) (d : Disjunct) (tests : List Test) (head : List ℕ)
+    (atoms : List Atom) (b : List (Option Value)) (old new : Bounded) (is_full : Bool)
+    → tests ≡ d.tests → head ≡ d.head → b ≡ replicate d.vars None → IsDisjunct d → IsPermutation d.atoms atoms
+    → Adds (IsHeadOfSome instance tests head atoms b) old new is_full
     → Adds (IsAnswerBy instance d) old new is_full
 adds_answers instance d tests head atoms b old new is_full is_tests is_head is_b fits permuted adds =
     adds_same (IsHeadOfSome instance d.tests d.head atoms (replicate d.vars None)) (IsAnswerBy instance d) old new is_full
     (subst (λ u. Adds (IsHeadOfSome instance d.tests d.head atoms u) old new is_full) is_b
-    (subst (λ u. Adds (IsHeadOfSome instance d.tests u atoms b) old new is_full) is_head (subst (λ u. Adds (IsHeadOfSome instance u head atoms b) old new is_full) is_tests adds)))
-    (λ tuple is. answer_from instance d atoms tuple fits permuted is) (λ opened tuple is. answer_to instance d atoms tuple fits permuted is)
+    (subst (λ u. Adds (IsHeadOfSome instance d.tests u atoms b) old new is_full) is_head
+    (subst (λ u. Adds (IsHeadOfSome instance u head atoms b) old new is_full) is_tests adds)))
+    (λ tuple is. answer_from instance d atoms tuple fits permuted is)
+    (λ opened tuple is. answer_to instance d atoms tuple fits permuted is)
 
 -- ---- values of the head's variables
 
-as_fit : (b : List (Option Value)) (head : List ℕ) (tuple : List Value) → bind_all b head tuple ≡ fit b (map (λ v. Var v) head) tuple
+as_fit : (b : List (Option Value)) (head : List ℕ) (tuple : List Value) → bind_all b head tuple ≡ fit b
+    (map (λ v. Var v) head) tuple
 as_fit b [] [] = refl
 as_fit b [] (x ∷ tuple) = refl
 as_fit b (v ∷ head) [] = refl
-as_fit b (v ∷ head) (x ∷ tuple) = and_same (bind b v x) (λ c. bind_all c head tuple) (λ c. fit c (map (λ w. Var w) head) tuple) (λ c. as_fit c head tuple)
+as_fit b (v ∷ head) (x ∷ tuple) = and_same (bind b v x) (λ c. bind_all c head tuple)
+    (λ c. fit c (map (λ w. Var w) head) tuple) (λ c. as_fit c head tuple)
   where
-    and_same : {A B : Type 0} (o : Option A) (f g : A → Option B) → ((a : A) → f a ≡ g a) → option_and_then f o ≡ option_and_then g o
+    and_same : {A B : Type 0} (o : Option A) (f g : A → Option B) → ((a : A) → f a ≡ g a) → option_and_then f o ≡
+        option_and_then g o
     and_same None f g same = refl
     and_same (Some a) f g same = same a
 
-head_fitted : (values : List Value) (head : List ℕ) (tuple : List Value) → IsHead values head tuple → AreFitted (full values) (map (λ v. Var v) head) tuple
+head_fitted : (values : List Value) (head : List ℕ) (tuple : List Value) → IsHead values head tuple
+    → AreFitted (full values) (map (λ v. Var v) head) tuple
 head_fitted values [] [] is = record { as_many = refl; each = λ k t x at own. absurd (none-some t at) }
 head_fitted values [] (x ∷ tuple) is = cc
 head_fitted values (v ∷ head) [] is = cc
@@ -96,50 +111,62 @@ head_fitted values (v ∷ head) (x ∷ tuple) is =
     let rest = head_fitted values head tuple others in
     record { as_many = ap (λ n. suc n) rest.as_many; each = λ k t y at own. each first rest k t y at own }
   where
-    each : slice_get values v ≡ Some x → AreFitted (full values) (map (λ w. Var w) head) tuple → (k : ℕ) (t : Term) (y : Value) → slice_get (Var v ∷ map (λ w. Var w) head) k ≡ Some t
+    each : slice_get values v ≡ Some x → AreFitted (full values) (map (λ w. Var w) head) tuple → (k : ℕ) (t : Term)
+        (y : Value) → slice_get (Var v ∷ map (λ w. Var w) head) k ≡ Some t
         → slice_get (x ∷ tuple) k ≡ Some y → IsFitted (full values) t y
     each first rest zero t y at own =
-        subst (λ u. IsFitted (full values) u y) (same_Some (Var v) t at) (subst (λ u. IsFitted (full values) (Var v) u) (same_Some x y own) (get_full values v x first))
+        subst (λ u. IsFitted (full values) u y) (same_Some (Var v) t at)
+        (subst (λ u. IsFitted (full values) (Var v) u) (same_Some x y own) (get_full values v x first))
     each first rest (suc k) t y at own = rest.each k t y at own
 
-fitted_head : (values : List Value) (head : List ℕ) (tuple : List Value) → AreFitted (full values) (map (λ v. Var v) head) tuple → IsHead values head tuple
+fitted_head : (values : List Value) (head : List ℕ) (tuple : List Value) → AreFitted (full values)
+    (map (λ v. Var v) head) tuple → IsHead values head tuple
 fitted_head values [] [] are = refl
 fitted_head values [] (x ∷ tuple) are = absurd (omega (arith, are.as_many))
 fitted_head values (v ∷ head) [] are = absurd (omega (arith, are.as_many))
 fitted_head values (v ∷ head) (x ∷ tuple) are =
     let first : slice_get values v ≡ Some x = full_get values v x (are.each 0 (Var v) x refl refl) in
     let same : length (map (λ w. Var w) head) ≡ length tuple = omega (arith, are.as_many) in
-    let rest : AreFitted (full values) (map (λ w. Var w) head) tuple = record { as_many = same; each = λ k t y at own. are.each (suc k) t y at own } in
+    let rest : AreFitted (full values) (map (λ w. Var w) head) tuple =
+    record { as_many = same; each = λ k t y at own. are.each (suc k) t y at own } in
     ap (λ o. o ∷ map (λ w. slice_get values w) head) first ∙ ap (λ l. Some x ∷ l) (fitted_head values head tuple rest)
 
 -- an answer's values go on from those of the head
-answer_goes_on : (d : Disjunct) (tuple values : List Value) → length values ≡ d.vars → IsHead values d.head tuple → CanBind (bind_all (replicate d.vars None) d.head tuple) (full values)
+answer_goes_on : (d : Disjunct) (tuple values : List Value) → length values ≡ d.vars → IsHead values d.head tuple
+    → CanBind (bind_all (replicate d.vars None) d.head tuple) (full values)
 answer_goes_on d tuple values many is =
     subst (λ o. CanBind o (full values)) (sym (as_fit (replicate d.vars None) d.head tuple))
-    (can_fit (replicate d.vars None) (full values) (map (λ v. Var v) d.head) tuple (from_nothing d values many) (head_fitted values d.head tuple is))
+    (can_fit (replicate d.vars None) (full values) (map (λ v. Var v) d.head) tuple (from_nothing d values many)
+    (head_fitted values d.head tuple is))
 
 -- where the head's variables cannot have a tuple's values it is no answer
-pub no_head : (instance : List (List (List Value))) (d : Disjunct) (tuple : List Value) → None ≡ bind_all (replicate d.vars None) d.head tuple → IsAnswerBy instance d tuple → ⊥
+pub no_head : (instance : List (List (List Value))) (d : Disjunct) (tuple : List Value) → None ≡ bind_all
+    (replicate d.vars None) d.head tuple → IsAnswerBy instance d tuple → ⊥
 no_head instance d tuple none is =
     let on = answer_goes_on d tuple is.values is.meets.per_var is.is_head in
     none-some on.next (none ∙ on.is)
 
 -- what is found from the values of the head
-pub met_found : (instance : List (List (List Value))) (d : Disjunct) (tests : List Test) (atoms : List Atom) (b : List (Option Value)) (tuple : List Value) (found : Option (List (Option Value)))
-    → tests ≡ d.tests → IsDisjunct d → IsPermutation d.atoms atoms → bind_all (replicate d.vars None) d.head tuple ≡ Some b → IsFound instance tests atoms b found
+pub met_found : (instance : List (List (List Value))) (d : Disjunct) (tests : List Test) (atoms : List Atom)
+    (b : List (Option Value)) (tuple : List Value) (found : Option (List (Option Value)))
+    → tests ≡ d.tests → IsDisjunct d → IsPermutation d.atoms atoms → bind_all (replicate d.vars None) d.head tuple ≡
+    Some b → IsFound instance tests atoms b found
     → IsMetFound instance d tuple found
 met_found instance d tests atoms b tuple None is_tests fits permuted bound never = λ is.
     let on = answer_goes_on d tuple is.values is.meets.per_var is.is_head in
     let same : on.next ≡ b = same_Some on.next b (sym on.is ∙ bound) in
     let extends : Extends b (full is.values) = subst (λ c. Extends c (full is.values)) same on.extends in
-    never (full is.values) (subst (λ l. IsSolution instance l atoms b (full is.values)) (sym is_tests) (met_solution instance d atoms b is.values fits permuted extends is.meets))
+    never (full is.values) (subst (λ l. IsSolution instance l atoms b (full is.values)) (sym is_tests)
+    (met_solution instance d atoms b is.values fits permuted extends is.meets))
 met_found instance d tests atoms b tuple (Some c) is_tests fits permuted bound solution =
-    let given : fit (replicate d.vars None) (map (λ v. Var v) d.head) tuple ≡ Some b = sym (as_fit (replicate d.vars None) d.head tuple) ∙ bound in
+    let given : fit (replicate d.vars None) (map (λ v. Var v) d.head) tuple ≡ Some b =
+    sym (as_fit (replicate d.vars None) d.head tuple) ∙ bound in
     let own = all_fitted (replicate d.vars None) (map (λ v. Var v) d.head) tuple b given in
     let many : length b ≡ d.vars = sym own.extends.as_many ∙ many_none d.vars in
     let solved : IsSolution instance d.tests atoms b c = subst (λ l. IsSolution instance l atoms b c) is_tests solution in
     let met = solution_met instance d atoms b c fits permuted many solved in
-    let on : AreFitted c (map (λ v. Var v) d.head) tuple = all_on b c (map (λ v. Var v) d.head) tuple (reached_extends instance atoms b c solved.reached) own.fitted in
+    let on : AreFitted c (map (λ v. Var v) d.head) tuple = all_on b c (map (λ v. Var v) d.head) tuple
+    (reached_extends instance atoms b c solved.reached) own.fitted in
     record {
       same = met.same;
       meets = met.meets;
@@ -148,7 +175,8 @@ met_found instance d tests atoms b tuple (Some c) is_tests fits permuted bound s
 
 -- ---- entities
 
-atom_fits : (instance : List (List (List Value))) (values : List Value) (atom : Atom) → AtomHolds instance values atom → IsFit (tuples_of instance atom) atom.terms (full values) (full values)
+atom_fits : (instance : List (List (List Value))) (values : List Value) (atom : Atom) → AtomHolds instance values
+    atom → IsFit (tuples_of instance atom) atom.terms (full values) (full values)
 atom_fits instance values atom holds =
     let are : AreFitted (full values) atom.terms holds.tuple = tuple_fitted values atom.terms holds.tuple holds.fits in
     let on = can_fit (full values) (full values) atom.terms holds.tuple (extends_same (full values)) are in
@@ -160,14 +188,17 @@ atom_fits instance values atom holds =
     record { place = holds.is_there.0; tuple = holds.tuple; is_tuple = at; fits = on.is ∙ ap (λ e. Some e) same }
 
 -- where all atoms hold each fits a tuple
-pub none_unfit : (instance : List (List (List Value))) (d : Disjunct) (tuple : List Value) (c : List (Option Value)) → IsMet instance d tuple c → HasUnfit instance c d.atoms → ⊥
+pub none_unfit : (instance : List (List (List Value))) (d : Disjunct) (tuple : List Value) (c : List (Option Value))
+    → IsMet instance d tuple c → HasUnfit instance c d.atoms → ⊥
 none_unfit instance d tuple c met unfit =
     let values = values_of c in
     let holds = All-contains (AtomHolds instance values) d.atoms unfit.atom met.meets.atoms unfit.is_atom in
     let fits = atom_fits instance values unfit.atom holds in
-    unfit.none (full values) (subst (λ e. IsFit (tuples_of instance unfit.atom) unfit.atom.terms e (full values)) (sym met.same) fits)
+    unfit.none (full values) (subst (λ e. IsFit (tuples_of instance unfit.atom) unfit.atom.terms e (full values))
+    (sym met.same) fits)
 
-pub is_match : (instance : List (List (List Value))) (d : Disjunct) (number : ℕ) (tuple : List Value) (c : List (Option Value)) (m : Match) → m.disjunct ≡ number → m.values ≡ values_of c
+pub is_match : (instance : List (List (List Value))) (d : Disjunct) (number : ℕ) (tuple : List Value)
+    (c : List (Option Value)) (m : Match) → m.disjunct ≡ number → m.values ≡ values_of c
     → IsMet instance d tuple c → AllZip (FitsAt instance c) d.atoms m.entities → IsMatchBy instance d number tuple m
 is_match instance d number tuple c m is_number is_values met zip =
     record {
@@ -175,12 +206,20 @@ is_match instance d number tuple c m is_number is_values met zip =
       meets = subst (Meets instance d) (sym is_values) met.meets;
       is_head = subst (λ v. IsHead v d.head tuple) (sym is_values) met.is_head;
       per_atom = zip_length (FitsAt instance c) d.atoms m.entities zip;
-      atoms = λ k atom ent is_atom is_ent. subst (λ v. AtomMatches instance v atom ent.0) (sym is_values) (matches k atom ent is_atom is_ent);
+      atoms = λ k atom ent is_atom is_ent. subst (λ v. AtomMatches instance v atom ent.0) (sym is_values)
+          (matches k atom ent is_atom is_ent);
     }
   where
-    matches : (k : ℕ) (atom : Atom) (ent : EntId) → slice_get d.atoms k ≡ Some atom → slice_get m.entities k ≡ Some ent → AtomMatches instance (values_of c) atom ent.0
+    matches : (k : ℕ) (atom : Atom) (ent : EntId) → slice_get d.atoms k ≡ Some atom → slice_get m.entities k ≡ Some
+        ent → AtomMatches instance (values_of c) atom ent.0
     matches k atom ent is_atom is_ent =
         let fits : FitsAt instance c atom ent = zip_both (FitsAt instance c) d.atoms m.entities k atom ent zip is_atom is_ent in
         let own = all_fitted c atom.terms fits.tuple fits.next fits.fits in
-        let next : full (values_of c) ≡ fits.next = full_extends (values_of c) fits.next (subst (λ e. Extends e fits.next) met.same own.extends) in
-        record { tuple = fits.tuple; is_tuple = fits.is_tuple; fits = fitted_tuple (values_of c) atom.terms fits.tuple (subst (λ e. AreFitted e atom.terms fits.tuple) (sym next) own.fitted) }
+        let next : full (values_of c) ≡ fits.next = full_extends (values_of c) fits.next
+        (subst (λ e. Extends e fits.next) met.same own.extends) in
+        record {
+          tuple = fits.tuple;
+          is_tuple = fits.is_tuple;
+          fits = fitted_tuple (values_of c) atom.terms
+              fits.tuple (subst (λ e. AreFitted e atom.terms fits.tuple) (sym next) own.fitted);
+        }

@@ -74,11 +74,21 @@ full_fits values (term.Var v) x is = full_get values v x is
 full_fits values term.Any x is = tt
 full_fits values (term.Constant c) x is = is
 
-pub tuple_fitted : (values : List Value) (terms : List Term) (tuple : List Value) → FitsTuple values terms tuple → AreFitted (full values) terms tuple
-tuple_fitted values terms tuple fits = record { as_many = fits.as_many; each = λ k t x at is. fits_full values t x (fits.each k t x at is) }
+pub tuple_fitted : (values : List Value) (terms : List Term) (tuple : List Value) → FitsTuple values terms tuple
+    → AreFitted (full values) terms tuple
+tuple_fitted values terms tuple fits = record {
+  as_many = fits.as_many;
+  each = λ k t x at is. fits_full values t x
+      (fits.each k t x at is);
+}
 
-pub fitted_tuple : (values : List Value) (terms : List Term) (tuple : List Value) → AreFitted (full values) terms tuple → FitsTuple values terms tuple
-fitted_tuple values terms tuple are = record { as_many = are.as_many; each = λ k t x at is. full_fits values t x (are.each k t x at is) }
+pub fitted_tuple : (values : List Value) (terms : List Term) (tuple : List Value) → AreFitted (full values) terms
+    tuple → FitsTuple values terms tuple
+fitted_tuple values terms tuple are = record {
+  as_many = are.as_many;
+  each = λ k t x at is. full_fits values t x
+      (are.each k t x at is);
+}
 
 -- some values that are reached, of those that meet all atoms
 pub record IsReached (instance : List (List (List Value))) (atoms : List Atom) (b d : List (Option Value)) : Type 0 where
@@ -86,7 +96,8 @@ pub record IsReached (instance : List (List (List Value))) (atoms : List Atom) (
   pub reached : Reached instance atoms b values
   pub extends : Extends values d
 
-reach : (instance : List (List (List Value))) (values : List Value) (atoms : List Atom) (b : List (Option Value)) → Extends b (full values) → All (AtomHolds instance values) atoms
+reach : (instance : List (List (List Value))) (values : List Value) (atoms : List Atom) (b : List (Option Value))
+    → Extends b (full values) → All (AtomHolds instance values) atoms
     → IsReached instance atoms b (full values)
 reach instance values [] b on all = record { values = b; reached = refl; extends = on }
 reach instance values (atom ∷ atoms) b on all =
@@ -111,14 +122,21 @@ pub record Held (instance : List (List (List Value))) (c : List (Option Value)) 
   pub fitted : AreFitted c atom.terms tuple
 
 -- each atom holds in what is reached
-pub each_held : (instance : List (List (List Value))) (atoms : List Atom) (b c : List (Option Value)) (atom : Atom) → Reached instance atoms b c → Among atoms atom → Held instance c atom
+pub each_held : (instance : List (List (List Value))) (atoms : List Atom) (b c : List (Option Value)) (atom : Atom)
+    → Reached instance atoms b c → Among atoms atom → Held instance c atom
 each_held instance [] b c atom reached is = absurd is
 each_held instance (first ∷ atoms) b c atom reached (inl same) =
     let next = reached.0 in
     let own = reached.1 in
     let fitted = all_fitted b first.terms own.tuple next own.fits in
     let on = reached_extends instance atoms next c reached.2 in
-    subst (Held instance c) same record { place = own.place; tuple = own.tuple; is_tuple = own.is_tuple; fitted = all_on next c first.terms own.tuple on fitted.fitted }
+    subst (Held instance c) same record {
+      place = own.place;
+      tuple = own.tuple;
+      is_tuple = own.is_tuple;
+      fitted =
+          all_on next c first.terms own.tuple on fitted.fitted;
+    }
 each_held instance (first ∷ atoms) b c atom reached (inr rest) = each_held instance atoms reached.0 c atom reached.2 rest
 
 -- a variable that stands in an atom has a value
@@ -126,7 +144,8 @@ pub record HasValue (c : List (Option Value)) (v : ℕ) : Type 0 where
   pub value : Value
   pub has : slice_get c v ≡ Some (Some value)
 
-held_value : (instance : List (List (List Value))) (c : List (Option Value)) (atom : Atom) (v : ℕ) → Held instance c atom → Contains atom.terms (term.Var v) → HasValue c v
+held_value : (instance : List (List (List Value))) (c : List (Option Value)) (atom : Atom) (v : ℕ)
+    → Held instance c atom → Contains atom.terms (term.Var v) → HasValue c v
 held_value instance c atom v held stands =
     let own : slice_get atom.terms stands.0 ≡ Some (term.Var v) =
     slice_get-get_or atom.terms stands.0 (term.Var v) stands.1 ∙ ap (λ u. Some u) stands.2 in
@@ -135,25 +154,31 @@ held_value instance c atom v held stands =
     let inside : stands.0 < length held.tuple = omega arith in
     by own (slice_get held.tuple stands.0) refl inside
   where
-    by : slice_get atom.terms stands.0 ≡ Some (term.Var v) → (o : Option Value) → slice_get held.tuple stands.0 ≡ o → stands.0 < length held.tuple → HasValue c v
+    by : slice_get atom.terms stands.0 ≡ Some (term.Var v) → (o : Option Value) → slice_get held.tuple stands.0 ≡ o
+        → stands.0 < length held.tuple → HasValue c v
     by own None at inside = absurd (get_none held.tuple stands.0 inside at)
     by own (Some x) at inside = record { value = x; has = held.fitted.each stands.0 (term.Var v) x own at }
 
-pub all_have : (instance : List (List (List Value))) (d : Disjunct) (atoms : List Atom) (b c : List (Option Value)) → IsDisjunct d → IsPermutation d.atoms atoms → Reached instance atoms b c
+pub all_have : (instance : List (List (List Value))) (d : Disjunct) (atoms : List Atom) (b c : List (Option Value))
+    → IsDisjunct d → IsPermutation d.atoms atoms → Reached instance atoms b c
     → (v : ℕ) → v < d.vars → HasValue c v
 all_have instance d atoms b c fits permuted reached v below =
     let stands = fits.each_stands v below in
     let there = Contains-permutation d.atoms atoms stands.atom permuted stands.is_atom in
-    held_value instance c stands.atom v (each_held instance atoms b c stands.atom reached (from_contains atoms stands.atom there)) stands.stands
+    held_value instance c stands.atom v (each_held instance atoms b c stands.atom reached
+    (from_contains atoms stands.atom there)) stands.stands
 
 -- ---- values of all variables
 
 pub is_full : (c : List (Option Value)) → ((v : ℕ) → v < length c → HasValue c v) → c ≡ full (values_of c)
 is_full [] all = refl
-is_full (None ∷ c) all = let here = all 0 (omega arith) in absurd (none-some here.value (same_Some None (Some here.value) here.has))
-is_full (Some x ∷ c) all = ap (λ l. Some x ∷ l) (is_full c (λ v below. let own = all (suc v) (omega arith) in record { value = own.value; has = own.has }))
+is_full (None ∷ c) all = let here = all 0 (omega arith) in absurd
+    (none-some here.value (same_Some None (Some here.value) here.has))
+is_full (Some x ∷ c) all = ap (λ l. Some x ∷ l)
+    (is_full c (λ v below. let own = all (suc v) (omega arith) in record { value = own.value; has = own.has }))
 
-same_lists : {A : Type 0} (xs ys : List A) → length xs ≡ length ys → ((k : ℕ) (a : A) → slice_get xs k ≡ Some a → slice_get ys k ≡ Some a) → xs ≡ ys
+same_lists : {A : Type 0} (xs ys : List A) → length xs ≡ length ys →
+    ((k : ℕ) (a : A) → slice_get xs k ≡ Some a → slice_get ys k ≡ Some a) → xs ≡ ys
 same_lists [] [] same each = refl
 same_lists [] (y ∷ ys) same each = absurd (omega (arith, same))
 same_lists (x ∷ xs) [] same each = absurd (omega (arith, same))
@@ -195,15 +220,18 @@ holds_may None p cmp holds = refl
 holds_may (Some x) None cmp holds = refl
 holds_may (Some x) (Some y) cmp holds = holds
 
-may_holds : (o p : Option Value) (cmp : Cmp) (x y : Value) → o ≡ Some x → p ≡ Some y → may_hold o cmp p ≡ true → is_compared o cmp p ≡ true
+may_holds : (o p : Option Value) (cmp : Cmp) (x y : Value) → o ≡ Some x → p ≡ Some y → may_hold o cmp p ≡ true
+    → is_compared o cmp p ≡ true
 may_holds o p cmp x y is_x is_y holds =
-    ap (λ u. is_compared u cmp p) is_x ∙ ap (λ u. is_compared (Some x) cmp u) is_y ∙ ap (λ u. may_hold (Some x) cmp u) (sym is_y) ∙ ap (λ u. may_hold u cmp p) (sym is_x) ∙ holds
+    ap (λ u. is_compared u cmp p) is_x ∙ ap (λ u. is_compared (Some x) cmp u) is_y
+    ∙ ap (λ u. may_hold (Some x) cmp u) (sym is_y) ∙ ap (λ u. may_hold u cmp p) (sym is_x) ∙ holds
 
 pass_all : (values : List Value) (tests : List Test) → All (TestHolds values) tests → passes (full values) tests ≡ true
 pass_all values [] all = refl
 pass_all values (t ∷ tests) all =
     let here : may_hold (side_of (full values) t.left) t.cmp (side_of (full values) t.right) ≡ true =
-    ap (λ o. may_hold o t.cmp (side_of (full values) t.right)) (side_full values t.left) ∙ ap (λ o. may_hold (value_of values t.left) t.cmp o) (side_full values t.right)
+    ap (λ o. may_hold o t.cmp (side_of (full values) t.right)) (side_full values t.left)
+    ∙ ap (λ o. may_hold (value_of values t.left) t.cmp o) (side_full values t.right)
     ∙ holds_may (value_of values t.left) (value_of values t.right) t.cmp (All-head (TestHolds values) t tests all) in
     ap (λ u. u && passes (full values) tests) here ∙ pass_all values tests (All-tail (TestHolds values) t tests all)
 
@@ -215,12 +243,16 @@ known_side values (test.Var v) below = by (slice_get values v) refl
     by (Some x) at = (x, at)
 known_side values (test.Constant c) below = (c, refl)
 
-all_pass : (values : List Value) (tests : List Test) → All (λ t. IsTestTermOf (length values) t.left) tests → All (λ t. IsTestTermOf (length values) t.right) tests
+all_pass : (values : List Value) (tests : List Test) → All (λ t. IsTestTermOf (length values) t.left) tests
+    → All (λ t. IsTestTermOf (length values) t.right) tests
     → passes (full values) tests ≡ true → All (TestHolds values) tests
 all_pass values [] left right passed = All-nil (TestHolds values)
 all_pass values (t ∷ tests) left right passed =
-    All-cons (TestHolds values) t tests (here (both (may_hold (side_of (full values) t.left) t.cmp (side_of (full values) t.right)) (passes (full values) tests) passed).0)
-    (all_pass values tests (All-tail (λ u. IsTestTermOf (length values) u.left) t tests left) (All-tail (λ u. IsTestTermOf (length values) u.right) t tests right)
+    All-cons (TestHolds values) t tests
+    (here (both (may_hold (side_of (full values) t.left) t.cmp (side_of (full values) t.right))
+    (passes (full values) tests) passed).0)
+    (all_pass values tests (All-tail (λ u. IsTestTermOf (length values) u.left) t tests left)
+    (All-tail (λ u. IsTestTermOf (length values) u.right) t tests right)
     (both (may_hold (side_of (full values) t.left) t.cmp (side_of (full values) t.right)) (passes (full values) tests) passed).1)
   where
     both : (a b : Bool) → a && b ≡ true → (a ≡ true) × (b ≡ true)
@@ -237,16 +269,19 @@ all_pass values (t ∷ tests) left right passed =
 
 -- ---- the head
 
-pub head_full : (values : List Value) (head : List ℕ) (tuple : List Value) → IsHead values head tuple → head_at (full values) head ≡ Some tuple
+pub head_full : (values : List Value) (head : List ℕ) (tuple : List Value) → IsHead values head tuple
+    → head_at (full values) head ≡ Some tuple
 head_full values [] [] is = refl
 head_full values [] (x ∷ tuple) is = cc
 head_full values (v ∷ head) [] is = cc
 head_full values (v ∷ head) (x ∷ tuple) is =
     let first : slice_get values v ≡ Some x = cc in
     let rest : IsHead values head tuple = cc in
-    ap (λ o. put_before o (head_at (full values) head)) (value_full values v ∙ first) ∙ ap (put_before (Some x)) (head_full values head tuple rest)
+    ap (λ o. put_before o (head_at (full values) head)) (value_full values v ∙ first) ∙ ap (put_before (Some x))
+    (head_full values head tuple rest)
 
-pub full_head : (values : List Value) (head : List ℕ) (tuple : List Value) → head_at (full values) head ≡ Some tuple → IsHead values head tuple
+pub full_head : (values : List Value) (head : List ℕ) (tuple : List Value) → head_at (full values) head ≡ Some tuple
+    → IsHead values head tuple
 full_head values [] tuple is = ap (λ t. map (λ x. Some x) t) (same_Some [] tuple is)
 full_head values (v ∷ head) tuple is =
     let parts = put_some (value_at (full values) v) (head_at (full values) head) tuple is in
@@ -258,13 +293,16 @@ full_head values (v ∷ head) tuple is =
 -- ---- solutions
 
 -- values that meet a disjunct are a solution from each part of them
-pub met_solution : (instance : List (List (List Value))) (d : Disjunct) (atoms : List Atom) (b : List (Option Value)) (values : List Value) → IsDisjunct d → IsPermutation d.atoms atoms
+pub met_solution : (instance : List (List (List Value))) (d : Disjunct) (atoms : List Atom) (b : List (Option Value))
+    (values : List Value) → IsDisjunct d → IsPermutation d.atoms atoms
     → Extends b (full values) → Meets instance d values → IsSolution instance d.tests atoms b (full values)
 met_solution instance d atoms b values fits permuted on meets =
-    let found = reach instance values atoms b on (All-permutation (AtomHolds instance values) d.atoms atoms permuted meets.atoms) in
+    let found = reach instance values atoms b on (All-permutation (AtomHolds instance values) d.atoms atoms permuted
+    meets.atoms) in
     let many : length found.values ≡ d.vars = found.extends.as_many ∙ length-map values (λ x. Some x) ∙ meets.per_var in
     let same : found.values ≡ full values =
-    extends_full found.values (full values) (λ v below. all_have instance d atoms b found.values fits permuted found.reached v (omega (arith, many, below))) found.extends in
+    extends_full found.values (full values) (λ v below. all_have instance d atoms b found.values fits permuted
+    found.reached v (omega (arith, many, below))) found.extends in
     record { reached = subst (Reached instance atoms b) same found.reached; passed = pass_all values d.tests meets.tests }
 
 -- a solution, as values that meet a disjunct
@@ -272,7 +310,8 @@ pub record IsMet (instance : List (List (List Value))) (d : Disjunct) (c : List 
   pub same : c ≡ full (values_of c)
   pub meets : Meets instance d (values_of c)
 
-pub solution_met : (instance : List (List (List Value))) (d : Disjunct) (atoms : List Atom) (b c : List (Option Value)) → IsDisjunct d → IsPermutation d.atoms atoms → length b ≡ d.vars
+pub solution_met : (instance : List (List (List Value))) (d : Disjunct) (atoms : List Atom)
+    (b c : List (Option Value)) → IsDisjunct d → IsPermutation d.atoms atoms → length b ≡ d.vars
     → IsSolution instance d.tests atoms b c → IsMet instance d c
 solution_met instance d atoms b c fits permuted vars solution =
     record { same = same; meets = record { per_var = many; atoms = atoms_hold; tests = tests } }
@@ -290,11 +329,17 @@ solution_met instance d atoms b c fits permuted vars solution =
     holds atom is =
         let there = Contains-permutation d.atoms atoms atom permuted is in
         let held = each_held instance atoms b c atom solution.reached (from_contains atoms atom there) in
-        let fitted : AreFitted (full (values_of c)) atom.terms held.tuple = subst (λ e. AreFitted e atom.terms held.tuple) same held.fitted in
+        let fitted : AreFitted (full (values_of c)) atom.terms held.tuple =
+        subst (λ e. AreFitted e atom.terms held.tuple) same held.fitted in
         let inside = slice_get_within (tuples_of instance atom) held.place held.tuple held.is_tuple in
         record {
           tuple = held.tuple;
-          is_there = (held.place, inside, get_or_from_slice_get (tuples_of instance atom) held.place held.tuple held.tuple held.is_tuple);
+          is_there = (
+            held.place,
+            inside,
+            get_or_from_slice_get (tuples_of instance atom) held.place held.tuple
+                held.tuple held.is_tuple,
+          );
           fits = fitted_tuple (values_of c) atom.terms held.tuple fitted;
         }
 
@@ -303,5 +348,6 @@ solution_met instance d atoms b c fits permuted vars solution =
 
     tests : All (TestHolds (values_of c)) d.tests
     tests =
-        all_pass (values_of c) d.tests (subst (λ n. All (λ t. IsTestTermOf n t.left) d.tests) (sym many) fits.left) (subst (λ n. All (λ t. IsTestTermOf n t.right) d.tests) (sym many) fits.right)
+        all_pass (values_of c) d.tests (subst (λ n. All (λ t. IsTestTermOf n t.left) d.tests) (sym many) fits.left)
+        (subst (λ n. All (λ t. IsTestTermOf n t.right) d.tests) (sym many) fits.right)
         (subst (λ e. passes e d.tests ≡ true) same solution.passed)

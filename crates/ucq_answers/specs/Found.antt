@@ -12,7 +12,8 @@ use Rattle.query_model.specs.declared.query.Test.{Test}
 use Rattle.ucq_answers.specs.Partly.{IsFit, IsSolution, fit, tuples_of, values_of}
 
 -- a solution, or none where there is none
-abbrev pub IsFound : List (List (List Value)) → List Test → List Atom → List (Option Value) → Option (List (Option Value)) → Type 0
+abbrev pub IsFound : List (List (List Value)) → List Test → List Atom → List (Option Value)
+    → Option (List (Option Value)) → Type 0
 IsFound instance tests atoms b None = (c : List (Option Value)) → IsSolution instance tests atoms b c → ⊥
 IsFound instance tests atoms b (Some c) = IsSolution instance tests atoms b c
 
@@ -44,7 +45,8 @@ IsAnswerOf disjuncts instance tuple = let q : Query = record { disjuncts = disju
 -- ---- matches
 
 -- values of all variables that meet a disjunct and have the tuple as head
-pub record IsMet (instance : List (List (List Value))) (d : Disjunct) (tuple : List Value) (c : List (Option Value)) : Type 0 where
+pub record IsMet (instance : List (List (List Value))) (d : Disjunct) (tuple : List Value)
+    (c : List (Option Value)) : Type 0 where
   pub same : c ≡ map (λ x. Some x) (values_of c)
   pub meets : Meets instance d (values_of c)
   pub is_head : IsHead (values_of c) d.head tuple
@@ -78,7 +80,8 @@ AreEntities instance b atoms None = HasUnfit instance b atoms
 AreEntities instance b atoms (Some ents) = AllZip (FitsAt instance b) atoms ents
 
 -- a match by this disjunct, whose number it has
-pub record IsMatchBy (instance : List (List (List Value))) (d : Disjunct) (number : ℕ) (tuple : List Value) (m : Match) : Type 0 where
+pub record IsMatchBy (instance : List (List (List Value))) (d : Disjunct) (number : ℕ) (tuple : List Value)
+    (m : Match) : Type 0 where
   pub is_number : m.disjunct ≡ number
   pub meets : Meets instance d m.values
   pub is_head : IsHead m.values d.head tuple

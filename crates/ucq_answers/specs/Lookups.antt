@@ -38,21 +38,25 @@ pub record IsByValue (tuples : List (List Value)) (place : ℕ) (ents : List Ent
 -- tuples that stand by their values come to this one at the start
 abbrev pub StartsAt : List (List Value) → ℕ → Value → List EntId → ℕ → Type 0
 StartsAt tuples place value ents start =
-    IsPartitionPoint (λ y. nat_lt (rank_to tuples place value y) 1 ≡ true) (λ y. nat_lt (rank_to tuples place value y) 1 ≡ false) ents start
+    IsPartitionPoint (λ y. nat_lt (rank_to tuples place value y) 1 ≡ true)
+    (λ y. nat_lt (rank_to tuples place value y) 1 ≡ false) ents start
 
 -- and go past it at the end
 abbrev pub EndsAt : List (List Value) → ℕ → Value → List EntId → ℕ → Type 0
 EndsAt tuples place value ents end =
-    IsPartitionPoint (λ y. nat_le (rank_to tuples place value y) 1 ≡ true) (λ y. nat_le (rank_to tuples place value y) 1 ≡ false) ents end
+    IsPartitionPoint (λ y. nat_le (rank_to tuples place value y) 1 ≡ true)
+    (λ y. nat_le (rank_to tuples place value y) 1 ≡ false) ents end
 
 -- each tuple that has this value at the place is listed
 abbrev pub AreAlike : List (List Value) → ℕ → Value → List EntId → Type 0
-AreAlike tuples place value ents = (at : ℕ) (tuple : List Value) → slice_get tuples at ≡ Some tuple → slice_get tuple place ≡ Some value
+AreAlike tuples place value ents = (at : ℕ) (tuple : List Value) → slice_get tuples at ≡ Some tuple
+    → slice_get tuple place ≡ Some value
     → Contains ents record { 0 = at }
 
 -- each tuple that terms can fit is listed
 abbrev pub AreCandidates : List (List Value) → List Term → List (Option Value) → List EntId → Type 0
-AreCandidates tuples terms b ents = (at : ℕ) (tuple : List Value) (c : List (Option Value)) → slice_get tuples at ≡ Some tuple → fit b terms tuple ≡ Some c
+AreCandidates tuples terms b ents = (at : ℕ) (tuple : List Value) (c : List (Option Value)) → slice_get tuples at ≡
+    Some tuple → fit b terms tuple ≡ Some c
     → Contains ents record { 0 = at }
 
 -- the places of all tuples of a relation, and indexes of these tuples

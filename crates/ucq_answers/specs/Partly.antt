@@ -34,7 +34,8 @@ fit_term b term.Any x = Some b
 fit_term b (term.Constant c) x = cond (value_test Eq c x) (Some b) None
 
 -- the values once each of some things fits a value of a tuple, if it can
-abbrev pub fit_each : {T : Type 0} → (List (Option Value) → T → Value → Option (List (Option Value))) → List (Option Value) → List T → List Value
+abbrev pub fit_each : {T : Type 0} → (List (Option Value) → T → Value → Option (List (Option Value)))
+    → List (Option Value) → List T → List Value
     → Option (List (Option Value))
 fit_each step b [] [] = Some b
 fit_each step b [] (x ∷ xs) = None
@@ -108,15 +109,18 @@ pub record IsFit (tuples : List (List Value)) (terms : List Term) (b c : List (O
 -- the values once each atom's terms fit a tuple, atom by atom
 abbrev pub Reached : List (List (List Value)) → List Atom → List (Option Value) → List (Option Value) → Type 0
 Reached instance [] b c = b ≡ c
-Reached instance (atom ∷ atoms) b c = (next : List (Option Value)) × IsFit (tuples_of instance atom) atom.terms b next × Reached instance atoms next c
+Reached instance (atom ∷ atoms) b c = (next : List (Option Value)) × IsFit (tuples_of instance atom) atom.terms b
+    next × Reached instance atoms next c
 
 -- some values that are reached, of which no comparison fails
-pub record IsSolution (instance : List (List (List Value))) (tests : List Test) (atoms : List Atom) (b c : List (Option Value)) : Type 0 where
+pub record IsSolution (instance : List (List (List Value))) (tests : List Test) (atoms : List Atom)
+    (b c : List (Option Value)) : Type 0 where
   pub reached : Reached instance atoms b c
   pub passed : passes c tests ≡ true
 
 -- the tuple is the head's values in some of them
-pub record IsHeadOfSome (instance : List (List (List Value))) (tests : List Test) (head : List ℕ) (atoms : List Atom) (b : List (Option Value)) (tuple : List Value) : Type 0 where
+pub record IsHeadOfSome (instance : List (List (List Value))) (tests : List Test) (head : List ℕ) (atoms : List Atom)
+    (b : List (Option Value)) (tuple : List Value) : Type 0 where
   pub values : List (Option Value)
   pub solution : IsSolution instance tests atoms b values
   pub is_head : head_at values head ≡ Some tuple

@@ -44,7 +44,12 @@ value_trans (Text a) (Text b) (Int c) p q = absurd (subst IsGreater q tt)
 value_trans (Text a) (Text b) (Text c) p q = nat_list_cmp_total.trans a b c p q
 
 pub value_total : IsTotalOrder value_cmp
-value_total = record { antisymm = value_antisymm; trans = value_trans; congr = λ x y z e. ap (λ v. value_cmp v z) (exact_values x y e) }
+value_total = record {
+  antisymm = value_antisymm;
+  trans = value_trans;
+  congr = λ x y z e. ap (λ v. value_cmp v z)
+      (exact_values x y e);
+}
 
 pub tuple_total : IsTotalOrder (slice_cmp value_cmp)
 tuple_total = lists_total value_total

@@ -60,7 +60,8 @@ impl PartialOrd for Answer {
 
     ghost partial_cmp = { as_partial_cmp (slice_cmp value_cmp) };
 
-    ghost laws = { partial_order_from_own_ties (Prim.search (comparing, rules, tuple_total)) (Prim.search (comparing, rules, tuple_total)) };
+    ghost laws = { partial_order_from_own_ties (Prim.search (comparing, rules, tuple_total))
+        (Prim.search (comparing, rules, tuple_total)) };
 
     fn partial_cmp(&self, other: &Answer) -> Option<Ordering> {
         Some(self.cmp(other))

@@ -68,7 +68,8 @@ fn is_term_of(vars: u32, term: &Term) -> bool
 
 // Are all variables of comparisons of so many?
 fn are_tests_of(vars: u32, tests: &[Test]) -> bool
-    ensures { IsTrue result ↔ ((All (λ t. IsTestTermOf vars t.left) tests.now) × (All (λ t. IsTestTermOf vars t.right) tests.now)) }
+    ensures { IsTrue result ↔ ((All (λ t. IsTestTermOf vars t.left) tests.now) ×
+        (All (λ t. IsTestTermOf vars t.right) tests.now)) }
 {
     tests.iter().all(|test| is_test_term_of(vars, &test.left))
         && tests.iter().all(|test| is_test_term_of(vars, &test.right))

@@ -58,7 +58,8 @@ fn met_values<'a>(
     planned: &'a PlannedDisjunct<'a>,
     values: &Binding<'a>,
 ) -> Result<Option<Binding<'a>>, NoMemory>
-    ensures { IfOk result (λ met. (tuple : List Value) → bind_all (replicate planned.now.vars None) planned.now.head tuple ≡ Some values.now
+    ensures { IfOk result (λ met. (tuple : List Value) → bind_all (replicate planned.now.vars None) planned.now.head
+        tuple ≡ Some values.now
         → IsMetFound relations.now planned.now tuple met) }
 {
     let found = find(

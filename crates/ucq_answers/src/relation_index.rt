@@ -69,7 +69,8 @@ impl<'a> RelationIndex<'a> {
         terms: &'a [Term],
         values: &Binding<'a>,
     ) -> Result<Option<Binding<'a>>, NoMemory>
-        ensures { IfOk result (λ next. next ≡ option_and_then (λ tuple. fit values.now terms.now tuple) (slice_get self.now ent.0)) }
+        ensures { IfOk result (λ next. next ≡ option_and_then (λ tuple. fit values.now terms.now tuple)
+            (slice_get self.now ent.0)) }
     {
         match self.tuples.get(ent.0 as usize) {
             Some(tuple) => fitted(alloc, values, terms, tuple.as_slice()),

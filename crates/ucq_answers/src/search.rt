@@ -126,7 +126,8 @@ pub(crate) fn fit_atom<'a>(
     ent: EntId,
     values: &Binding<'a>,
 ) -> Result<Option<Binding<'a>>, NoMemory>
-    ensures { IfOk result (λ next. next ≡ option_and_then (λ tuple. fit values.now atom.now.terms tuple) (slice_get (tuples_of relations.now atom.now) ent.0)) }
+    ensures { IfOk result (λ next. next ≡ option_and_then (λ tuple. fit values.now atom.now.terms tuple)
+        (slice_get (tuples_of relations.now atom.now) ent.0)) }
 {
     match relations.get(atom.relation.0 as usize) {
         Some(relation) => relation.fit(alloc, ent, atom.terms.as_slice(), values),

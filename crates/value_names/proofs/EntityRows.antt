@@ -19,7 +19,8 @@ entity_is (x ∷ rows) zero = refl
 entity_is (x ∷ rows) (suc row) = entity_is rows row
 
 -- a row of an entity's rows is of the entity
-pub member_is : (rows : List Row) (es : List ℕ) (ent i : ℕ) (row : RowId) → es ≡ entities_of rows → slice_get (rows_of es ent) i ≡ Some row
+pub member_is : (rows : List Row) (es : List ℕ) (ent i : ℕ) (row : RowId) → es ≡ entities_of rows
+    → slice_get (rows_of es ent) i ≡ Some row
     → entity_of rows row.0 ≡ Some ent
 member_is rows es ent i row same at =
     entity_is rows row.0 ∙ ap (λ es. slice_get es row.0) (sym same) ∙ member_of es ent i row at
@@ -30,7 +31,8 @@ pub kept_of_entity : (p : RowId → Bool) (first : ℕ) (es : List ℕ) (ent : �
     → filter p (rows_from first es ent) ≡ filter p (map (λ at. record { 0 = at }) (range_with_len first (length es)))
 kept_of_entity p first [] ent others = refl
 kept_of_entity p first (x ∷ es) ent others =
-    go (kept_of_entity p (first + 1) es ent (λ i e row at number differs. others (suc i) e row at (omega (arith, number)) differs)) (eqb_tells x ent)
+    go (kept_of_entity p (first + 1) es ent (λ i e row at number differs. others (suc i) e row at
+    (omega (arith, number)) differs)) (eqb_tells x ent)
   where
     rest : List RowId
     rest = filter p (map (λ at. record { 0 = at }) (range_with_len (first + 1) (length es)))

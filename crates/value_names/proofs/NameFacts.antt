@@ -63,7 +63,8 @@ first_found p first (suc n) d row from below passes =
     rest : List RowId
     rest = filter p (map (λ at. record { 0 = at }) (range_with_len (first + 1) n))
 
-    go : (b : Bool) → p here ≡ b → (first + 1 ≤ row.0 → IsFirst p row (first_or d rest)) → IsFirst p row (first_or d (cond b (here ∷ rest) rest))
+    go : (b : Bool) → p here ≡ b → (first + 1 ≤ row.0 → IsFirst p row (first_or d rest)) → IsFirst p row
+        (first_or d (cond b (here ∷ rest) rest))
     go true is more = record { passes = is; least = from }
     go false is more = more (later (cases_lt first row.0))
       where
@@ -75,7 +76,8 @@ first_found p first (suc n) d row from below passes =
             absurd (false≢true (sym is ∙ (sym itself ∙ passes)))
 
 -- a first row is the same whatever stands for none
-any_other : (p : RowId → Bool) (row : RowId) (found : List RowId) → ((d : RowId) → IsFirst p row (first_or d found)) → (d d' : RowId)
+any_other : (p : RowId → Bool) (row : RowId) (found : List RowId) → ((d : RowId) → IsFirst p row (first_or d found))
+    → (d d' : RowId)
     → first_or d found ≡ first_or d' found
 any_other p row [] each d d' = absurd (omega (arith, (each (record { 0 = row.0 + 1 })).least))
 any_other p row (x ∷ found) each d d' = refl
@@ -127,17 +129,21 @@ module _ (r : Relation) (attr : ℕ) (is : IsRelation r) (within : attr < length
   name_first : (row : RowId) → row.0 < length r.rows → (d : RowId)
       → IsFirst (are_alike r.rows attr row) row (first_or d (filter (are_alike r.rows attr row) (row_ids (length r.rows))))
   name_first row here d =
-      first_found (are_alike r.rows attr row) 0 (length r.rows) d row (omega arith) (omega arith) (alike_to_itself r attr row is within here)
+      first_found (are_alike r.rows attr row) 0 (length r.rows) d row (omega arith) (omega arith)
+      (alike_to_itself r attr row is within here)
 
   -- rows that are alike have one name
-  pub same_name : (a b : RowId) → a.0 < length r.rows → are_alike r.rows attr a b ≡ true → name_of r.rows attr a ≡ name_of r.rows attr b
+  pub same_name : (a b : RowId) → a.0 < length r.rows → are_alike r.rows attr a b ≡ true → name_of r.rows attr a ≡
+      name_of r.rows attr b
   same_name a b here alike =
       let h = alike_have_one r.rows attr a b alike in
       let kept : Option ℕ → Option Value → List RowId = λ ent value.
-      filter (λ x. is_one_entity ent (entity_of r.rows x.0) && is_compared value Eq (field_value r.rows (Some x) attr)) (row_ids (length r.rows)) in
+      filter (λ x. is_one_entity ent (entity_of r.rows x.0) && is_compared value Eq
+      (field_value r.rows (Some x) attr)) (row_ids (length r.rows)) in
       let entities : entity_of r.rows a.0 ≡ entity_of r.rows b.0 = h.entity ∙ sym h.other_entity in
       let values : field_value r.rows (Some a) attr ≡ field_value r.rows (Some b) attr = h.here ∙ sym h.there in
-      let tests : kept (entity_of r.rows a.0) (field_value r.rows (Some a) attr) ≡ kept (entity_of r.rows b.0) (field_value r.rows (Some b) attr) =
+      let tests : kept (entity_of r.rows a.0) (field_value r.rows (Some a) attr) ≡ kept (entity_of r.rows b.0)
+      (field_value r.rows (Some b) attr) =
       ap (λ ent. kept ent (field_value r.rows (Some a) attr)) entities ∙ ap (kept (entity_of r.rows b.0)) values in
       any_other (are_alike r.rows attr a) a (filter (are_alike r.rows attr a) (row_ids (length r.rows))) (name_first a here) a b
       ∙ ap (first_or b) tests
@@ -159,8 +165,10 @@ module _ (r : Relation) (attr : ℕ) (is : IsRelation r) (within : attr < length
   one_name a b here there same =
       let n = (named a here).have_one in
       let m = (named b there).have_one in
-      let ent : Some m.ent ≡ Some n.ent = sym m.other_entity ∙ (ap (λ (row : RowId). entity_of r.rows row.0) (sym same) ∙ n.other_entity) in
-      let value : Some m.value ≡ Some n.value = sym m.there ∙ (ap (λ row. field_value r.rows (Some row) attr) (sym same) ∙ n.there) in
+      let ent : Some m.ent ≡ Some n.ent = sym m.other_entity ∙
+      (ap (λ (row : RowId). entity_of r.rows row.0) (sym same) ∙ n.other_entity) in
+      let value : Some m.value ≡ Some n.value = sym m.there ∙
+      (ap (λ row. field_value r.rows (Some row) attr) (sym same) ∙ n.there) in
       have_one_alike r.rows attr a b (record {
         ent = n.ent;
         entity = n.entity;
@@ -171,13 +179,15 @@ module _ (r : Relation) (attr : ℕ) (is : IsRelation r) (within : attr < length
       })
 
 -- the name of each row's value, in the list of names
-pub name_at : (rows : List Row) (attr : ℕ) (row : RowId) → row.0 < length rows → slice_get (names_of rows attr) row.0 ≡ Some (name_of rows attr row)
+pub name_at : (rows : List Row) (attr : ℕ) (row : RowId) → row.0 < length rows → slice_get (names_of rows attr)
+    row.0 ≡ Some (name_of rows attr row)
 name_at rows attr row here =
     let id : ℕ → RowId = λ at. record { 0 = at } in
     let count : length (row_ids (length rows)) ≡ length rows = length-map-range_with_len id 0 (length rows) in
     let at : slice_get (row_ids (length rows)) row.0 ≡ Some (get_or (row_ids (length rows)) row.0 row) =
     slice_get-get_or (row_ids (length rows)) row.0 row (omega arith) in
-    let read : get_or (row_ids (length rows)) row.0 row ≡ row = get_or-map-range_with_len id 0 (length rows) row.0 row.0 row here (omega arith) in
+    let read : get_or (row_ids (length rows)) row.0 row ≡ row = get_or-map-range_with_len id 0 (length rows) row.0
+    row.0 row here (omega arith) in
     slice_get-map (name_of rows attr) (row_ids (length rows)) row.0 ∙ ap (option_map (name_of rows attr)) (at ∙ ap Some read)
 
 -- ---- the rows that are their own names
@@ -207,7 +217,8 @@ first_from first (name ∷ names) i row at = go (λ j at'. first_from (first + 1
         (suc m.0, omega (arith, m.1), m.2)
 
 -- each of them is its own name
-pub first_is : (names : List RowId) (i : ℕ) (row : RowId) → slice_get (firsts_of names) i ≡ Some row → slice_get names row.0 ≡ Some row
+pub first_is : (names : List RowId) (i : ℕ) (row : RowId) → slice_get (firsts_of names) i ≡ Some row
+    → slice_get names row.0 ≡ Some row
 first_is names i row at =
     let m = first_from 0 names i row at in
     let number : row.0 ≡ m.0 = omega (arith, m.1) in
@@ -219,7 +230,8 @@ in_firsts first [] place row at number = absurd (none-some row at)
 in_firsts first (name ∷ names) zero row at number = here (eqb_tells name.0 first) (same_Some name row at)
   where
     here : Tells name.0 first → name ≡ row
-        → (i : ℕ) × (slice_get (cond (name.0 == first) (name ∷ firsts_from (first + 1) names) (firsts_from (first + 1) names)) i ≡ Some row)
+        → (i : ℕ) × (slice_get (cond (name.0 == first) (name ∷ firsts_from (first + 1) names)
+        (firsts_from (first + 1) names)) i ≡ Some row)
     here (inl h) same = (0, rw h.0 (ap Some same))
     here (inr h) same = absurd (h.1 (ap (λ (r : RowId). r.0) same ∙ (number ∙ omega arith)))
 in_firsts first (name ∷ names) (suc place) row at number =
@@ -227,12 +239,14 @@ in_firsts first (name ∷ names) (suc place) row at number =
     there (eqb_tells name.0 first) found.0 found.1
   where
     there : Tells name.0 first → (j : ℕ) → slice_get (firsts_from (first + 1) names) j ≡ Some row
-        → (i : ℕ) × (slice_get (cond (name.0 == first) (name ∷ firsts_from (first + 1) names) (firsts_from (first + 1) names)) i ≡ Some row)
+        → (i : ℕ) × (slice_get (cond (name.0 == first) (name ∷ firsts_from (first + 1) names)
+        (firsts_from (first + 1) names)) i ≡ Some row)
     there (inl h) j at = (suc j, rw h.0 at)
     there (inr h) j at = (j, rw h.0 at)
 
 -- and each row that is its own name is one of them
-pub is_first : (names : List RowId) (row : RowId) → slice_get names row.0 ≡ Some row → (i : ℕ) × (slice_get (firsts_of names) i ≡ Some row)
+pub is_first : (names : List RowId) (row : RowId) → slice_get names row.0 ≡ Some row →
+    (i : ℕ) × (slice_get (firsts_of names) i ≡ Some row)
 is_first names row at = in_firsts 0 names row.0 row at (omega arith)
 
 firsts_rise : (first : ℕ) (names : List RowId) (i j : ℕ) (a b : RowId) → slice_get (firsts_from first names) i ≡ Some a
@@ -241,7 +255,8 @@ firsts_rise first [] i j a b at_i at_j below = absurd (none-some a at_i)
 firsts_rise first (name ∷ names) i j a b at_i at_j below =
     go (λ k l at_k at_l less. firsts_rise (first + 1) names k l a b at_k at_l less) i j (eqb_tells name.0 first) at_i at_j below
   where
-    go : ((k l : ℕ) → slice_get (firsts_from (first + 1) names) k ≡ Some a → slice_get (firsts_from (first + 1) names) l ≡ Some b → k < l → a.0 < b.0)
+    go : ((k l : ℕ) → slice_get (firsts_from (first + 1) names) k ≡ Some a
+        → slice_get (firsts_from (first + 1) names) l ≡ Some b → k < l → a.0 < b.0)
         → (i j : ℕ) → Tells name.0 first
         → slice_get (cond (name.0 == first) (name ∷ firsts_from (first + 1) names) (firsts_from (first + 1) names)) i ≡ Some a
         → slice_get (cond (name.0 == first) (name ∷ firsts_from (first + 1) names) (firsts_from (first + 1) names)) j ≡ Some b
@@ -256,6 +271,7 @@ firsts_rise first (name ∷ names) i j a b at_i at_j below =
     go more i (suc j) (inr h) at_i at_j below = more i (suc j) (rw h.0 at at_i) (rw h.0 at at_j) below
 
 -- they ascend
-pub firsts_ascend : (names : List RowId) (i j : ℕ) (a b : RowId) → slice_get (firsts_of names) i ≡ Some a → slice_get (firsts_of names) j ≡ Some b
+pub firsts_ascend : (names : List RowId) (i j : ℕ) (a b : RowId) → slice_get (firsts_of names) i ≡ Some a
+    → slice_get (firsts_of names) j ≡ Some b
     → i < j → a.0 < b.0
 firsts_ascend names i j a b at_i at_j below = firsts_rise 0 names i j a b at_i at_j below

@@ -15,7 +15,8 @@ use Rattle.report_stages.specs.Shown.{IsReportShown}
 
 -- the stages together
 pub shown_right : (texts : Option (List (List ℕ × List ℕ))) (v : VerifySaid) (s : Spec) (q : Question) (r : Result Kind Trouble)
-    → IfSome texts (λ told. IsSpecRead told v.spec (Ok s)) → IfSome texts (λ told. IsQuestionRead told s.relations v.question (Ok q))
+    → IfSome texts (λ told. IsSpecRead told v.spec (Ok s)) → IfSome texts
+    (λ told. IsQuestionRead told s.relations v.question (Ok q))
     → IfOk r (λ kind. IfSome texts (λ told. IsReportShown told s q v.report kind))
     → IfOk r (λ kind. IfSome texts (λ told. IsShownRight told v kind))
 shown_right None v s q (Ok kind) spec question report = tt
@@ -26,7 +27,8 @@ shown_right texts v s q (Err e) spec question report = tt
 -- ---- the line
 
 pub accepted_due : (texts : Option (List (List ℕ × List ℕ))) (v : VerifySaid) (kind : Kind) (outcome : Result Done Trouble)
-    → IfSome texts (λ told. IsJudgedDue told v (Ok kind)) → IfOk outcome (λ d. d ≡ accepted_done kind) → IfErr outcome (λ e. e ≡ trouble.NoMemory)
+    → IfSome texts (λ told. IsJudgedDue told v (Ok kind)) → IfOk outcome (λ d. d ≡ accepted_done kind)
+    → IfErr outcome (λ e. e ≡ trouble.NoMemory)
     → IsSettled outcome → IfSome texts (λ told. IsVerifyDue told v outcome)
 accepted_due None v kind outcome due told memory settled = tt
 accepted_due (Some t) v kind (Ok d) due told memory settled = (Ok kind, due, ap Ok told)
@@ -39,7 +41,8 @@ accepted_told None v kind (Ok d) right told = tt
 accepted_told (Some t) v kind (Ok d) right told = (kind, right, told)
 accepted_told texts v kind (Err e) right told = tt
 
-pub refused_due : (texts : Option (List (List ℕ × List ℕ))) (v : VerifySaid) (e : Trouble) → IfSome texts (λ told. IsJudgedDue told v (Err e))
+pub refused_due : (texts : Option (List (List ℕ × List ℕ))) (v : VerifySaid) (e : Trouble) → IfSome texts
+    (λ told. IsJudgedDue told v (Err e))
     → IfSome texts (λ told. IsVerifyDue told v (Err e))
 refused_due None v e due = tt
 refused_due (Some t) v e due = (Err e, due, refl)

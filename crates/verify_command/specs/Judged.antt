@@ -51,4 +51,5 @@ IsReportDue told v name =
 
 -- a document is due to be read for `verify`
 abbrev pub IsVerifyDocumentDue : List (List ℕ × List ℕ) → VerifySaid → List ℕ → Type 0
-IsVerifyDocumentDue told v name = IsSpecDocumentDue told v.spec name ⊎ (IsQuestionDue told v.spec v.question name ⊎ IsReportDue told v name)
+IsVerifyDocumentDue told v name = IsSpecDocumentDue told v.spec name ⊎
+    (IsQuestionDue told v.spec v.question name ⊎ IsReportDue told v name)

@@ -33,7 +33,8 @@ from_slot n p count before link y (x ∷ xs) c (inr i) =
     (more.0, more.1, omega (arith, more.2), more.3)
 
 -- no slot stands in a chain twice: else the walk would come round
-pub chain_once : (n p : ℕ → ℕ) (count before link : ℕ) (xs : List ℕ) → count ≤ no_slot → IsChain n p count before link xs → HasNoneTwice xs
+pub chain_once : (n p : ℕ → ℕ) (count before link : ℕ) (xs : List ℕ) → count ≤ no_slot → IsChain n p count before
+    link xs → HasNoneTwice xs
 chain_once n p count before link [] few c = tt
 chain_once n p count before link (x ∷ xs) few c = (
   λ i. let again = from_slot n p count x (n x) x xs c.3 i in
@@ -45,31 +46,37 @@ chain_once n p count before link (x ∷ xs) few c = (
 )
 
 -- the link that begins a chain leads to its first slot
-pub chain_head : (n p : ℕ → ℕ) (count before link : ℕ) (xs : List ℕ) → count ≤ no_slot → IsChain n p count before link xs → slot_at link ≡ head_of xs
+pub chain_head : (n p : ℕ → ℕ) (count before link : ℕ) (xs : List ℕ) → count ≤ no_slot → IsChain n p count before
+    link xs → slot_at link ≡ head_of xs
 chain_head n p count before link [] few c = rw (eq-eqb link no_slot c) refl
 chain_head n p count before link (x ∷ xs) few c =
     let differs : link ≡ no_slot → ⊥ = λ e. absurd (omega (arith, c.0, c.1, e)) in
     rw (ne_eqb link no_slot differs) (ap Some c.0)
 
 -- it is the link of a slot of the chain, or leads to no slot
-pub chain_head_in : (n p : ℕ → ℕ) (count before link : ℕ) (xs : List ℕ) → IsChain n p count before link xs → (link ≡ no_slot) ⊎ IsIn link xs
+pub chain_head_in : (n p : ℕ → ℕ) (count before link : ℕ) (xs : List ℕ) → IsChain n p count before link xs →
+    (link ≡ no_slot) ⊎ IsIn link xs
 chain_head_in n p count before link [] c = inl c
 chain_head_in n p count before link (x ∷ xs) c = inr (inl c.0)
 
 -- the link of a slot leads to the slot that follows
-pub chain_following : (n p : ℕ → ℕ) (count before link slot : ℕ) (xs : List ℕ) → count ≤ no_slot → IsChain n p count before link xs → IsIn slot xs
+pub chain_following : (n p : ℕ → ℕ) (count before link slot : ℕ) (xs : List ℕ) → count ≤ no_slot
+    → IsChain n p count before link xs → IsIn slot xs
     → slot_at (n slot) ≡ following slot xs
 unfolding following
 chain_following n p count before link slot [] few c i = absurd i
-chain_following n p count before link slot (x ∷ xs) few c i = go (eqb_tells slot x) (λ j. chain_following n p count x (n x) slot xs few c.3 j) i
+chain_following n p count before link slot (x ∷ xs) few c i = go (eqb_tells slot x)
+    (λ j. chain_following n p count x (n x) slot xs few c.3 j) i
   where
-    go : Tells slot x → (IsIn slot xs → slot_at (n slot) ≡ following slot xs) → IsIn slot (x ∷ xs) → slot_at (n slot) ≡ cond (slot == x) (head_of xs) (following slot xs)
+    go : Tells slot x → (IsIn slot xs → slot_at (n slot) ≡ following slot xs) → IsIn slot (x ∷ xs)
+        → slot_at (n slot) ≡ cond (slot == x) (head_of xs) (following slot xs)
     go (inl h) more i = rw h.0 (ap (λ (z : ℕ). slot_at (n z)) h.1 ∙ chain_head n p count x (n x) xs few c.3)
     go (inr h) more (inl e) = absurd (h.1 e)
     go (inr h) more (inr j) = rw h.0 (more j)
 
 -- a chain stays where the links of its slots stay, also where there are more slots
-pub chain_kept : (n p n' p' : ℕ → ℕ) (count count' before link : ℕ) (xs : List ℕ) → count ≤ count' → IsChain n p count before link xs
+pub chain_kept : (n p n' p' : ℕ → ℕ) (count count' before link : ℕ) (xs : List ℕ) → count ≤ count'
+    → IsChain n p count before link xs
     → ((y : ℕ) → IsIn y xs → y < count → (n' y ≡ n y) × (p' y ≡ p y)) → IsChain n' p' count' before link xs
 chain_kept n p n' p' count count' before link [] more c same = c
 chain_kept n p n' p' count count' before link (x ∷ xs) more c same =
@@ -78,7 +85,8 @@ chain_kept n p n' p' count count' before link (x ∷ xs) more c same =
     (c.0, omega (arith, c.1, more), here.1 ∙ c.2, rw here.0 rest)
 
 -- a chain has another slot before it, where its first slot's way back is changed to that one
-pub chain_after : (n p n' p' : ℕ → ℕ) (count before before' link : ℕ) (xs : List ℕ) → IsChain n p count before link xs → HasNoneTwice xs
+pub chain_after : (n p n' p' : ℕ → ℕ) (count before before' link : ℕ) (xs : List ℕ) → IsChain n p count before link
+    xs → HasNoneTwice xs
     → ((y : ℕ) → IsIn y xs → y ≡ link → p' y ≡ before')
     → ((y : ℕ) → IsIn y xs → n' y ≡ n y)
     → ((y : ℕ) → IsIn y xs → (y ≡ link → ⊥) → p' y ≡ p y)
@@ -113,11 +121,13 @@ chain_forth n p count before link slot (x ∷ xs) c (inl e) = go xs c.3
     go (y ∷ ys) d = inr (inr (inl (ap n e ∙ d.0)), ap p (ap n e ∙ d.0) ∙ d.2 ∙ sym e)
 chain_forth n p count before link slot (x ∷ xs) c (inr i) = go (chain_forth n p count x (n x) slot xs c.3 i)
   where
-    go : (n slot ≡ no_slot) ⊎ (IsIn (n slot) xs × (p (n slot) ≡ slot)) → (n slot ≡ no_slot) ⊎ (IsIn (n slot) (x ∷ xs) × (p (n slot) ≡ slot))
+    go : (n slot ≡ no_slot) ⊎ (IsIn (n slot) xs × (p (n slot) ≡ slot)) → (n slot ≡ no_slot) ⊎
+        (IsIn (n slot) (x ∷ xs) × (p (n slot) ≡ slot))
     go (inl h) = inl h
     go (inr h) = inr (inr h.0, h.1)
 
 -- the way back from the slot that the chain begins with is the slot before it
-pub chain_first_back : (n p : ℕ → ℕ) (count before link slot : ℕ) (xs : List ℕ) → IsChain n p count before link xs → IsIn slot xs → slot ≡ link → p slot ≡ before
+pub chain_first_back : (n p : ℕ → ℕ) (count before link slot : ℕ) (xs : List ℕ) → IsChain n p count before link xs
+    → IsIn slot xs → slot ≡ link → p slot ≡ before
 chain_first_back n p count before link slot [] c i e = absurd i
 chain_first_back n p count before link slot (x ∷ xs) c i e = ap p (e ∙ c.0) ∙ c.2

@@ -19,7 +19,8 @@ changed_or_same lists owner other new within = go (cases_eq other owner)
 
 module _ (lists : List (List ℕ)) (owner slot : ℕ) (within : owner < length lists) where
   -- a slot stands in a list then: it is the new one, in its owner's list, or it stood there before
-  pub in_lists_with : (other y : ℕ) → IsIn y (list_of (lists_with lists owner slot) other) → ((other ≡ owner) × (y ≡ slot)) ⊎ IsIn y (list_of lists other)
+  pub in_lists_with : (other y : ℕ) → IsIn y (list_of (lists_with lists owner slot) other) →
+      ((other ≡ owner) × (y ≡ slot)) ⊎ IsIn y (list_of lists other)
   in_lists_with other y i = go (changed_or_same lists owner other (slot ∷ list_of lists owner) within)
     where
       in_new : other ≡ owner → IsIn y (slot ∷ list_of lists owner) → ((other ≡ owner) × (y ≡ slot)) ⊎ IsIn y (list_of lists other)
@@ -64,26 +65,30 @@ module _ (lists : List (List ℕ)) (owner slot : ℕ) (within : owner < length l
       go (inr h) = subst (IsIn y) h.1 i
 
   -- the others stay
-  pub lists_without_keeps : (other y : ℕ) → IsIn y (list_of lists other) → (y ≡ slot → ⊥) → IsIn y (list_of (lists_without lists owner slot) other)
+  pub lists_without_keeps : (other y : ℕ) → IsIn y (list_of lists other) → (y ≡ slot → ⊥)
+      → IsIn y (list_of (lists_without lists owner slot) other)
   lists_without_keeps other y i differs = go (changed_or_same lists owner other (without slot (list_of lists owner)) within)
     where
       go : ((other ≡ owner) × (list_of (lists_without lists owner slot) other ≡ without slot (list_of lists owner)))
           ⊎ ((other ≡ owner → ⊥) × (list_of (lists_without lists owner slot) other ≡ list_of lists other))
           → IsIn y (list_of (lists_without lists owner slot) other)
-      go (inl h) = rw h.1 (stays_in_without slot y (list_of lists owner) (subst (λ (z : ℕ). IsIn y (list_of lists z)) h.0 i) differs)
+      go (inl h) = rw h.1 (stays_in_without slot y (list_of lists owner)
+          (subst (λ (z : ℕ). IsIn y (list_of lists z)) h.0 i) differs)
       go (inr h) = rw h.1 i
 
   -- and the slot stands in its owner's list no more
   pub not_in_lists_without : HasNoneTwice (list_of lists owner) → IsIn slot (list_of (lists_without lists owner slot) owner) → ⊥
   not_in_lists_without once i =
-      not_in_without slot (list_of lists owner) once (subst (IsIn slot) (get_or-set_same lists owner (without slot (list_of lists owner)) [] within) i)
+      not_in_without slot (list_of lists owner) once
+      (subst (IsIn slot) (get_or-set_same lists owner (without slot (list_of lists owner)) [] within) i)
 
   -- a slot that stood in no list stands in none still
   pub free_in_lists_without : (y : ℕ) → IsFree lists y → IsFree (lists_without lists owner slot) y
   free_in_lists_without y free other i = free other (in_lists_without other y i)
 
 -- the lists where a slot has moved from one owner's list to another's
-module _ (lists off on : List (List ℕ)) (owner target slot : ℕ) (is_off : off ≡ lists_without lists owner slot) (is_on : on ≡ lists_with off target slot) where
+module _ (lists off on : List (List ℕ)) (owner target slot : ℕ) (is_off : off ≡ lists_without lists owner slot)
+    (is_on : on ≡ lists_with off target slot) where
   -- they are as many
   pub length_moved : length on ≡ length lists
   length_moved =

@@ -10,11 +10,13 @@ use Rattle.watch_links.proofs.ListsChanged.{changed_or_same, in_lists_without, n
 use Rattle.watch_links.proofs.ChainFacts.{chain_below, chain_once, chain_kept, chain_after, chain_back, chain_forth, chain_first_back}
 
 -- a link that was set, and the others
-pub link_set : (links : List ℕ) (slot link x : ℕ) → x < length links → slice_index (slice_set links slot link) x ≡ cond (x == slot) link (slice_index links x)
+pub link_set : (links : List ℕ) (slot link x : ℕ) → x < length links → slice_index (slice_set links slot link) x ≡
+    cond (x == slot) link (slice_index links x)
 link_set links slot link x within = go (eqb_tells x slot)
   where
     go : Tells x slot → slice_index (slice_set links slot link) x ≡ cond (x == slot) link (slice_index links x)
-    go (inl h) = rw h.0 (ap (slice_index (slice_set links slot link)) h.1 ∙ get_or-set_same links slot link 0 (subst (λ (z : ℕ). z < length links) h.1 within))
+    go (inl h) = rw h.0 (ap (slice_index (slice_set links slot link)) h.1 ∙ get_or-set_same links slot link 0
+        (subst (λ (z : ℕ). z < length links) h.1 within))
     go (inr h) = rw h.0 (get_or-set_other links slot x link 0 h.1)
 
 -- links led round a slot: from the one before it to the one after it, and back
@@ -35,7 +37,8 @@ chain_off n p n' p' count slot off before link (x ∷ xs) c once out i =
     subst (λ (z : ℕ). IsChain n' p' count before (cond (slot == z) (n slot) z) (without slot (x ∷ xs))) (sym c.0)
     (go (eqb_tells slot x) (λ j. chain_off n p n' p' count slot off x (n x) xs c.3 once.1 once.0 j) i)
   where
-    go : Tells slot x → (IsIn slot xs → IsChain n' p' count x (cond (slot == n x) (n slot) (n x)) (without slot xs)) → IsIn slot (x ∷ xs)
+    go : Tells slot x → (IsIn slot xs → IsChain n' p' count x (cond (slot == n x) (n slot) (n x)) (without slot xs))
+        → IsIn slot (x ∷ xs)
         → IsChain n' p' count before (cond (slot == x) (n slot) x) (cond (slot == x) xs (x ∷ without slot xs))
     go (inl h) more i = rw h.0 first
       where
@@ -73,14 +76,17 @@ length_off firsts owner before after = go (eqb_tells before no_slot)
     go (inr h) = rw h.0 refl
 
 -- those of other owners stay
-first_stays : (firsts : List ℕ) (owner before after other : ℕ) → (other ≡ owner → ⊥) → slice_index (firsts_off firsts owner before after) other ≡ slice_index firsts other
+first_stays : (firsts : List ℕ) (owner before after other : ℕ) → (other ≡ owner → ⊥) → slice_index
+    (firsts_off firsts owner before after) other ≡ slice_index firsts other
 first_stays firsts owner before after other differs = go (eqb_tells before no_slot)
   where
-    go : Tells before no_slot → slice_index (cond (before == no_slot) (slice_set firsts owner after) firsts) other ≡ slice_index firsts other
+    go : Tells before no_slot → slice_index (cond (before == no_slot) (slice_set firsts owner after) firsts) other ≡
+        slice_index firsts other
     go (inl h) = rw h.0 (get_or-set_other firsts owner other after 0 differs)
     go (inr h) = rw h.0 refl
 
-module _ (firsts next prev : List ℕ) (lists : List (List ℕ)) (owner slot : ℕ) (linked : AreLinked firsts next prev lists) (stands : IsIn slot (list_of lists owner)) where
+module _ (firsts next prev : List ℕ) (lists : List (List ℕ)) (owner slot : ℕ)
+    (linked : AreLinked firsts next prev lists) (stands : IsIn slot (list_of lists owner)) where
   owner_inside : owner < length firsts
   owner_inside = let within = owner_within lists owner slot stands in omega (arith, within, linked.per_owner)
 
@@ -89,24 +95,29 @@ module _ (firsts next prev : List ℕ) (lists : List (List ℕ)) (owner slot : �
 
   -- the slot is one that there is
   pub slot_below : slot < length next
-  slot_below = chain_below (slice_index next) (slice_index prev) (length next) no_slot (slice_index firsts owner) slot (list_of lists owner) own_chain stands
+  slot_below = chain_below (slice_index next) (slice_index prev) (length next) no_slot (slice_index firsts owner)
+      slot (list_of lists owner) own_chain stands
 
   own_once : HasNoneTwice (list_of lists owner)
-  own_once = chain_once (slice_index next) (slice_index prev) (length next) no_slot (slice_index firsts owner) (list_of lists owner) linked.few own_chain
+  own_once = chain_once (slice_index next) (slice_index prev) (length next) no_slot (slice_index firsts owner)
+      (list_of lists owner) linked.few own_chain
 
   slot_before : ((slice_index prev slot ≡ no_slot) × (slot ≡ slice_index firsts owner))
       ⊎ (IsIn (slice_index prev slot) (list_of lists owner) × (slice_index next (slice_index prev slot) ≡ slot))
-  slot_before = chain_back (slice_index next) (slice_index prev) (length next) no_slot (slice_index firsts owner) slot (list_of lists owner) own_chain stands
+  slot_before = chain_back (slice_index next) (slice_index prev) (length next) no_slot (slice_index firsts owner)
+      slot (list_of lists owner) own_chain stands
 
   slot_after : (slice_index next slot ≡ no_slot)
       ⊎ (IsIn (slice_index next slot) (list_of lists owner) × (slice_index prev (slice_index next slot) ≡ slot))
-  slot_after = chain_forth (slice_index next) (slice_index prev) (length next) no_slot (slice_index firsts owner) slot (list_of lists owner) own_chain stands
+  slot_after = chain_forth (slice_index next) (slice_index prev) (length next) no_slot (slice_index firsts owner)
+      slot (list_of lists owner) own_chain stands
 
   below_none : (y other : ℕ) → IsIn y (list_of lists other) → y ≡ no_slot → ⊥
   below_none y other i e =
       let within = owner_within lists other y i in
       let inside : other < length firsts = omega (arith, within, linked.per_owner) in
-      let below = chain_below (slice_index next) (slice_index prev) (length next) no_slot (slice_index firsts other) y (list_of lists other) (linked.chains other inside) i in
+      let below = chain_below (slice_index next) (slice_index prev) (length next) no_slot (slice_index firsts other)
+      y (list_of lists other) (linked.chains other inside) i in
       omega (arith, below, linked.few, e)
 
   links_off : IsOff (slice_index next) (slice_index prev)
@@ -120,13 +131,15 @@ module _ (firsts next prev : List ℕ) (lists : List (List ℕ)) (owner slot : �
   }
     where
       leads_forth : (x : ℕ) → x < length next → x ≡ slice_index prev slot
-          → ((slice_index prev slot ≡ no_slot) × (slot ≡ slice_index firsts owner)) ⊎ (IsIn (slice_index prev slot) (list_of lists owner) × (slice_index next (slice_index prev slot) ≡ slot))
+          → ((slice_index prev slot ≡ no_slot) × (slot ≡ slice_index firsts owner)) ⊎
+          (IsIn (slice_index prev slot) (list_of lists owner) × (slice_index next (slice_index prev slot) ≡ slot))
           → slice_index next x ≡ slot
       leads_forth x l e (inl h) = absurd (omega (arith, l, e, h.0, linked.few))
       leads_forth x l e (inr h) = ap (slice_index next) e ∙ h.1
 
       leads_back : (x : ℕ) → x < length next → x ≡ slice_index next slot
-          → (slice_index next slot ≡ no_slot) ⊎ (IsIn (slice_index next slot) (list_of lists owner) × (slice_index prev (slice_index next slot) ≡ slot))
+          → (slice_index next slot ≡ no_slot) ⊎ (IsIn (slice_index next slot) (list_of lists owner) ×
+          (slice_index prev (slice_index next slot) ≡ slot))
           → slice_index prev x ≡ slot
       leads_back x l e (inl h) = absurd (omega (arith, l, e, h, linked.few))
       leads_back x l e (inr h) = ap (slice_index prev) e ∙ h.1
@@ -136,36 +149,44 @@ module _ (firsts next prev : List ℕ) (lists : List (List ℕ)) (owner slot : �
       ≡ cond (slot == slice_index firsts owner) (slice_index next slot) (slice_index firsts owner)
   first_off = go slot_before
     where
-      go : ((slice_index prev slot ≡ no_slot) × (slot ≡ slice_index firsts owner)) ⊎ (IsIn (slice_index prev slot) (list_of lists owner) × (slice_index next (slice_index prev slot) ≡ slot))
+      go : ((slice_index prev slot ≡ no_slot) × (slot ≡ slice_index firsts owner)) ⊎
+          (IsIn (slice_index prev slot) (list_of lists owner) × (slice_index next (slice_index prev slot) ≡ slot))
           → slice_index (cond (slice_index prev slot == no_slot) (slice_set firsts owner (slice_index next slot)) firsts) owner
           ≡ cond (slot == slice_index firsts owner) (slice_index next slot) (slice_index firsts owner)
-      go (inl h) = rw (eq-eqb (slice_index prev slot) no_slot h.0, eq-eqb slot (slice_index firsts owner) h.1) (get_or-set_same firsts owner (slice_index next slot) 0 owner_inside)
+      go (inl h) = rw (eq-eqb (slice_index prev slot) no_slot h.0, eq-eqb slot (slice_index firsts owner) h.1)
+          (get_or-set_same firsts owner (slice_index next slot) 0 owner_inside)
       go (inr h) =
           let inner = below_none (slice_index prev slot) owner h.0 in
           let other : slot ≡ slice_index firsts owner → ⊥ = λ e.
-          inner (chain_first_back (slice_index next) (slice_index prev) (length next) no_slot (slice_index firsts owner) slot (list_of lists owner) own_chain stands e) in
+          inner (chain_first_back (slice_index next) (slice_index prev) (length next) no_slot
+          (slice_index firsts owner) slot (list_of lists owner) own_chain stands e) in
           rw (ne_eqb (slice_index prev slot) no_slot inner, ne_eqb slot (slice_index firsts owner) other) refl
 
   chain_off_owner : IsChain (slice_index (slice_set next (slice_index prev slot) (slice_index next slot)))
       (slice_index (slice_set prev (slice_index next slot) (slice_index prev slot))) (length next) no_slot
-      (slice_index (firsts_off firsts owner (slice_index prev slot) (slice_index next slot)) owner) (without slot (list_of lists owner))
+      (slice_index (firsts_off firsts owner (slice_index prev slot) (slice_index next slot)) owner)
+      (without slot (list_of lists owner))
   chain_off_owner = rw first_off
-      (chain_off (slice_index next) (slice_index prev) (slice_index (slice_set next (slice_index prev slot) (slice_index next slot)))
-      (slice_index (slice_set prev (slice_index next slot) (slice_index prev slot))) (length next) slot links_off no_slot (slice_index firsts owner)
+      (chain_off (slice_index next) (slice_index prev)
+      (slice_index (slice_set next (slice_index prev slot) (slice_index next slot)))
+      (slice_index (slice_set prev (slice_index next slot) (slice_index prev slot))) (length next) slot links_off
+      no_slot (slice_index firsts owner)
       (list_of lists owner) own_chain own_once (λ i. below_none no_slot owner i refl) stands)
 
   -- the slots before and after stand in no other list
   not_before : (other y : ℕ) → (other ≡ owner → ⊥) → IsIn y (list_of lists other) → y ≡ slice_index prev slot → ⊥
   not_before other y differs i e = go slot_before
     where
-      go : ((slice_index prev slot ≡ no_slot) × (slot ≡ slice_index firsts owner)) ⊎ (IsIn (slice_index prev slot) (list_of lists owner) × (slice_index next (slice_index prev slot) ≡ slot)) → ⊥
+      go : ((slice_index prev slot ≡ no_slot) × (slot ≡ slice_index firsts owner)) ⊎
+          (IsIn (slice_index prev slot) (list_of lists owner) × (slice_index next (slice_index prev slot) ≡ slot)) → ⊥
       go (inl h) = below_none y other i (e ∙ h.0)
       go (inr h) = differs (linked.apart other owner y i (subst (λ (z : ℕ). IsIn z (list_of lists owner)) (sym e) h.0))
 
   not_after : (other y : ℕ) → (other ≡ owner → ⊥) → IsIn y (list_of lists other) → y ≡ slice_index next slot → ⊥
   not_after other y differs i e = go slot_after
     where
-      go : (slice_index next slot ≡ no_slot) ⊎ (IsIn (slice_index next slot) (list_of lists owner) × (slice_index prev (slice_index next slot) ≡ slot)) → ⊥
+      go : (slice_index next slot ≡ no_slot) ⊎ (IsIn (slice_index next slot) (list_of lists owner) ×
+          (slice_index prev (slice_index next slot) ≡ slot)) → ⊥
       go (inl h) = below_none y other i (e ∙ h)
       go (inr h) = differs (linked.apart other owner y i (subst (λ (z : ℕ). IsIn z (list_of lists owner)) (sym e) h.0))
 
@@ -173,9 +194,12 @@ module _ (firsts next prev : List ℕ) (lists : List (List ℕ)) (owner slot : �
       → IsChain (slice_index (slice_set next (slice_index prev slot) (slice_index next slot)))
       (slice_index (slice_set prev (slice_index next slot) (slice_index prev slot))) (length next) no_slot
       (slice_index (firsts_off firsts owner (slice_index prev slot) (slice_index next slot)) other) (list_of lists other)
-  chain_off_other other differs inside = rw (first_stays firsts owner (slice_index prev slot) (slice_index next slot) other differs)
-      (chain_kept (slice_index next) (slice_index prev) (slice_index (slice_set next (slice_index prev slot) (slice_index next slot)))
-      (slice_index (slice_set prev (slice_index next slot) (slice_index prev slot))) (length next) (length next) no_slot (slice_index firsts other)
+  chain_off_other other differs inside = rw (first_stays firsts owner (slice_index prev slot) (slice_index next slot)
+      other differs)
+      (chain_kept (slice_index next) (slice_index prev)
+      (slice_index (slice_set next (slice_index prev slot) (slice_index next slot)))
+      (slice_index (slice_set prev (slice_index next slot) (slice_index prev slot))) (length next) (length next)
+      no_slot (slice_index firsts other)
       (list_of lists other) (omega arith) (linked.chains other inside)
       (λ y i l. (
         get_or-set_other next (slice_index prev slot) y (slice_index next slot) 0 (not_before other y differs i),
@@ -188,12 +212,15 @@ module _ (firsts next prev : List ℕ) (lists : List (List ℕ)) (owner slot : �
 
   -- the links are those of the lists where the slot is off
   pub linked_off : AreLinked (firsts_off firsts owner (slice_index prev slot) (slice_index next slot))
-      (slice_set next (slice_index prev slot) (slice_index next slot)) (slice_set prev (slice_index next slot) (slice_index prev slot))
+      (slice_set next (slice_index prev slot) (slice_index next slot))
+      (slice_set prev (slice_index next slot) (slice_index prev slot))
       (lists_without lists owner slot)
   linked_off = record {
-    per_owner = length-set lists owner (without slot (list_of lists owner)) ∙ linked.per_owner ∙ sym (length_off firsts owner (slice_index prev slot) (slice_index next slot));
+    per_owner = length-set lists owner (without slot (list_of lists owner)) ∙ linked.per_owner
+        ∙ sym (length_off firsts owner (slice_index prev slot) (slice_index next slot));
     few = rw (length-set next (slice_index prev slot) (slice_index next slot)) linked.few;
-    both_ways = length-set prev (slice_index next slot) (slice_index prev slot) ∙ linked.both_ways ∙ sym (length-set next (slice_index prev slot) (slice_index next slot));
+    both_ways = length-set prev (slice_index next slot) (slice_index prev slot) ∙ linked.both_ways
+        ∙ sym (length-set next (slice_index prev slot) (slice_index next slot));
     chains = λ other inside. rw (length-set next (slice_index prev slot) (slice_index next slot))
         (chain other (omega (arith, inside, length_off firsts owner (slice_index prev slot) (slice_index next slot)))
         (changed_or_same lists owner other (without slot (list_of lists owner)) (owner_within lists owner slot stands)));

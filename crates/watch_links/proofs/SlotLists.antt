@@ -15,7 +15,8 @@ unfolding without
 in_without slot y [] i = i
 in_without slot y (x ∷ xs) i = go (in_without slot y xs) (eqb_tells slot x) i
   where
-    go : (IsIn y (without slot xs) → IsIn y xs) → Tells slot x → IsIn y (cond (slot == x) xs (x ∷ without slot xs)) → IsIn y (x ∷ xs)
+    go : (IsIn y (without slot xs) → IsIn y xs) → Tells slot x → IsIn y (cond (slot == x) xs (x ∷ without slot xs))
+        → IsIn y (x ∷ xs)
     go more (inl h) i = inr (rw h.0 at i)
     go more (inr h) i = step (rw h.0 at i)
       where
@@ -43,7 +44,8 @@ unfolding without
 stays_in_without slot y [] i other = i
 stays_in_without slot y (x ∷ xs) i other = go (λ j. stays_in_without slot y xs j other) (eqb_tells slot x) i
   where
-    go : (IsIn y xs → IsIn y (without slot xs)) → Tells slot x → IsIn y (x ∷ xs) → IsIn y (cond (slot == x) xs (x ∷ without slot xs))
+    go : (IsIn y xs → IsIn y (without slot xs)) → Tells slot x → IsIn y (x ∷ xs)
+        → IsIn y (cond (slot == x) xs (x ∷ without slot xs))
     go more (inl h) (inl e) = absurd (other (e ∙ sym h.1))
     go more (inl h) (inr j) = rw h.0 j
     go more (inr h) (inl e) = rw h.0 (inl e)
@@ -72,7 +74,8 @@ unfolding following
 following_in slot [] = tt
 following_in slot (x ∷ xs) = go (eqb_tells slot x) (following_in slot xs)
   where
-    go : Tells slot x → IfSome (following slot xs) (λ y. IsIn y xs) → IfSome (cond (slot == x) (head_of xs) (following slot xs)) (λ y. IsIn y (x ∷ xs))
+    go : Tells slot x → IfSome (following slot xs) (λ y. IsIn y xs)
+        → IfSome (cond (slot == x) (head_of xs) (following slot xs)) (λ y. IsIn y (x ∷ xs))
     go (inl h) more = rw h.0 (later_in x xs (head_of xs) (head_in xs))
     go (inr h) more = rw h.0 (later_in x xs (following slot xs) more)
 
@@ -98,15 +101,18 @@ unfolding rest_from
 rest_at_end xs = refl
 
 -- what is left of a walk: the slot where it is, and what is left from the following one on
-pub rest_is : (slot : ℕ) (xs : List ℕ) → HasNoneTwice xs → IsIn slot xs → rest_from (Some slot) xs ≡ slot ∷ rest_from (following slot xs) xs
+pub rest_is : (slot : ℕ) (xs : List ℕ) → HasNoneTwice xs → IsIn slot xs → rest_from (Some slot) xs ≡ slot
+    ∷ rest_from (following slot xs) xs
 unfolding rest_from following
 rest_is slot [] once i = absurd i
 rest_is slot (x ∷ xs) once i = go (eqb_tells slot x) (λ j. rest_is slot xs once.1 j) i
   where
     go : Tells slot x → (IsIn slot xs → rest_from (Some slot) xs ≡ slot ∷ rest_from (following slot xs) xs) → IsIn slot (x ∷ xs)
-        → cond (slot == x) (x ∷ xs) (rest_from (Some slot) xs) ≡ slot ∷ rest_from (cond (slot == x) (head_of xs) (following slot xs)) (x ∷ xs)
+        → cond (slot == x) (x ∷ xs) (rest_from (Some slot) xs) ≡ slot
+        ∷ rest_from (cond (slot == x) (head_of xs) (following slot xs)) (x ∷ xs)
     go (inl h) more i =
-        let rest : rest_from (head_of xs) (x ∷ xs) ≡ xs = rest_skip (head_of xs) x xs (not_first x xs (head_of xs) once.0 (head_in xs)) ∙ rest_at_head xs in
+        let rest : rest_from (head_of xs) (x ∷ xs) ≡ xs = rest_skip (head_of xs) x xs
+        (not_first x xs (head_of xs) once.0 (head_in xs)) ∙ rest_at_head xs in
         rw h.0 (ap (λ (z : ℕ). z ∷ xs) (sym h.1) ∙ ap (λ (zs : List ℕ). slot ∷ zs) (sym rest))
     go (inr h) more (inl e) = absurd (h.1 e)
     go (inr h) more (inr j) =
@@ -114,7 +120,8 @@ rest_is slot (x ∷ xs) once i = go (eqb_tells slot x) (λ j. rest_is slot xs on
         rw h.0 (more j ∙ ap (λ (zs : List ℕ). slot ∷ zs) (sym rest))
 
 -- what is left of a walk from the following slot on stays, where the slot is taken off
-pub rest_without : (slot : ℕ) (xs : List ℕ) → HasNoneTwice xs → rest_from (following slot xs) (without slot xs) ≡ rest_from (following slot xs) xs
+pub rest_without : (slot : ℕ) (xs : List ℕ) → HasNoneTwice xs → rest_from (following slot xs) (without slot xs) ≡
+    rest_from (following slot xs) xs
 unfolding following without
 rest_without slot [] once = refl
 rest_without slot (x ∷ xs) once = go (eqb_tells slot x) (rest_without slot xs once.1)

@@ -31,7 +31,8 @@ walks next firsts = map (walk next (length next)) firsts
 -- links lead from slot to slot both ways, to the end
 abbrev pub IsChain : (next prev : ℕ → ℕ) (count before link : ℕ) → List ℕ → Type 0
 IsChain next prev count before link [] = link ≡ no_slot
-IsChain next prev count before link (x ∷ xs) = (link ≡ x) × (x < count) × (prev x ≡ before) × IsChain next prev count x (next x) xs
+IsChain next prev count before link (x ∷ xs) = (link ≡ x) × (x < count) × (prev x ≡ before) × IsChain next prev count
+    x (next x) xs
 
 -- the links are those of these lists, and no slot stands in the lists of two owners
 pub record AreLinked (firsts next prev : List ℕ) (lists : List (List ℕ)) : Type 0 where

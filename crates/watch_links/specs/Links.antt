@@ -61,5 +61,6 @@ rest_from (Some slot) (x ∷ xs) = cond (slot == x) (x ∷ xs) (rest_from (Some 
 pub record AreWhole (links : Links) : Type 0 where
   pub once : (owner : ℕ) → HasNoneTwice (list_of links.lists owner)
   pub within : (owner slot : ℕ) → IsIn slot (list_of links.lists owner) → slot < links.slots
-  pub apart : (owner other slot : ℕ) → IsIn slot (list_of links.lists owner) → IsIn slot (list_of links.lists other) → owner ≡ other
+  pub apart : (owner other slot : ℕ) → IsIn slot (list_of links.lists owner) → IsIn slot (list_of links.lists other)
+      → owner ≡ other
   pub few : links.slots ≤ 4294967295

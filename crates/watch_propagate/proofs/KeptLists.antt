@@ -19,7 +19,8 @@ get_end [] y = refl
 get_end (z ∷ xs) y = get_end xs y
 
 -- and what stands within the list with more behind stands in the list
-pub get_front : {A : Type 0} (xs ys : List A) (i : ℕ) (x : A) → i < length xs → slice_get (xs ++ ys) i ≡ Some x → slice_get xs i ≡ Some x
+pub get_front : {A : Type 0} (xs ys : List A) (i : ℕ) (x : A) → i < length xs → slice_get (xs ++ ys) i ≡ Some x
+    → slice_get xs i ≡ Some x
 get_front [] ys i x h is = absurd (omega (arith, h))
 get_front (z ∷ xs) ys zero x h is = is
 get_front (z ∷ xs) ys (suc i) x h is = get_front xs ys i x (omega (arith, h)) is
@@ -32,12 +33,14 @@ get_push [] y (suc i) x is = let no : ⊥ = cc in absurd no
 get_push (z ∷ xs) y zero x is = inl is
 get_push (z ∷ xs) y (suc i) x is = step (get_push xs y i x is)
   where
-    step : (slice_get xs i ≡ Some x) ⊎ ((i ≡ length xs) × (y ≡ x)) → (slice_get xs i ≡ Some x) ⊎ ((suc i ≡ suc (length xs)) × (y ≡ x))
+    step : (slice_get xs i ≡ Some x) ⊎ ((i ≡ length xs) × (y ≡ x)) → (slice_get xs i ≡ Some x) ⊎
+        ((suc i ≡ suc (length xs)) × (y ≡ x))
     step (inl h) = inl h
     step (inr h) = inr (ap suc h.0, h.1)
 
 -- what stands in a front
-pub get_take : {A : Type 0} (n : ℕ) (xs : List A) (i : ℕ) (x : A) → slice_get (take n xs) i ≡ Some x → (i < n) × (slice_get xs i ≡ Some x)
+pub get_take : {A : Type 0} (n : ℕ) (xs : List A) (i : ℕ) (x : A) → slice_get (take n xs) i ≡ Some x →
+    (i < n) × (slice_get xs i ≡ Some x)
 get_take zero xs i x is = let no : ⊥ = cc in absurd no
 get_take (suc n) [] i x is = let no : ⊥ = cc in absurd no
 get_take (suc n) (y ∷ xs) zero x is = (omega arith, is)
@@ -52,4 +55,5 @@ stands_at xs x c = (c.0, slice_get-get_or xs c.0 x c.1 ∙ ap Some c.2)
 
 -- an item of a front is one of the list
 pub from_front : {A : Type 0} (n : ℕ) (xs : List A) (x : A) → Contains (take n xs) x → Contains xs x
-from_front {A} n xs x c = subst (λ (ys : List A). Contains ys x) (take-append-drop n xs) (Contains-append_left (take n xs) (drop n xs) x c)
+from_front {A} n xs x c = subst (λ (ys : List A). Contains ys x) (take-append-drop n xs)
+    (Contains-append_left (take n xs) (drop n xs) x c)

@@ -27,10 +27,18 @@ opposite lit = go (lit.0 % 2 == 1) refl
     go : (b : Bool) → (lit.0 % 2 == 1) ≡ b → AreOpposite lit (flipped (lit.0 % 2 == 1))
     go true e =
         let odd = eqb-true (lit.0 % 2) 1 e in
-        rw e (record { same = omega arith; differ = λ s. let n : 2 * (lit.0 / 2) ≡ lit.0 = ap (λ (l : Lit). l.0) s in omega (arith, n, odd) })
+        rw e (record {
+          same = omega arith;
+          differ = λ s. let n : 2 * (lit.0 / 2) ≡ lit.0 = ap (λ (l : Lit). l.0)
+              s in omega (arith, n, odd);
+        })
     go false e =
         let even = eqb-false (lit.0 % 2) 1 e in
-        rw e (record { same = omega arith; differ = λ s. let n : 2 * (lit.0 / 2) + 1 ≡ lit.0 = ap (λ (l : Lit). l.0) s in absurd (omega (arith, n, even)) })
+        rw e (record {
+          same = omega arith;
+          differ = λ s. let n : 2 * (lit.0 / 2) + 1 ≡ lit.0 = ap (λ (l : Lit). l.0)
+              s in absurd (omega (arith, n, even));
+        })
 
 -- no literal of a trail stands beside its negation
 pub lits_consistent : (t : Trail) → AreEntries t → IsConsistent (lits_of t)
@@ -38,15 +46,19 @@ lits_consistent t are lit there negated =
     let one = stands_at (lits_of t) lit there in
     let other = stands_at (lits_of t) (negation lit) negated in
     let here : slice_get (map (λ (e : Entry). var_of e.lit) t.entries) one.0 ≡ Some (var_of lit) = var_at one.0 lit one.1 in
-    let same : one.0 ≡ other.0 = are.once one.0 other.0 (var_of lit) here (var_at other.0 (negation lit) other.1 ∙ ap Some (opposite lit).same) in
-    (opposite lit).differ (same_get (lits_of t) other.0 (negation lit) lit other.1 (ap (slice_get (lits_of t)) (sym same) ∙ one.1))
+    let same : one.0 ≡ other.0 = are.once one.0 other.0 (var_of lit) here (var_at other.0 (negation lit) other.1
+    ∙ ap Some (opposite lit).same) in
+    (opposite lit).differ (same_get (lits_of t) other.0 (negation lit) lit other.1
+    (ap (slice_get (lits_of t)) (sym same) ∙ one.1))
   where
-    var_at : (i : ℕ) (l : Lit) → slice_get (lits_of t) i ≡ Some l → slice_get (map (λ (e : Entry). var_of e.lit) t.entries) i ≡ Some (var_of l)
+    var_at : (i : ℕ) (l : Lit) → slice_get (lits_of t) i ≡ Some l
+        → slice_get (map (λ (e : Entry). var_of e.lit) t.entries) i ≡ Some (var_of l)
     var_at i l is =
         slice_get-map (λ (e : Entry). var_of e.lit) t.entries i
         ∙ by (slice_get t.entries i) (sym (slice_get-map (λ (e : Entry). e.lit) t.entries i) ∙ is)
       where
-        by : (o : Option Entry) → option_map (λ (e : Entry). e.lit) o ≡ Some l → option_map (λ (e : Entry). var_of e.lit) o ≡ Some (var_of l)
+        by : (o : Option Entry) → option_map (λ (e : Entry). e.lit) o ≡ Some l → option_map
+            (λ (e : Entry). var_of e.lit) o ≡ Some (var_of l)
         by (Some e) at = ap (λ (o : Option Lit). option_map var_of o) at
         by None at = let no : ⊥ = cc in absurd no
 
@@ -74,7 +86,8 @@ among (x ∷ lits) lit = go (same_lit x lit) (among lits lit)
     only (zero, h, is) = is
     only (suc k, h, is) = absurd (omega (arith, h))
 
-    go : (x ≡ lit) ⊎ (x ≡ lit → ⊥) → Contains lits lit ⊎ (Contains lits lit → ⊥) → Contains (x ∷ lits) lit ⊎ (Contains (x ∷ lits) lit → ⊥)
+    go : (x ≡ lit) ⊎ (x ≡ lit → ⊥) → Contains lits lit ⊎ (Contains lits lit → ⊥) → Contains (x ∷ lits) lit ⊎
+        (Contains (x ∷ lits) lit → ⊥)
     go (inl e) more = inl (0, omega arith, e)
     go (inr d) (inl c) = inl (Contains-append_right (x ∷ []) lits lit c)
     go (inr d) (inr out) = inr (λ c. neither (Contains-append_cases (x ∷ []) lits lit c))

@@ -19,16 +19,19 @@ same_lits a clause w v = same_get a.clauses clause w.lits v.lits w.is_clause v.i
 
 pub same_first : (a : Arena) (clause : ℕ) (w v : IsWatched a clause) → w.first ≡ v.first
 same_first a clause w v =
-    same_get v.lits 0 w.first v.first (ap (λ (ls : List Lit). slice_get ls 0) (sym (same_lits a clause w v)) ∙ w.is_first) v.is_first
+    same_get v.lits 0 w.first v.first (ap (λ (ls : List Lit). slice_get ls 0) (sym (same_lits a clause w v))
+    ∙ w.is_first) v.is_first
 
 pub same_second : (a : Arena) (clause : ℕ) (w v : IsWatched a clause) → w.second ≡ v.second
 same_second a clause w v =
-    same_get v.lits 1 w.second v.second (ap (λ (ls : List Lit). slice_get ls 1) (sym (same_lits a clause w v)) ∙ w.is_second) v.is_second
+    same_get v.lits 1 w.second v.second (ap (λ (ls : List Lit). slice_get ls 1) (sym (same_lits a clause w v))
+    ∙ w.is_second) v.is_second
 
 -- ---- one more clause
 
 -- what stood in a list stands there with one number more
-keeps_with : (lists : List (List ℕ)) (owner slot other y : ℕ) → IsIn y (list_of lists other) → IsIn y (list_of (lists_with lists owner slot) other)
+keeps_with : (lists : List (List ℕ)) (owner slot other y : ℕ) → IsIn y (list_of lists other)
+    → IsIn y (list_of (lists_with lists owner slot) other)
 keeps_with lists owner slot other y i = go (cases_lt owner (length lists))
   where
     go : (owner < length lists) ⊎ (length lists ≤ owner) → IsIn y (list_of (lists_with lists owner slot) other)
@@ -36,7 +39,8 @@ keeps_with lists owner slot other y i = go (cases_lt owner (length lists))
     go (inr past) = rw (set_past lists owner (slot ∷ list_of lists owner) past) i
 
 -- and nothing else but that number
-from_with : (lists : List (List ℕ)) (owner slot other y : ℕ) → (y ≡ slot → ⊥) → IsIn y (list_of (lists_with lists owner slot) other) → IsIn y (list_of lists other)
+from_with : (lists : List (List ℕ)) (owner slot other y : ℕ) → (y ≡ slot → ⊥)
+    → IsIn y (list_of (lists_with lists owner slot) other) → IsIn y (list_of lists other)
 from_with lists owner slot other y differs i = go (cases_lt owner (length lists))
   where
     there : ((other ≡ owner) × (y ≡ slot)) ⊎ IsIn y (list_of lists other) → IsIn y (list_of lists other)
@@ -45,15 +49,19 @@ from_with lists owner slot other y differs i = go (cases_lt owner (length lists)
 
     go : (owner < length lists) ⊎ (length lists ≤ owner) → IsIn y (list_of lists other)
     go (inl within) = there (in_lists_with lists owner slot within other y i)
-    go (inr past) = subst (λ (ls : List (List ℕ)). IsIn y (list_of ls other)) (set_past lists owner (slot ∷ list_of lists owner) past) i
+    go (inr past) = subst (λ (ls : List (List ℕ)). IsIn y (list_of ls other))
+        (set_past lists owner (slot ∷ list_of lists owner) past) i
 
-keeps_watching : (lists : List (List ℕ)) (lits : List Lit) (slot other y : ℕ) → IsIn y (list_of lists other) → IsIn y (list_of (watching lists lits slot) other)
+keeps_watching : (lists : List (List ℕ)) (lits : List Lit) (slot other y : ℕ) → IsIn y (list_of lists other)
+    → IsIn y (list_of (watching lists lits slot) other)
 keeps_watching lists [] slot other y i = i
 keeps_watching lists (first ∷ []) slot other y i = i
 keeps_watching lists (first ∷ second ∷ rest) slot other y i =
-    keeps_with (lists_with lists (place_of first) slot) (place_of second) slot other y (keeps_with lists (place_of first) slot other y i)
+    keeps_with (lists_with lists (place_of first) slot) (place_of second) slot other y
+    (keeps_with lists (place_of first) slot other y i)
 
-from_watching : (lists : List (List ℕ)) (lits : List Lit) (slot other y : ℕ) → (y ≡ slot → ⊥) → IsIn y (list_of (watching lists lits slot) other)
+from_watching : (lists : List (List ℕ)) (lits : List Lit) (slot other y : ℕ) → (y ≡ slot → ⊥)
+    → IsIn y (list_of (watching lists lits slot) other)
     → IsIn y (list_of lists other)
 from_watching lists [] slot other y differs i = i
 from_watching lists (first ∷ []) slot other y differs i = i
@@ -62,11 +70,13 @@ from_watching lists (first ∷ second ∷ rest) slot other y differs i =
     (from_with (lists_with lists (place_of first) slot) (place_of second) slot other y differs i)
 
 -- a watched clause is watched still
-pub watched_added : (old new : Arena) (lits : List Lit) (clause : ℕ) → HasAdded old new lits → IsWatched old clause → IsWatched new clause
+pub watched_added : (old new : Arena) (lits : List Lit) (clause : ℕ) → HasAdded old new lits → IsWatched old clause
+    → IsWatched new clause
 watched_added old new lits clause added w =
     record {
       lits = w.lits;
-      is_clause = ap (λ (cs : List (List Lit)). slice_get cs clause) added.clauses ∙ get_left old.clauses (lits ∷ []) clause w.lits w.is_clause;
+      is_clause = ap (λ (cs : List (List Lit)). slice_get cs clause) added.clauses ∙ get_left old.clauses (lits ∷ [])
+          clause w.lits w.is_clause;
       first = w.first;
       second = w.second;
       is_first = w.is_first;
@@ -88,13 +98,15 @@ pub record WasWatched (old : Arena) (clause : ℕ) (lits : List Lit) (first seco
   pub is_second : watched.second ≡ second
 
 -- a watched clause is the added one, or was watched before
-pub watched_before : (old new : Arena) (lits : List Lit) (clause : ℕ) → HasAdded old new lits → (clause ≡ length old.clauses → ⊥) → (w : IsWatched new clause)
+pub watched_before : (old new : Arena) (lits : List Lit) (clause : ℕ) → HasAdded old new lits →
+    (clause ≡ length old.clauses → ⊥) → (w : IsWatched new clause)
     → WasWatched old clause w.lits w.first w.second
 watched_before old new lits clause added differs w =
     record {
       watched = record {
         lits = w.lits;
-        is_clause = get_front old.clauses (lits ∷ []) clause w.lits (omega (arith, differs, within, length_push old.clauses lits)) there;
+        is_clause = get_front old.clauses (lits ∷ []) clause w.lits
+            (omega (arith, differs, within, length_push old.clauses lits)) there;
         first = w.first;
         second = w.second;
         is_first = w.is_first;
@@ -119,7 +131,8 @@ watched_before old new lits clause added differs w =
         (subst (λ (ls : List (List ℕ)). IsIn clause (list_of ls (place_of lit))) added.watchers i)
 
 -- the literals of the added clause
-pub added_lits : (old new : Arena) (lits : List Lit) → HasAdded old new lits → slice_get new.clauses (length old.clauses) ≡ Some lits
+pub added_lits : (old new : Arena) (lits : List Lit) → HasAdded old new lits → slice_get new.clauses
+    (length old.clauses) ≡ Some lits
 added_lits old new lits added =
     ap (λ (cs : List (List Lit)). slice_get cs (length old.clauses)) added.clauses ∙ get_end old.clauses lits
 
@@ -128,7 +141,8 @@ pub record HasTwo (lits : List Lit) (first second : Lit) : Type 0 where
   pub rest : List Lit
   pub is : lits ≡ first ∷ second ∷ rest
 
-pub two_at : (lits : List Lit) (first second : Lit) → slice_get lits 0 ≡ Some first → slice_get lits 1 ≡ Some second → HasTwo lits first second
+pub two_at : (lits : List Lit) (first second : Lit) → slice_get lits 0 ≡ Some first → slice_get lits 1 ≡ Some second
+    → HasTwo lits first second
 two_at [] first second one other = let no : ⊥ = cc in absurd no
 two_at (x ∷ []) first second one other = let no : ⊥ = cc in absurd no
 two_at (x ∷ y ∷ rest) first second one other =
@@ -151,19 +165,23 @@ watched_last old new first second rest added first_within second_within =
       second = second;
       is_first = refl;
       is_second = refl;
-      by_first = seen first (keeps_with (one_with old first) (place_of second) (length old.clauses) (place_of first) (length old.clauses)
+      by_first = seen first (keeps_with (one_with old first) (place_of second) (length old.clauses) (place_of first)
+          (length old.clauses)
           (lists_with_has old.watchers (place_of first) (length old.clauses) first_within));
-      by_second = seen second (lists_with_has (one_with old first) (place_of second) (length old.clauses) (omega (arith, second_within, as_many)));
+      by_second = seen second (lists_with_has (one_with old first) (place_of second) (length old.clauses)
+          (omega (arith, second_within, as_many)));
     }
   where
     as_many : length (one_with old first) ≡ length old.watchers
     as_many = length-set old.watchers (place_of first) (length old.clauses ∷ list_of old.watchers (place_of first))
 
-    seen : (lit : Lit) → IsIn (length old.clauses) (list_of (lists_with (one_with old first) (place_of second) (length old.clauses)) (place_of lit))
+    seen : (lit : Lit) → IsIn (length old.clauses)
+        (list_of (lists_with (one_with old first) (place_of second) (length old.clauses)) (place_of lit))
         → IsIn (length old.clauses) (watchers_of new lit)
     seen lit i = subst (λ (ls : List (List ℕ)). IsIn (length old.clauses) (list_of ls (place_of lit))) (sym added.watchers) i
 
-pub added_is_watched : (old new : Arena) (lits : List Lit) (first second : Lit) (rest : List Lit) → HasAdded old new lits → lits ≡ first ∷ second ∷ rest
+pub added_is_watched : (old new : Arena) (lits : List Lit) (first second : Lit) (rest : List Lit)
+    → HasAdded old new lits → lits ≡ first ∷ second ∷ rest
     → AreWithin old lits → IsWatched new (length old.clauses)
 added_is_watched old new lits first second rest added is within =
     let here : HasAdded old new (first ∷ second ∷ rest) = subst (HasAdded old new) is added in
@@ -172,7 +190,8 @@ added_is_watched old new lits first second rest added is within =
 
 -- ---- satisfied clauses off the lists
 
-list_map : (g : List ℕ → List ℕ) → g [] ≡ [] → (lists : List (List ℕ)) (owner : ℕ) → list_of (map g lists) owner ≡ g (list_of lists owner)
+list_map : (g : List ℕ → List ℕ) → g [] ≡ [] → (lists : List (List ℕ)) (owner : ℕ) → list_of (map g lists) owner ≡ g
+    (list_of lists owner)
 list_map g empty [] owner = sym empty
 list_map g empty (xs ∷ lists) zero = refl
 list_map g empty (xs ∷ lists) (suc owner) = list_map g empty lists owner
@@ -190,7 +209,8 @@ stays_in_filter : (p : ℕ → Bool) (y : ℕ) (xs : List ℕ) → IsIn y xs →
 stays_in_filter p y [] i passes = i
 stays_in_filter p y (x ∷ xs) i passes = go (p x) refl (λ j. stays_in_filter p y xs j passes) i
   where
-    go : (b : Bool) → p x ≡ b → (IsIn y xs → IsIn y (filter p xs)) → IsIn y (x ∷ xs) → IsIn y (cond b (x ∷ filter p xs) (filter p xs))
+    go : (b : Bool) → p x ≡ b → (IsIn y xs → IsIn y (filter p xs)) → IsIn y (x ∷ xs)
+        → IsIn y (cond b (x ∷ filter p xs) (filter p xs))
     go true is more (inl e) = inl e
     go true is more (inr j) = inr (more j)
     go false is more (inl e) = let no : true ≡ false = sym passes ∙ ap p e ∙ is in cc
@@ -201,7 +221,8 @@ module _ (old new : Arena) (truths : List Bool) (clauses : new.clauses ≡ old.c
   -- a literal's watchers are those that stay
   left_of : (lit : Lit) → watchers_of new lit ≡ filter (is_left truths old.clauses) (watchers_of old lit)
   left_of lit =
-      ap (λ (ls : List (List ℕ)). list_of ls (place_of lit)) watchers ∙ list_map (filter (is_left truths old.clauses)) refl old.watchers (place_of lit)
+      ap (λ (ls : List (List ℕ)). list_of ls (place_of lit)) watchers
+      ∙ list_map (filter (is_left truths old.clauses)) refl old.watchers (place_of lit)
 
   -- a clause that is watched was watched before
   pub dropped_before : (clause : ℕ) (w : IsWatched new clause) → WasWatched old clause w.lits w.first w.second
@@ -240,10 +261,12 @@ module _ (old new : Arena) (truths : List Bool) (clauses : new.clauses ≡ old.c
     where
       passes : is_left truths old.clauses clause ≡ true
       passes =
-          ap (λ (ls : List Lit). not (is_satisfied truths ls)) (get_or_from_slice_get old.clauses clause w.lits [] w.is_clause) ∙ ap not unsatisfied
+          ap (λ (ls : List Lit). not (is_satisfied truths ls)) (get_or_from_slice_get old.clauses clause w.lits []
+          w.is_clause) ∙ ap not unsatisfied
 
       by : (lit : Lit) → IsIn clause (watchers_of old lit) → IsIn clause (watchers_of new lit)
-      by lit i = subst (IsIn clause) (sym (left_of lit)) (stays_in_filter (is_left truths old.clauses) clause (watchers_of old lit) i passes)
+      by lit i = subst (IsIn clause) (sym (left_of lit)) (stays_in_filter (is_left truths old.clauses) clause
+          (watchers_of old lit) i passes)
 
   -- a watched clause is watched still, or has a literal whose truth is set
   pub watched_or_satisfied : (clause : ℕ) (w : IsWatched old clause) → IsWatched new clause ⊎ (is_satisfied truths w.lits ≡ true)

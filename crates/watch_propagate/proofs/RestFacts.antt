@@ -18,16 +18,19 @@ use Rattle.watch_propagate.proofs.SameFacts.{at_rest_same}
 -- the two watched literals of a clause differ
 pub watched_differ : (a : Arena) (clause : ℕ) (w : IsWatched a clause) → AreWatchers a → w.first ≢ w.second
 watched_differ a clause w are same =
-    let once : OnlyOnce w.lits = All-contains OnlyOnce a.clauses w.lits are.distinct (contains_at a.clauses clause w.lits w.is_clause) in
+    let once : OnlyOnce w.lits = All-contains OnlyOnce a.clauses w.lits are.distinct
+    (contains_at a.clauses clause w.lits w.is_clause) in
     let no : 0 ≡ 1 = once 0 1 w.second (w.is_first ∙ ap Some same) w.is_second in
     omega (arith, no)
 
 -- two literals of a clause of which one is true, where the other is false
-pub rest_by_two : (truths lits : List Lit) (first second : Lit) → IsGuarded truths truths first second → Contains lits first → Contains lits second
+pub rest_by_two : (truths lits : List Lit) (first second : Lit) → IsGuarded truths truths first second
+    → Contains lits first → Contains lits second
     → first ≢ second → IsAtRest truths lits
 rest_by_two truths lits first second guarded first_in second_in differ = go (among truths first) (among truths second)
   where
-    go : Contains truths first ⊎ (Contains truths first → ⊥) → Contains truths second ⊎ (Contains truths second → ⊥) → IsAtRest truths lits
+    go : Contains truths first ⊎ (Contains truths first → ⊥) → Contains truths second ⊎ (Contains truths second → ⊥)
+        → IsAtRest truths lits
     go (inl holds) other = inl (record { lit = first; is_in = first_in; is_true = holds })
     go (inr out) (inl holds) = inl (record { lit = second; is_in = second_in; is_true = holds })
     go (inr out) (inr neither) =
@@ -41,22 +44,26 @@ rest_by_two truths lits first second guarded first_in second_in differ = go (amo
           second_open = record { not_true = neither; not_false = λ c. out (guarded.second_false c) };
         })
 
-pub rest_of_watched : (a : Arena) (truths : List Lit) → AreWatchers a → ((clause : ℕ) (w : IsWatched a clause) → IsGuarded truths truths w.first w.second)
+pub rest_of_watched : (a : Arena) (truths : List Lit) → AreWatchers a →
+    ((clause : ℕ) (w : IsWatched a clause) → IsGuarded truths truths w.first w.second)
     → AreAtRest a truths
 rest_of_watched a truths are guarded clause w =
-    rest_by_two truths w.lits w.first w.second (guarded clause w) (contains_at w.lits 0 w.first w.is_first) (contains_at w.lits 1 w.second w.is_second)
+    rest_by_two truths w.lits w.first w.second (guarded clause w) (contains_at w.lits 0 w.first w.is_first)
+    (contains_at w.lits 1 w.second w.is_second)
     (watched_differ a clause w are)
 
 -- ---- the watch rule
 
 -- where a level begins
-pub rest_at_starts : (a : Arena) (t : Trail) (i start : ℕ) → AreWatchers a → AreEntries t → KeepsWatch a t → slice_get t.starts i ≡ Some start
+pub rest_at_starts : (a : Arena) (t : Trail) (i start : ℕ) → AreWatchers a → AreEntries t → KeepsWatch a t
+    → slice_get t.starts i ≡ Some start
     → AreAtRest a (take start (lits_of t))
 rest_at_starts a t i start watchers are k is =
     rest_of_watched a (take start (lits_of t)) watchers (λ clause w. (k.guarded clause w).at_starts i start is)
 
 -- and where all entries have been gone through
-pub rest_at_end : (a : Arena) (t : Trail) → AreWatchers a → AreEntries t → KeepsWatch a t → t.gone ≡ length t.entries → AreAtRest a (lits_of t)
+pub rest_at_end : (a : Arena) (t : Trail) → AreWatchers a → AreEntries t → KeepsWatch a t → t.gone ≡ length t.entries
+    → AreAtRest a (lits_of t)
 rest_at_end a t watchers are k whole =
     rest_of_watched a (lits_of t) watchers
     (λ clause w. subst (λ (ls : List Lit). IsGuarded ls (lits_of t) w.first w.second) all (k.guarded clause w).at_present)
@@ -73,7 +80,8 @@ rest_rewatched old new truths re rest clause w =
     at_rest_same truths v.lits w.lits (re.clauses.same clause v.lits w.lits v.is_clause w.is_clause) (rest clause v)
 
 -- where a clause is added on which unit propagation is at rest
-pub rest_added : (old new : Arena) (lits truths : List Lit) → HasAdded old new lits → IsAtRest truths lits → AreAtRest old truths → AreAtRest new truths
+pub rest_added : (old new : Arena) (lits truths : List Lit) → HasAdded old new lits → IsAtRest truths lits
+    → AreAtRest old truths → AreAtRest new truths
 rest_added old new lits truths added last rest clause w = go (cases_eq clause (length old.clauses))
   where
     go : (clause ≡ length old.clauses) ⊎ (clause ≡ length old.clauses → ⊥) → IsAtRest truths w.lits
@@ -86,12 +94,15 @@ rest_added old new lits truths added last rest clause w = go (cases_eq clause (l
 
 -- a satisfied clause has a true literal, where each truth that is set is of one
 pub true_of_satisfied : (truths : List Bool) (holding lits : List Lit)
-    → ((lit : Lit) → slice_index_or truths (place_of lit) false ≡ true → Contains holding lit) → is_satisfied truths lits ≡ true → HasTrue holding lits
+    → ((lit : Lit) → slice_index_or truths (place_of lit) false ≡ true → Contains holding lit) → is_satisfied truths
+    lits ≡ true → HasTrue holding lits
 true_of_satisfied truths holding [] each satisfied = let no : ⊥ = cc in absurd no
 true_of_satisfied truths holding (x ∷ lits) each satisfied =
-    go (λ h. true_of_satisfied truths holding lits each h) (or_cases (slice_index_or truths (place_of x) false) (is_satisfied truths lits) satisfied)
+    go (λ h. true_of_satisfied truths holding lits each h) (or_cases (slice_index_or truths (place_of x) false)
+    (is_satisfied truths lits) satisfied)
   where
-    go : (is_satisfied truths lits ≡ true → HasTrue holding lits) → (slice_index_or truths (place_of x) false ≡ true) ⊎ (is_satisfied truths lits ≡ true)
+    go : (is_satisfied truths lits ≡ true → HasTrue holding lits) → (slice_index_or truths (place_of x) false ≡ true)
+        ⊎ (is_satisfied truths lits ≡ true)
         → HasTrue holding (x ∷ lits)
     go more (inl h) = record { lit = x; is_in = (0, omega arith, refl); is_true = each x h }
     go more (inr h) =
@@ -101,11 +112,14 @@ true_of_satisfied truths holding (x ∷ lits) each satisfied =
 -- where satisfied clauses are off the lists, and unit propagation is at rest on what is left, it is so on all that was watched
 pub rest_dropped : (old new : Arena) (truths : List Bool) (holding : List Lit) → new.clauses ≡ old.clauses
     → new.watchers ≡ map (filter (is_left truths old.clauses)) old.watchers
-    → ((lit : Lit) → slice_index_or truths (place_of lit) false ≡ true → Contains holding lit) → AreAtRest new holding → AreAtRest old holding
-rest_dropped old new truths holding clauses watchers each rest clause w = go (watched_or_satisfied old new truths clauses watchers clause w)
+    → ((lit : Lit) → slice_index_or truths (place_of lit) false ≡ true → Contains holding lit)
+    → AreAtRest new holding → AreAtRest old holding
+rest_dropped old new truths holding clauses watchers each rest clause w =
+    go (watched_or_satisfied old new truths clauses watchers clause w)
   where
     go : IsWatched new clause ⊎ (is_satisfied truths w.lits ≡ true) → IsAtRest holding w.lits
     go (inl v) =
-        let there : slice_get new.clauses clause ≡ Some w.lits = ap (λ (cs : List (List Lit)). slice_get cs clause) clauses ∙ w.is_clause in
+        let there : slice_get new.clauses clause ≡ Some w.lits = ap (λ (cs : List (List Lit)). slice_get cs clause)
+        clauses ∙ w.is_clause in
         subst (IsAtRest holding) (same_get new.clauses clause v.lits w.lits v.is_clause there) (rest clause v)
     go (inr satisfied) = inl (true_of_satisfied truths holding w.lits each satisfied)

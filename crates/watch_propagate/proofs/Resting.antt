@@ -15,16 +15,22 @@ use Rattle.watch_propagate.proofs.WalkLits.{contains_at, negation_var, value_fal
 pub sides_of : (lits : List Lit) (lit : Lit) → Contains lits lit ⊎ (Contains lits (negation lit) ⊎ IsOpen lits lit)
 sides_of lits lit = by (value_in lits (var_of lit)) (is_negative lit) refl refl
   where
-    by : (o : Option Bool) (negative : Bool) → value_in lits (var_of lit) ≡ o → is_negative lit ≡ negative → Contains lits lit ⊎ (Contains lits (negation lit) ⊎ IsOpen lits lit)
+    by : (o : Option Bool) (negative : Bool) → value_in lits (var_of lit) ≡ o → is_negative lit ≡ negative
+        → Contains lits lit ⊎ (Contains lits (negation lit) ⊎ IsOpen lits lit)
     by None negative none sign =
-        inr (inr (record { not_true = value_open lits lit lit none refl; not_false = value_open lits lit (negation lit) none (negation_var lit) }))
+        inr (inr (record {
+          not_true = value_open lits lit lit none refl;
+          not_false = value_open lits lit
+              (negation lit) none (negation_var lit);
+        }))
     by (Some true) true some sign = inr (inl (value_false lits lit true some sign))
     by (Some true) false some sign = inl (value_true lits lit true some (ap not sign))
     by (Some false) true some sign = inl (value_true lits lit false some (ap not sign))
     by (Some false) false some sign = inr (inl (value_false lits lit false some sign))
 
 -- a clause whose watched literals guard each other
-pub rests : (a : Arena) (lits : List Lit) (clause : ℕ) (w : IsWatched a clause) → AreWatchers a → IsGuarded lits lits w.first w.second → IsAtRest lits w.lits
+pub rests : (a : Arena) (lits : List Lit) (clause : ℕ) (w : IsWatched a clause) → AreWatchers a → IsGuarded lits lits
+    w.first w.second → IsAtRest lits w.lits
 rests a lits clause w are g = go (sides_of lits w.first) (sides_of lits w.second)
   where
     first_in : Contains w.lits w.first
@@ -39,16 +45,29 @@ rests a lits clause w are g = go (sides_of lits w.first) (sides_of lits w.second
         let same : 0 ≡ 1 = once 0 1 w.second (w.is_first ∙ ap Some e) w.is_second in
         omega (arith, same)
 
-    go : Contains lits w.first ⊎ (Contains lits (negation w.first) ⊎ IsOpen lits w.first) → Contains lits w.second ⊎ (Contains lits (negation w.second) ⊎ IsOpen lits w.second)
+    go : Contains lits w.first ⊎ (Contains lits (negation w.first) ⊎ IsOpen lits w.first) → Contains lits w.second ⊎
+        (Contains lits (negation w.second) ⊎ IsOpen lits w.second)
         → IsAtRest lits w.lits
     go (inl c) second = inl (record { lit = w.first; is_in = first_in; is_true = c })
     go (inr first) (inl c) = inl (record { lit = w.second; is_in = second_in; is_true = c })
     go (inr (inl n)) (inr second) = inl (record { lit = w.second; is_in = second_in; is_true = g.first_false n })
     go (inr (inr o)) (inr (inl n)) = inl (record { lit = w.first; is_in = first_in; is_true = g.second_false n })
     go (inr (inr o)) (inr (inr p)) =
-        inr (record { first = w.first; second = w.second; differ = differ; first_in = first_in; second_in = second_in; first_open = o; second_open = p })
+        inr (record {
+          first = w.first;
+          second = w.second;
+          differ = differ;
+          first_in = first_in;
+          second_in =
+              second_in;
+          first_open = o;
+          second_open = p;
+        })
 
-pub at_rest_at_end : (a : Arena) (t : Trail) → AreWatchers a → AreEntries t → KeepsWatch a t → t.gone ≡ length t.entries → AreAtRest a (lits_of t)
+pub at_rest_at_end : (a : Arena) (t : Trail) → AreWatchers a → AreEntries t → KeepsWatch a t
+    → t.gone ≡ length t.entries → AreAtRest a (lits_of t)
 at_rest_at_end a t are entries rule gone = λ clause w.
-    let all : take t.gone (lits_of t) ≡ lits_of t = take_all t.gone (lits_of t) (omega (arith, gone, length-map t.entries (λ (e : Entry). e.lit))) in
-    rests a (lits_of t) clause w are (subst (λ (ls : List Lit). IsGuarded ls (lits_of t) w.first w.second) all ((rule.guarded clause w).at_present))
+    let all : take t.gone (lits_of t) ≡ lits_of t = take_all t.gone (lits_of t)
+    (omega (arith, gone, length-map t.entries (λ (e : Entry). e.lit))) in
+    rests a (lits_of t) clause w are (subst (λ (ls : List Lit). IsGuarded ls (lits_of t) w.first w.second) all
+    ((rule.guarded clause w).at_present))

@@ -68,9 +68,11 @@ reordered_itself clauses =
     }
 
 -- the clause of a number in as many clauses
-pub clause_there : (old new : List (List Lit)) (clause : ℕ) (xs : List Lit) → length new ≡ length old → slice_get old clause ≡ Some xs
+pub clause_there : (old new : List (List Lit)) (clause : ℕ) (xs : List Lit) → length new ≡ length old
+    → slice_get old clause ≡ Some xs
     → (ys : List Lit) × (slice_get new clause ≡ Some ys)
-clause_there old new clause xs as_many is = (_, slice_get-get_or new clause xs (omega (arith, as_many, slice_get_within old clause xs is)))
+clause_there old new clause xs as_many is =
+    (_, slice_get-get_or new clause xs (omega (arith, as_many, slice_get_within old clause xs is)))
 
 pub reordered_then : (old middle new : List (List Lit)) → AreReordered old middle → AreReordered middle new → AreReordered old new
 reordered_then old middle new one other =
@@ -78,7 +80,8 @@ reordered_then old middle new one other =
       as_many = other.as_many ∙ one.as_many;
       same = λ clause xs zs before after.
           let between = clause_there old middle clause xs one.as_many before in
-          same_then xs between.0 zs (one.same clause xs between.0 before between.1) (other.same clause between.0 zs between.1 after);
+          same_then xs between.0 zs (one.same clause xs between.0 before between.1)
+          (other.same clause between.0 zs between.1 after);
     }
 
 pub rewatched_itself : (a : Arena) → IsRewatched a a
@@ -104,7 +107,8 @@ rewatched_then old middle new one other =
     }
 
 -- a clause that was a literal's reason is one still
-pub has_reason_rewatched : (old new : Arena) (earlier : List Lit) (lit : Lit) (clause : ℕ) → IsRewatched old new → HasReason old earlier lit clause
+pub has_reason_rewatched : (old new : Arena) (earlier : List Lit) (lit : Lit) (clause : ℕ) → IsRewatched old new
+    → HasReason old earlier lit clause
     → HasReason new earlier lit clause
 has_reason_rewatched old new earlier lit clause re r =
     let there = clause_there old.clauses new.clauses clause r.lits re.clauses.as_many r.is_clause in
@@ -128,19 +132,23 @@ implies_itself a t =
     }
 
 -- the literals before a place are the same, where there is more behind
-pub lits_before_more : (entries added : List Entry) (place : ℕ) → place ≤ length entries → lits_before (entries ++ added) place ≡ lits_before entries place
+pub lits_before_more : (entries added : List Entry) (place : ℕ) → place ≤ length entries → lits_before
+    (entries ++ added) place ≡ lits_before entries place
 lits_before_more entries added place h = ap (map (λ (e : Entry). e.lit)) (take-append-le place entries added h)
 
-pub implied_more : (a : Arena) (entries added : List Entry) (place : ℕ) (e : Entry) → place ≤ length entries → IsImplied a entries place e
+pub implied_more : (a : Arena) (entries added : List Entry) (place : ℕ) (e : Entry) → place ≤ length entries
+    → IsImplied a entries place e
     → IsImplied a (entries ++ added) place e
 implied_more a entries added place e h i =
     record {
       clause = i.clause;
       is_reason = i.is_reason;
-      by_clause = subst (λ (ls : List Lit). HasReason a ls e.lit i.clause) (sym (lits_before_more entries added place h)) i.by_clause;
+      by_clause = subst (λ (ls : List Lit). HasReason a ls e.lit i.clause)
+          (sym (lits_before_more entries added place h)) i.by_clause;
     }
 
-pub implied_rewatched : (old new : Arena) (entries : List Entry) (place : ℕ) (e : Entry) → IsRewatched old new → IsImplied old entries place e
+pub implied_rewatched : (old new : Arena) (entries : List Entry) (place : ℕ) (e : Entry) → IsRewatched old new
+    → IsImplied old entries place e
     → IsImplied new entries place e
 implied_rewatched old new entries place e re i =
     record {
@@ -168,7 +176,8 @@ implies_then a old middle new one other =
       starts = other.starts ∙ one.starts;
       gone = omega (arith, one.gone, other.gone);
       added = one.added ++ other.added;
-      entries = other.entries ∙ ap (λ (es : List Entry). es ++ other.added) one.entries ∙ append_assoc old.entries one.added other.added;
+      entries = other.entries ∙ ap (λ (es : List Entry). es ++ other.added) one.entries ∙ append_assoc old.entries
+          one.added other.added;
       implied = λ place e h is. go place e h is (cases_lt place (length middle.entries));
     }
   where
@@ -176,7 +185,8 @@ implies_then a old middle new one other =
         → (place < length middle.entries) ⊎ (length middle.entries ≤ place) → IsImplied a new.entries place e
     go place e h is (inl below) =
         let there : slice_get middle.entries place ≡ Some e =
-        get_front middle.entries other.added place e below (ap (λ (es : List Entry). slice_get es place) (sym other.entries) ∙ is) in
+        get_front middle.entries other.added place e below (ap (λ (es : List Entry). slice_get es place)
+        (sym other.entries) ∙ is) in
         subst (λ (es : List Entry). IsImplied a es place e) (sym other.entries)
         (implied_more a middle.entries other.added place e (omega (arith, below)) (one.implied place e h there))
     go place e h is (inr above) = other.implied place e above is

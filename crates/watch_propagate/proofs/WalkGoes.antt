@@ -84,10 +84,12 @@ implies_same a t =
     }
 
 -- an entry that was implied still is, where watches are moved and entries follow
-implied_still : (a b : Arena) (es more : List Entry) (place : ℕ) (e : Entry) → IsRewatched a b → place < length es → IsImplied a es place e → IsImplied b (es ++ more) place e
+implied_still : (a b : Arena) (es more : List Entry) (place : ℕ) (e : Entry) → IsRewatched a b → place < length es
+    → IsImplied a es place e → IsImplied b (es ++ more) place e
 implied_still a b es more place e r h i =
     let old = i.by_clause in
-    let there = slice_get-get_or b.clauses i.clause [] (omega (arith, slice_get_within a.clauses i.clause old.lits old.is_clause, r.clauses.as_many)) in
+    let there = slice_get-get_or b.clauses i.clause []
+    (omega (arith, slice_get_within a.clauses i.clause old.lits old.is_clause, r.clauses.as_many)) in
     let same = r.clauses.same i.clause old.lits _ old.is_clause there in
     let before : lits_before (es ++ more) place ≡ lits_before es place = before_same es more place (omega (arith, h)) in
     record {
@@ -99,7 +101,8 @@ implied_still a b es more place e r h i =
         is_reason = record {
           is_in = same.none_lost e.lit old.is_reason.is_in;
           others = λ other c d.
-              subst (λ (ls : List Lit). Contains ls (negation other)) (sym before) (old.is_reason.others other (same.none_new other c) d);
+              subst (λ (ls : List Lit). Contains ls (negation other)) (sym before)
+              (old.is_reason.others other (same.none_new other c) d);
         };
       };
     }
@@ -115,7 +118,8 @@ implies_on a b t u v r i j =
       implied = λ place e h is. go place e h is (cases_lt place (length u.entries));
     }
   where
-    go : (place : ℕ) (e : Entry) → length t.entries ≤ place → slice_get v.entries place ≡ Some e → (place < length u.entries) ⊎ (length u.entries ≤ place) → IsImplied b v.entries place e
+    go : (place : ℕ) (e : Entry) → length t.entries ≤ place → slice_get v.entries place ≡ Some e →
+        (place < length u.entries) ⊎ (length u.entries ≤ place) → IsImplied b v.entries place e
     go place e h is (inl low) =
         let was : slice_get u.entries place ≡ Some e =
         sym (get_left u.entries j.added place low) ∙ ap (λ (es : List Entry). slice_get es place) (sym j.entries) ∙ is in
@@ -124,7 +128,8 @@ implies_on a b t u v r i j =
     go place e h is (inr high) = j.implied place e high is
 
 -- a literal that is true stays where it is
-pub lit_stays : (a : Arena) (t u : Trail) (k : ℕ) (l : Lit) → Implies a t u → slice_get (lits_of t) k ≡ Some l → slice_get (lits_of u) k ≡ Some l
+pub lit_stays : (a : Arena) (t u : Trail) (k : ℕ) (l : Lit) → Implies a t u → slice_get (lits_of t) k ≡ Some l
+    → slice_get (lits_of u) k ≡ Some l
 lit_stays a t u k l i is =
     let are : lits_of u ≡ lits_of t ++ map (λ (e : Entry). e.lit) i.added =
     ap (map (λ (e : Entry). e.lit)) i.entries ∙ map-append (λ (e : Entry). e.lit) t.entries i.added in
@@ -145,7 +150,8 @@ goes_on a b c t u v g h =
       rule = h.rule;
     }
 
-pub seen_grows : (a : Arena) (t u : Trail) (lit : Lit) (clause : ℕ) → ((l : Lit) → Contains (lits_of t) l → Contains (lits_of u) l) → IsSeenTo a t lit clause → IsSeenTo a u lit clause
+pub seen_grows : (a : Arena) (t u : Trail) (lit : Lit) (clause : ℕ) →
+    ((l : Lit) → Contains (lits_of t) l → Contains (lits_of u) l) → IsSeenTo a t lit clause → IsSeenTo a u lit clause
 seen_grows a t u lit clause grows s =
     record { first = λ w e. grows w.second (s.first w e); second = λ w e. grows w.first (s.second w e) }
 
@@ -161,7 +167,8 @@ module _ (a : Arena) (t : Trail) (lit : Lit) (clause : ℕ) where
   pub implied_grows : (l : Lit) → Contains (lits_of t) l → Contains (lits_of (implied t lit clause)) l
   implied_grows l c = subst (λ (ls : List Lit). Contains ls l) (sym lits_more) (Contains-append_left (lits_of t) (lit ∷ []) l c)
 
-  pub implies_more : (lits : List Lit) → slice_get a.clauses clause ≡ Some lits → IsReason lits (lits_of t) lit → Implies a t (implied t lit clause)
+  pub implies_more : (lits : List Lit) → slice_get a.clauses clause ≡ Some lits → IsReason lits (lits_of t) lit
+      → Implies a t (implied t lit clause)
   implies_more lits is_clause reason =
       record {
         vars = refl;
@@ -172,7 +179,8 @@ module _ (a : Arena) (t : Trail) (lit : Lit) (clause : ℕ) where
         implied = λ place e h is. go place e is (last place e h is);
       }
     where
-      last : (place : ℕ) (e : Entry) → length t.entries ≤ place → slice_get (t.entries ++ entry ∷ []) place ≡ Some e → place ≡ length t.entries
+      last : (place : ℕ) (e : Entry) → length t.entries ≤ place → slice_get (t.entries ++ entry ∷ []) place ≡ Some e
+          → place ≡ length t.entries
       last place e h is =
           let long : length (t.entries ++ entry ∷ []) ≡ length t.entries + 1 = length-append t.entries (entry ∷ []) in
           omega (arith, h, long, slice_get_within (t.entries ++ entry ∷ []) place e is)
@@ -185,19 +193,27 @@ module _ (a : Arena) (t : Trail) (lit : Lit) (clause : ℕ) where
           record {
             clause = clause;
             is_reason = refl;
-            by_clause = record { lits = lits; is_clause = is_clause; is_reason = subst (λ (ls : List Lit). IsReason lits ls lit) (sym before) reason };
+            by_clause = record {
+              lits = lits;
+              is_clause = is_clause;
+              is_reason =
+                  subst (λ (ls : List Lit). IsReason lits ls lit) (sym before) reason;
+            };
           }
 
-      go : (place : ℕ) (e : Entry) → slice_get (t.entries ++ entry ∷ []) place ≡ Some e → place ≡ length t.entries → IsImplied a (t.entries ++ entry ∷ []) place e
+      go : (place : ℕ) (e : Entry) → slice_get (t.entries ++ entry ∷ []) place ≡ Some e → place ≡ length t.entries
+          → IsImplied a (t.entries ++ entry ∷ []) place e
       go place e is at =
-          let same : entry ≡ e = same_Some entry e (sym (get_last t.entries entry) ∙ ap (slice_get (t.entries ++ entry ∷ [])) (sym at) ∙ is) in
+          let same : entry ≡ e = same_Some entry e (sym (get_last t.entries entry)
+          ∙ ap (slice_get (t.entries ++ entry ∷ [])) (sym at) ∙ is) in
           subst (λ (k : ℕ). IsImplied a (t.entries ++ entry ∷ []) k e) (sym at)
           (subst (λ (d : Entry). IsImplied a (t.entries ++ entry ∷ []) (length t.entries) d) same here)
 
   -- the first literals are the same
   first_lits : (n : ℕ) → n ≤ length t.entries → take n (lits_of (implied t lit clause)) ≡ take n (lits_of t)
   first_lits n h =
-      ap (take n) lits_more ∙ take-append-le n (lits_of t) (lit ∷ []) (omega (arith, h, length-map t.entries (λ (e : Entry). e.lit)))
+      ap (take n) lits_more ∙ take-append-le n (lits_of t) (lit ∷ [])
+      (omega (arith, h, length-map t.entries (λ (e : Entry). e.lit)))
 
   pub implied_rule : AreEntries t → KeepsWatch a t → KeepsWatch a (implied t lit clause)
   implied_rule are rule = record { passed = rule.passed; guarded = λ c w. guards w.first w.second (rule.guarded c w) }
@@ -206,17 +222,24 @@ module _ (a : Arena) (t : Trail) (lit : Lit) (clause : ℕ) where
           → IsGuarded (take t.gone (lits_of (implied t lit clause))) (lits_of (implied t lit clause)) first second
       present first second g =
           rw (first_lits t.gone are.gone)
-          (record { first_false = λ c. implied_grows second (g.first_false c); second_false = λ c. implied_grows first (g.second_false c) })
+          (record {
+            first_false = λ c. implied_grows second (g.first_false c);
+            second_false = λ c. implied_grows
+                first (g.second_false c);
+          })
 
       guards : (first second : Lit) → AreGuarded t first second → AreGuarded (implied t lit clause) first second
       guards first second g =
           record {
             at_present = present first second g.at_present;
             at_starts = λ i start is.
-                subst (λ (ls : List Lit). IsGuarded ls ls first second) (sym (first_lits start (omega (arith, are.begun i start is)))) (g.at_starts i start is);
+                subst (λ (ls : List Lit). IsGuarded ls ls first second)
+                (sym (first_lits start (omega (arith, are.begun i start is)))) (g.at_starts i start is);
           }
 
 -- the literal is true then
 pub implied_has : (t : Trail) (lit : Lit) (clause : ℕ) → Contains (lits_of (implied t lit clause)) lit
 implied_has t lit clause =
-    subst (λ (ls : List Lit). Contains ls lit) (sym (map-append (λ (e : Entry). e.lit) t.entries (record { lit = lit; reason = Some clause } ∷ []))) (Contains-push (lits_of t) lit)
+    subst (λ (ls : List Lit). Contains ls lit)
+    (sym (map-append (λ (e : Entry). e.lit) t.entries (record { lit = lit; reason = Some clause } ∷ [])))
+    (Contains-push (lits_of t) lit)

@@ -31,17 +31,23 @@ pub taken_in : {A : Type 0} (n : ℕ) (xs : List A) (x : A) → Contains (take n
 taken_in n xs x c = subst (λ ys. Contains ys x) (take-append-drop n xs) (Contains-append_left (take n xs) (drop n xs) x c)
 
 -- two items change places
-module _ {A : Type 0} (xs : List A) (from to : ℕ) (left taken : A) (is_left : slice_get xs from ≡ Some left) (is_taken : slice_get xs to ≡ Some taken)
+module _ {A : Type 0} (xs : List A) (from to : ℕ) (left taken : A) (is_left : slice_get xs from ≡ Some left)
+    (is_taken : slice_get xs to ≡ Some taken)
     (differ : from ≢ to) where
   abbrev swapped : List A
   swapped = slice_set (slice_set xs from taken) to left
 
   pub swap_from : slice_get swapped from ≡ Some taken
-  swap_from = get_other (slice_set xs from taken) to from left differ ∙ get_same xs from taken (slice_get_within xs from left is_left)
+  swap_from = get_other (slice_set xs from taken) to from left differ ∙ get_same xs from taken
+      (slice_get_within xs from left is_left)
 
   pub swap_to : slice_get swapped to ≡ Some left
   swap_to =
-      let within : to < length (slice_set xs from taken) = omega (arith, slice_get_within xs to taken is_taken, length-set xs from taken) in
+      let within : to < length (slice_set xs from taken) = omega (
+        arith,
+        slice_get_within xs to taken is_taken,
+        length-set xs from taken,
+      ) in
       get_same (slice_set xs from taken) to left within
 
   pub swap_other : (i : ℕ) → i ≢ from → i ≢ to → slice_get swapped i ≡ slice_get xs i
@@ -79,7 +85,8 @@ with_same lists p s h = get_or-set_same lists p (s ∷ list_of lists p) [] h
 pub here_in_with : (lists : List (List ℕ)) (p s : ℕ) → p < length lists → IsIn s (list_of (lists_with lists p s) p)
 here_in_with lists p s h = rw (with_same lists p s h) (inl refl)
 
-pub stays_in_with : (lists : List (List ℕ)) (p s q y : ℕ) → p < length lists → IsIn y (list_of lists q) → IsIn y (list_of (lists_with lists p s) q)
+pub stays_in_with : (lists : List (List ℕ)) (p s q y : ℕ) → p < length lists → IsIn y (list_of lists q)
+    → IsIn y (list_of (lists_with lists p s) q)
 stays_in_with lists p s q y h i = go (cases_eq q p)
   where
     go : (q ≡ p) ⊎ (q ≢ p) → IsIn y (list_of (lists_with lists p s) q)
@@ -89,7 +96,8 @@ stays_in_with lists p s q y h i = go (cases_eq q p)
         subst (λ k. IsIn y (list_of (lists_with lists p s) k)) (sym e) put
     go (inr d) = subst (IsIn y) (sym (with_other lists p s q d)) i
 
-pub in_with : (lists : List (List ℕ)) (p s q y : ℕ) → p < length lists → IsIn y (list_of (lists_with lists p s) q) → (y ≡ s) ⊎ IsIn y (list_of lists q)
+pub in_with : (lists : List (List ℕ)) (p s q y : ℕ) → p < length lists → IsIn y (list_of (lists_with lists p s) q) →
+    (y ≡ s) ⊎ IsIn y (list_of lists q)
 in_with lists p s q y h i = go (cases_eq q p)
   where
     go : (q ≡ p) ⊎ (q ≢ p) → (y ≡ s) ⊎ IsIn y (list_of lists q)
@@ -98,27 +106,33 @@ in_with lists p s q y h i = go (cases_eq q p)
         subst (λ k. (y ≡ s) ⊎ IsIn y (list_of lists k)) (sym e) (subst (IsIn y) (with_same lists p s h) there)
     go (inr d) = inr (subst (IsIn y) (with_other lists p s q d) i)
 
-pub without_same : (lists : List (List ℕ)) (p s : ℕ) → p < length lists → list_of (lists_without lists p s) p ≡ without s (list_of lists p)
+pub without_same : (lists : List (List ℕ)) (p s : ℕ) → p < length lists → list_of (lists_without lists p s) p ≡
+    without s (list_of lists p)
 without_same lists p s h = get_or-set_same lists p (without s (list_of lists p)) [] h
 
 pub without_other : (lists : List (List ℕ)) (p s q : ℕ) → q ≢ p → list_of (lists_without lists p s) q ≡ list_of lists q
 without_other lists p s q d = get_or-set_other lists p q (without s (list_of lists p)) [] d
 
-pub in_lists_without : (lists : List (List ℕ)) (p s q y : ℕ) → p < length lists → IsIn y (list_of (lists_without lists p s) q) → IsIn y (list_of lists q)
+pub in_lists_without : (lists : List (List ℕ)) (p s q y : ℕ) → p < length lists
+    → IsIn y (list_of (lists_without lists p s) q) → IsIn y (list_of lists q)
 in_lists_without lists p s q y h i = go (cases_eq q p)
   where
     go : (q ≡ p) ⊎ (q ≢ p) → IsIn y (list_of lists q)
     go (inl e) =
-        let there : IsIn y (list_of (lists_without lists p s) p) = subst (λ k. IsIn y (list_of (lists_without lists p s) k)) e i in
-        subst (λ k. IsIn y (list_of lists k)) (sym e) (in_without s y (list_of lists p) (subst (IsIn y) (without_same lists p s h) there))
+        let there : IsIn y (list_of (lists_without lists p s) p) =
+        subst (λ k. IsIn y (list_of (lists_without lists p s) k)) e i in
+        subst (λ k. IsIn y (list_of lists k)) (sym e)
+        (in_without s y (list_of lists p) (subst (IsIn y) (without_same lists p s h) there))
     go (inr d) = subst (IsIn y) (without_other lists p s q d) i
 
-pub stays_in_lists_without : (lists : List (List ℕ)) (p s q y : ℕ) → p < length lists → y ≢ s → IsIn y (list_of lists q) → IsIn y (list_of (lists_without lists p s) q)
+pub stays_in_lists_without : (lists : List (List ℕ)) (p s q y : ℕ) → p < length lists → y ≢ s
+    → IsIn y (list_of lists q) → IsIn y (list_of (lists_without lists p s) q)
 stays_in_lists_without lists p s q y h differ i = go (cases_eq q p)
   where
     go : (q ≡ p) ⊎ (q ≢ p) → IsIn y (list_of (lists_without lists p s) q)
     go (inl e) =
         let there : IsIn y (list_of lists p) = subst (λ k. IsIn y (list_of lists k)) e i in
-        let stays : IsIn y (list_of (lists_without lists p s) p) = subst (IsIn y) (sym (without_same lists p s h)) (stays_in_without s y (list_of lists p) there differ) in
+        let stays : IsIn y (list_of (lists_without lists p s) p) = subst (IsIn y) (sym (without_same lists p s h))
+        (stays_in_without s y (list_of lists p) there differ) in
         subst (λ k. IsIn y (list_of (lists_without lists p s) k)) (sym e) stays
     go (inr d) = subst (IsIn y) (sym (without_other lists p s q d)) i

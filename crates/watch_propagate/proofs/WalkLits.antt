@@ -86,7 +86,8 @@ pub place_within : (lit : Lit) (n : ℕ) → var_of lit < n → place_of lit < 2
 place_within lit n h = place_below (var_of lit) (is_negative lit) n h
 
 -- a literal's place is its own
-place_parts : (var var' : ℕ) (negative negative' : Bool) → 2 * var + (if negative then 1 else 0) ≡ 2 * var' + (if negative' then 1 else 0)
+place_parts : (var var' : ℕ) (negative negative' : Bool) → 2 * var + (if negative then 1 else 0) ≡ 2 * var' +
+    (if negative' then 1 else 0)
     → (var ≡ var') × (negative ≡ negative')
 place_parts var var' true true e = (omega arith, refl)
 place_parts var var' true false e = absurd (omega arith)
@@ -94,16 +95,19 @@ place_parts var var' false true e = absurd (omega arith)
 place_parts var var' false false e = (omega arith, refl)
 
 pub same_lit_place : (a b : Lit) → place_of a ≡ place_of b → a ≡ b
-same_lit_place a b e = let parts = place_parts (var_of a) (var_of b) (is_negative a) (is_negative b) e in lit_is a b parts.0 parts.1
+same_lit_place a b e = let parts = place_parts (var_of a) (var_of b) (is_negative a) (is_negative b) e in lit_is a b
+    parts.0 parts.1
 
 -- ---- values
 
 -- a value stands for a literal that is true
-pub value_some : (lits : List Lit) (var : ℕ) (b : Bool) → value_in lits var ≡ Some b → (k : ℕ) × (x : Lit) × (slice_get lits k ≡ Some x) × (var_of x ≡ var) × (not (is_negative x) ≡ b)
+pub value_some : (lits : List Lit) (var : ℕ) (b : Bool) → value_in lits var ≡ Some b → (k : ℕ) × (x : Lit) ×
+    (slice_get lits k ≡ Some x) × (var_of x ≡ var) × (not (is_negative x) ≡ b)
 value_some [] var b is = absurd (cc)
 value_some (x ∷ xs) var b is = go (λ h. value_some xs var b h) (cases_eq (var_of x) var)
   where
-    go : (value_in xs var ≡ Some b → (k : ℕ) × (y : Lit) × (slice_get xs k ≡ Some y) × (var_of y ≡ var) × (not (is_negative y) ≡ b))
+    go : (value_in xs var ≡ Some b → (k : ℕ) × (y : Lit) × (slice_get xs k ≡ Some y) × (var_of y ≡ var) ×
+        (not (is_negative y) ≡ b))
         → (var_of x ≡ var) ⊎ (var_of x ≡ var → ⊥)
         → (k : ℕ) × (y : Lit) × (slice_get (x ∷ xs) k ≡ Some y) × (var_of y ≡ var) × (not (is_negative y) ≡ b)
     go more (inl e) =
@@ -122,21 +126,25 @@ none_past : (x : Lit) (xs : List Lit) (var : ℕ) → value_in (x ∷ xs) var �
 none_past x xs var none = rw (ne_eqb (var_of x) var (none_here x xs var none)) at none
 
 -- and where there is none, no literal of the variable is true
-pub value_none : (lits : List Lit) (var k : ℕ) (x : Lit) → value_in lits var ≡ None → slice_get lits k ≡ Some x → var_of x ≡ var → ⊥
+pub value_none : (lits : List Lit) (var k : ℕ) (x : Lit) → value_in lits var ≡ None → slice_get lits k ≡ Some x
+    → var_of x ≡ var → ⊥
 value_none [] var k x none at e = absurd (cc)
 value_none (y ∷ ys) var zero x none at e = none_here y ys var none (ap var_of (same_Some y x at) ∙ e)
 value_none (y ∷ ys) var (suc k) x none at e = value_none ys var k x (none_past y ys var none) at e
 
 -- the literal is true, or false, or neither
-pub value_true : (lits : List Lit) (lit : Lit) (b : Bool) → value_in lits (var_of lit) ≡ Some b → not (is_negative lit) ≡ b → Contains lits lit
+pub value_true : (lits : List Lit) (lit : Lit) (b : Bool) → value_in lits (var_of lit) ≡ Some b
+    → not (is_negative lit) ≡ b → Contains lits lit
 value_true lits lit b is sign =
     let v = value_some lits (var_of lit) b is in
     let same = lit_is v.1 lit v.3 (sym (not_not (is_negative v.1)) ∙ ap not (v.4 ∙ sym sign) ∙ not_not (is_negative lit)) in
     contains_at lits v.0 lit (v.2 ∙ ap Some same)
 
-pub value_false : (lits : List Lit) (lit : Lit) (b : Bool) → value_in lits (var_of lit) ≡ Some b → is_negative lit ≡ b → Contains lits (negation lit)
+pub value_false : (lits : List Lit) (lit : Lit) (b : Bool) → value_in lits (var_of lit) ≡ Some b
+    → is_negative lit ≡ b → Contains lits (negation lit)
 value_false lits lit b is sign =
-    value_true lits (negation lit) b (ap (value_in lits) (negation_var lit) ∙ is) (ap not (negation_sign lit) ∙ not_not (is_negative lit) ∙ sign)
+    value_true lits (negation lit) b (ap (value_in lits) (negation_var lit) ∙ is)
+    (ap not (negation_sign lit) ∙ not_not (is_negative lit) ∙ sign)
 
 pub value_open : (lits : List Lit) (lit x : Lit) → value_in lits (var_of lit) ≡ None → var_of x ≡ var_of lit → Contains lits x → ⊥
 value_open lits lit x none same c = let at = place_in lits x c in value_none lits (var_of lit) at.0 x none at.1 same
@@ -144,16 +152,19 @@ value_open lits lit x none same c = let at = place_in lits x c in value_none lit
 -- ---- the literals of a trail
 
 -- the literal of an entry is of one of the variables
-pub lit_vars : (t : Trail) (k : ℕ) (x : Lit) → slice_get (lits_of t) k ≡ Some x → slice_get (map (λ (e : Entry). var_of e.lit) t.entries) k ≡ Some (var_of x)
+pub lit_vars : (t : Trail) (k : ℕ) (x : Lit) → slice_get (lits_of t) k ≡ Some x
+    → slice_get (map (λ (e : Entry). var_of e.lit) t.entries) k ≡ Some (var_of x)
 lit_vars t k x is = by (slice_get t.entries k) refl
   where
     at : slice_get (lits_of t) k ≡ option_map (λ (e : Entry). e.lit) (slice_get t.entries k)
     at = slice_get-map (λ (e : Entry). e.lit) t.entries k
 
-    at_var : slice_get (map (λ (e : Entry). var_of e.lit) t.entries) k ≡ option_map (λ (e : Entry). var_of e.lit) (slice_get t.entries k)
+    at_var : slice_get (map (λ (e : Entry). var_of e.lit) t.entries) k ≡ option_map (λ (e : Entry). var_of e.lit)
+        (slice_get t.entries k)
     at_var = slice_get-map (λ (e : Entry). var_of e.lit) t.entries k
 
-    by : (o : Option Entry) → slice_get t.entries k ≡ o → slice_get (map (λ (e : Entry). var_of e.lit) t.entries) k ≡ Some (var_of x)
+    by : (o : Option Entry) → slice_get t.entries k ≡ o → slice_get (map (λ (e : Entry). var_of e.lit) t.entries) k ≡
+        Some (var_of x)
     by None none =
         let there : slice_get (lits_of t) k ≡ None = at ∙ ap (option_map (λ (e : Entry). e.lit)) none in
         absurd (none-some x (sym there ∙ is))
@@ -167,6 +178,7 @@ pub never_both : (t : Trail) → AreEntries t → (lit : Lit) → Contains (lits
 never_both t are lit c n =
     let at = place_in (lits_of t) lit c in
     let at' = place_in (lits_of t) (negation lit) n in
-    let there : slice_get (map (λ (e : Entry). var_of e.lit) t.entries) at'.0 ≡ Some (var_of lit) = lit_vars t at'.0 (negation lit) at'.1 ∙ ap Some (negation_var lit) in
+    let there : slice_get (map (λ (e : Entry). var_of e.lit) t.entries) at'.0 ≡ Some (var_of lit) = lit_vars t at'.0
+    (negation lit) at'.1 ∙ ap Some (negation_var lit) in
     let same : at.0 ≡ at'.0 = are.once at.0 at'.0 (var_of lit) (lit_vars t at.0 lit at.1) there in
     negation_differs lit (same_Some (negation lit) lit (sym at'.1 ∙ ap (slice_get (lits_of t)) (sym same) ∙ at.1))

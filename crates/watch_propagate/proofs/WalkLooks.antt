@@ -26,21 +26,26 @@ module _ (a : Arena) (clause : ℕ) (lit : Lit) (are : AreWatchers a) (stands : 
       let w = are.watched lit clause stands in
       omega (arith, slice_get_within w.lits 1 w.second w.is_second, ap length (watch_lits a clause w lits is))
 
-  pub looked_side : (lits : List Lit) → slice_get a.clauses clause ≡ Some lits → (slice_get lits 0 ≡ Some lit) ⊎ (slice_get lits 1 ≡ Some lit)
+  pub looked_side : (lits : List Lit) → slice_get a.clauses clause ≡ Some lits → (slice_get lits 0 ≡ Some lit) ⊎
+      (slice_get lits 1 ≡ Some lit)
   looked_side lits is = go (are.among lit clause w stands)
     where
       w : IsWatched a clause
       w = are.watched lit clause stands
 
       go : (lit ≡ w.first) ⊎ (lit ≡ w.second) → (slice_get lits 0 ≡ Some lit) ⊎ (slice_get lits 1 ≡ Some lit)
-      go (inl e) = inl (ap (λ (ls : List Lit). slice_get ls 0) (sym (watch_lits a clause w lits is)) ∙ w.is_first ∙ ap Some (sym e))
-      go (inr e) = inr (ap (λ (ls : List Lit). slice_get ls 1) (sym (watch_lits a clause w lits is)) ∙ w.is_second ∙ ap Some (sym e))
+      go (inl e) = inl (ap (λ (ls : List Lit). slice_get ls 0) (sym (watch_lits a clause w lits is)) ∙ w.is_first
+          ∙ ap Some (sym e))
+      go (inr e) = inr (ap (λ (ls : List Lit). slice_get ls 1) (sym (watch_lits a clause w lits is)) ∙ w.is_second
+          ∙ ap Some (sym e))
 
 -- the literals of clauses are of the trail's variables
-pub clause_vars : (a : Arena) (vars clause : ℕ) (lits : List Lit) → AreWatchers a → length a.watchers ≡ 2 * vars → slice_get a.clauses clause ≡ Some lits
+pub clause_vars : (a : Arena) (vars clause : ℕ) (lits : List Lit) → AreWatchers a → length a.watchers ≡ 2 * vars
+    → slice_get a.clauses clause ≡ Some lits
     → (k : ℕ) (x : Lit) → slice_get lits k ≡ Some x → var_of x < vars
 clause_vars a vars clause lits are fits is k x at =
-    let within = all_at (λ (l : Lit). place_of l < length a.watchers) lits k x (all_at (AreWithin a) a.clauses clause lits are.within is) at in
+    let within = all_at (λ (l : Lit). place_of l < length a.watchers) lits k x
+    (all_at (AreWithin a) a.clauses clause lits are.within is) at in
     var_within x vars (omega (arith, within, fits))
 
 -- what a test of a truth tells
@@ -53,37 +58,43 @@ told (Some false) false e = refl
 
 -- ---- outcomes
 
-module _ (a : Arena) (t : Trail) (clause : ℕ) (lits : List Lit) (from : ℕ) (lit other : Lit) (f : IsFacing a clause lits from lit other) where
+module _ (a : Arena) (t : Trail) (clause : ℕ) (lits : List Lit) (from : ℕ) (lit other : Lit)
+    (f : IsFacing a clause lits from lit other) where
   -- the other watched literal is true
   pub looked_true : Contains (lits_of t) other → IsSeenTo a t lit clause
   looked_true c = go (facing_cases a clause lits from lit other f)
     where
-      go : ((from ≡ 0) × (slice_get lits 0 ≡ Some lit) × (slice_get lits 1 ≡ Some other)) ⊎ ((from ≡ 1) × (slice_get lits 0 ≡ Some other) × (slice_get lits 1 ≡ Some lit))
+      go : ((from ≡ 0) × (slice_get lits 0 ≡ Some lit) × (slice_get lits 1 ≡ Some other)) ⊎
+          ((from ≡ 1) × (slice_get lits 0 ≡ Some other) × (slice_get lits 1 ≡ Some lit))
           → IsSeenTo a t lit clause
       go (inl h) =
           record {
             first = λ w e. subst (Contains (lits_of t)) (sym (watch_second a clause w lits other f.is_clause h.2)) c;
             second = λ w e.
                 subst (Contains (lits_of t))
-                (sym (watch_second a clause w lits other f.is_clause h.2) ∙ e ∙ sym (watch_first a clause w lits lit f.is_clause h.1)) c;
+                (sym (watch_second a clause w lits other f.is_clause h.2) ∙ e
+                ∙ sym (watch_first a clause w lits lit f.is_clause h.1)) c;
           }
       go (inr h) =
           record {
             first = λ w e.
                 subst (Contains (lits_of t))
-                (sym (watch_first a clause w lits other f.is_clause h.1) ∙ e ∙ sym (watch_second a clause w lits lit f.is_clause h.2)) c;
+                (sym (watch_first a clause w lits other f.is_clause h.1) ∙ e
+                ∙ sym (watch_second a clause w lits lit f.is_clause h.2)) c;
             second = λ w e. subst (Contains (lits_of t)) (sym (watch_first a clause w lits other f.is_clause h.1)) c;
           }
 
   -- the literal is false, and all from the third on
-  module _ (is_false : Contains (lits_of t) (negation lit)) (none : (k : ℕ) (x : Lit) → 2 ≤ k → slice_get lits k ≡ Some x → Contains (lits_of t) (negation x)) where
+  module _ (is_false : Contains (lits_of t) (negation lit)) (none : (k : ℕ) (x : Lit) → 2 ≤ k → slice_get lits k ≡
+      Some x → Contains (lits_of t) (negation x)) where
     rest_false : (k : ℕ) (x : Lit) → slice_get lits k ≡ Some x → (x ≡ other) ⊎ Contains (lits_of t) (negation x)
     rest_false k x is = go (facing_cases a clause lits from lit other f) (cases_eq k 0) (cases_eq k 1)
       where
         here : (n : ℕ) (y : Lit) → k ≡ n → slice_get lits n ≡ Some y → y ≡ x
         here n y e at = same_Some y x (sym at ∙ ap (slice_get lits) (sym e) ∙ is)
 
-        go : ((from ≡ 0) × (slice_get lits 0 ≡ Some lit) × (slice_get lits 1 ≡ Some other)) ⊎ ((from ≡ 1) × (slice_get lits 0 ≡ Some other) × (slice_get lits 1 ≡ Some lit))
+        go : ((from ≡ 0) × (slice_get lits 0 ≡ Some lit) × (slice_get lits 1 ≡ Some other)) ⊎
+            ((from ≡ 1) × (slice_get lits 0 ≡ Some other) × (slice_get lits 1 ≡ Some lit))
             → (k ≡ 0) ⊎ (k ≢ 0) → (k ≡ 1) ⊎ (k ≢ 1) → (x ≡ other) ⊎ Contains (lits_of t) (negation x)
         go (inl h) (inl e) second = inr (subst (λ (l : Lit). Contains (lits_of t) (negation l)) (here 0 lit e h.1) is_false)
         go (inl h) (inr d) (inl e) = inl (sym (here 1 other e h.2))
@@ -106,7 +117,11 @@ module _ (a : Arena) (t : Trail) (clause : ℕ) (lits : List Lit) (from : ℕ) (
     -- or, where that is false too, has no other
     pub looked_conflict : Contains (lits_of t) (negation other) → IsConflict a (lits_of t) clause
     looked_conflict other_false =
-        record { watched = w; all_false = λ l c. let at = place_in w.lits l c in go l (rest_false at.0 l (ap (λ (ls : List Lit). slice_get ls at.0) (sym same) ∙ at.1)) }
+        record {
+          watched = w;
+          all_false = λ l c. let at = place_in w.lits l c in go l
+              (rest_false at.0 l (ap (λ (ls : List Lit). slice_get ls at.0) (sym same) ∙ at.1));
+        }
       where
         w : IsWatched a clause
         w = f.are.watched lit clause f.stands
@@ -119,8 +134,10 @@ module _ (a : Arena) (t : Trail) (clause : ℕ) (lits : List Lit) (from : ℕ) (
         go l (inr c) = c
 
 -- a watch that was moved, by the literals that were looked at
-pub looked_moved : (a b : Arena) (clause : ℕ) (lits : List Lit) (from to : ℕ) (lit other : Lit) → IsFacing a clause lits from lit other → 2 ≤ to
-    → (m : MovesWatch a b clause from to) → b.clauses_left ≡ a.clauses_left → b.lits_left ≡ a.lits_left → IsMoved a b clause lits from to lit m.taken
+pub looked_moved : (a b : Arena) (clause : ℕ) (lits : List Lit) (from to : ℕ) (lit other : Lit)
+    → IsFacing a clause lits from lit other → 2 ≤ to
+    → (m : MovesWatch a b clause from to) → b.clauses_left ≡ a.clauses_left → b.lits_left ≡ a.lits_left
+    → IsMoved a b clause lits from to lit m.taken
 looked_moved a b clause lits from to lit other f high m clauses_left lits_left =
     record {
       high = high;
@@ -129,7 +146,8 @@ looked_moved a b clause lits from to lit other f high m clauses_left lits_left =
           m.clauses
           ∙ ap (λ (ls : List Lit). slice_set a.clauses clause (slice_set (slice_set ls from m.taken) to m.left)) same
           ∙ ap (λ (l : Lit). slice_set a.clauses clause (slice_set (slice_set lits from m.taken) to l)) left;
-      watchers = subst (λ (l : Lit). b.watchers ≡ lists_with (lists_without a.watchers (place_of l) clause) (place_of m.taken) clause) left m.watchers;
+      watchers = subst (λ (l : Lit). b.watchers ≡ lists_with (lists_without a.watchers (place_of l) clause)
+          (place_of m.taken) clause) left m.watchers;
       clauses_left = clauses_left;
       lits_left = lits_left;
     }

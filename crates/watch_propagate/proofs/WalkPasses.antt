@@ -48,7 +48,8 @@ below n q (x ∷ xs) all is = go (λ h. below n q xs (λ k y at. all (suc k) y a
     go more (inr h) = more h
 
 -- the entry at a place where there is a variable, and where there is a literal
-pub entry_by : {B : Type 0} (f : Entry → B) (es : List Entry) (k : ℕ) (x : B) → slice_get (map f es) k ≡ Some x → (e : Entry) × (slice_get es k ≡ Some e) × (f e ≡ x)
+pub entry_by : {B : Type 0} (f : Entry → B) (es : List Entry) (k : ℕ) (x : B) → slice_get (map f es) k ≡ Some x →
+    (e : Entry) × (slice_get es k ≡ Some e) × (f e ≡ x)
 entry_by f es k x is = by (slice_get es k) refl
   where
     by : (o : Option Entry) → slice_get es k ≡ o → (e : Entry) × (slice_get es k ≡ Some e) × (f e ≡ x)
@@ -66,7 +67,12 @@ few_entries t are =
     λ k x is.
     let at = entry_by (λ (e : Entry). var_of e.lit) t.entries k x is in
     subst (λ v. v < t.vars) at.2 (all_at (λ (e : Entry). var_of e.lit < t.vars) t.entries k at.0 are.within at.1) in
-    omega (arith, length-le_from_distinct_below vars t.vars (distinct vars are.once) (λ q any. below t.vars q vars within any), length-map t.entries (λ (e : Entry). var_of e.lit))
+    omega (
+      arith,
+      length-le_from_distinct_below vars t.vars (distinct vars are.once)
+          (λ q any. below t.vars q vars within any),
+      length-map t.entries (λ (e : Entry). var_of e.lit),
+    )
 
 -- a literal that is true is of one of the variables
 pub true_var : (t : Trail) (k : ℕ) (lit : Lit) → AreEntries t → slice_get (lits_of t) k ≡ Some lit → var_of lit < t.vars
@@ -83,13 +89,16 @@ is_pending t lit l e is = is ∙ ap Some (sym (ap negation e ∙ negation_twice 
 
 pub still_pending : (a b : Arena) (t u : Trail) (lit : Lit) → GoesOn a b t u → IsPending t lit → IsPending u lit
 still_pending a b t u lit g pending =
-    subst (λ (k : ℕ). slice_get (lits_of u) k ≡ Some (negation lit)) (sym g.gone) (lit_stays b t u t.gone (negation lit) g.implies pending)
+    subst (λ (k : ℕ). slice_get (lits_of u) k ≡ Some (negation lit)) (sym g.gone)
+    (lit_stays b t u t.gone (negation lit) g.implies pending)
 
-pub pending_var : (t : Trail) (lit l : Lit) → AreEntries t → l ≡ negation lit → slice_get (lits_of t) t.gone ≡ Some lit → var_of l < t.vars
+pub pending_var : (t : Trail) (lit l : Lit) → AreEntries t → l ≡ negation lit → slice_get (lits_of t) t.gone ≡ Some
+    lit → var_of l < t.vars
 pending_var t lit l are e is = omega (arith, ap var_of e, negation_var lit, true_var t t.gone lit are is)
 
 -- fewer entries are left
-pub fewer_left : (a b : Arena) (t u v : Trail) (lit : Lit) → AreEntries t → GoesOn a b t u → v ≡ passed u → slice_get (lits_of t) t.gone ≡ Some lit → v.vars - v.gone < t.vars - t.gone
+pub fewer_left : (a b : Arena) (t u v : Trail) (lit : Lit) → AreEntries t → GoesOn a b t u → v ≡ passed u
+    → slice_get (lits_of t) t.gone ≡ Some lit → v.vars - v.gone < t.vars - t.gone
 fewer_left a b t u v lit are g is pending =
     rw is (omega (arith, g.implies.vars, g.gone, few_entries t are, pending_within t t.gone lit pending))
 
@@ -113,15 +122,22 @@ module _ (a : Arena) (t : Trail) (lit : Lit) (rule : KeepsWatch a t) (pending : 
       take_more (lits_of t) t.gone lit (slice_get_within (lits_of t) t.gone (negation lit) pending)
       ∙ ap (λ (l : Lit). take t.gone (lits_of t) ++ l ∷ []) (get_or_from_slice_get (lits_of t) t.gone (negation lit) lit pending)
 
-  found : (l : Lit) → Contains (take (t.gone + 1) (lits_of t)) (negation l) → Contains (take t.gone (lits_of t)) (negation l) ⊎ (l ≡ lit)
-  found l c = go (Contains-push_cases (take t.gone (lits_of t)) (negation lit) (negation l) (subst (λ (ls : List Lit). Contains ls (negation l)) one_more c))
+  found : (l : Lit) → Contains (take (t.gone + 1) (lits_of t)) (negation l) → Contains (take t.gone (lits_of t))
+      (negation l) ⊎ (l ≡ lit)
+  found l c = go (Contains-push_cases (take t.gone (lits_of t)) (negation lit) (negation l)
+      (subst (λ (ls : List Lit). Contains ls (negation l)) one_more c))
     where
-      go : Contains (take t.gone (lits_of t)) (negation l) ⊎ (negation lit ≡ negation l) → Contains (take t.gone (lits_of t)) (negation l) ⊎ (l ≡ lit)
+      go : Contains (take t.gone (lits_of t)) (negation l) ⊎ (negation lit ≡ negation l)
+          → Contains (take t.gone (lits_of t)) (negation l) ⊎ (l ≡ lit)
       go (inl i) = inl i
       go (inr e) = inr (same_negation l lit (sym e))
 
   pub passed_rule : KeepsWatch a (passed t)
-  passed_rule = record { passed = λ i start is. omega (arith, rule.passed i start is); guarded = λ clause w. guards clause w (rule.guarded clause w) }
+  passed_rule = record {
+    passed = λ i start is. omega (arith, rule.passed i start is);
+    guarded = λ clause w. guards
+        clause w (rule.guarded clause w);
+  }
     where
       by_first : (clause : ℕ) (w : IsWatched a clause) → w.first ≡ lit → Contains (lits_of t) w.second
       by_first clause w e = (seen clause (subst (λ (l : Lit). IsIn clause (watchers_of a l)) e w.by_first)).first w e

@@ -16,9 +16,11 @@ use Rattle.watch_propagate.proofs.WalkGoes.{goes_same, goes_on, lit_stays}
 pub record IsGoing (at : Option ℕ) (was a : Arena) (before t : Trail) (lit : Lit) : Type 0 where
   pub goes : GoesOn was a before t
   pub stands : IfSome at (λ clause. IsIn clause (watchers_of a lit))
-  pub seen : (clause : ℕ) → IsIn clause (watchers_of a lit) → IsIn clause (rest_from at (watchers_of a lit)) ⊎ IsSeenTo a t lit clause
+  pub seen : (clause : ℕ) → IsIn clause (watchers_of a lit) → IsIn clause (rest_from at (watchers_of a lit)) ⊎
+      IsSeenTo a t lit clause
 
-pub going_begins : (at : Option ℕ) (a : Arena) (t : Trail) (lit : Lit) → KeepsWatch a t → at ≡ head_of (watchers_of a lit) → IsGoing at a a t t lit
+pub going_begins : (at : Option ℕ) (a : Arena) (t : Trail) (lit : Lit) → KeepsWatch a t → at ≡ head_of
+    (watchers_of a lit) → IsGoing at a a t t lit
 going_begins at a t lit rule first =
     record {
       goes = goes_same a t rule;
@@ -29,7 +31,8 @@ going_begins at a t lit rule first =
 -- what is known while it goes on
 module _ (at : Option ℕ) (was a : Arena) (before t : Trail) (lit : Lit) (g : IsGoing at was a before t lit) where
   pub going_false : IsPending before lit → Contains (lits_of t) (negation lit)
-  going_false pending = contains_at (lits_of t) before.gone (negation lit) (lit_stays a before t before.gone (negation lit) g.goes.implies pending)
+  going_false pending = contains_at (lits_of t) before.gone (negation lit)
+      (lit_stays a before t before.gone (negation lit) g.goes.implies pending)
 
   -- at its end all were seen to
   pub going_ends : at ≡ None → (clause : ℕ) → IsIn clause (watchers_of a lit) → IsSeenTo a t lit clause
@@ -46,7 +49,8 @@ module _ (at : Option ℕ) (was a : Arena) (before t : Trail) (lit : Lit) (g : I
     pub going_stands : IsIn clause (watchers_of a lit)
     going_stands = subst (λ (o : Option ℕ). IfSome o (λ x. IsIn x (watchers_of a lit))) is g.stands
 
-    module _ (once : HasNoneTwice (watchers_of a lit)) (next : Option ℕ) (on : next ≡ following clause (watchers_of a lit)) (b : Arena) (u : Trail) where
+    module _ (once : HasNoneTwice (watchers_of a lit)) (next : Option ℕ)
+        (on : next ≡ following clause (watchers_of a lit)) (b : Arena) (u : Trail) where
       abbrev list : List ℕ
       list = watchers_of a lit
 
@@ -63,10 +67,12 @@ module _ (at : Option ℕ) (was a : Arena) (before t : Trail) (lit : Lit) (g : I
 
       module _ (step : GoesOn a b t u) (others : KeepsOthers a b t u lit clause) where
         -- the clause where it is was seen to
-        stays_seen : IsSeenTo b u lit clause → (c : ℕ) → IsIn c (rest_from at list) ⊎ IsSeenTo a t lit c → IsIn c (rest_from (following clause list) list) ⊎ IsSeenTo b u lit c
+        stays_seen : IsSeenTo b u lit clause → (c : ℕ) → IsIn c (rest_from at list) ⊎ IsSeenTo a t lit c
+            → IsIn c (rest_from (following clause list) list) ⊎ IsSeenTo b u lit c
         stays_seen here c (inl i) = go (subst (IsIn c) rest_now i)
           where
-            go : IsIn c (clause ∷ rest_from (following clause list) list) → IsIn c (rest_from (following clause list) list) ⊎ IsSeenTo b u lit c
+            go : IsIn c (clause ∷ rest_from (following clause list) list)
+                → IsIn c (rest_from (following clause list) list) ⊎ IsSeenTo b u lit c
             go (inl e) = inr (subst (IsSeenTo b u lit) (sym e) here)
             go (inr j) = inl j
         stays_seen here c (inr s) = go (cases_eq c clause)
@@ -76,10 +82,12 @@ module _ (at : Option ℕ) (was a : Arena) (before t : Trail) (lit : Lit) (g : I
             go (inr d) = inr (others c d s)
 
         -- or it watches the literal no more
-        goes_off : (c : ℕ) → c ≢ clause → IsIn c (rest_from at list) ⊎ IsSeenTo a t lit c → IsIn c (rest_from (following clause list) (without clause list)) ⊎ IsSeenTo b u lit c
+        goes_off : (c : ℕ) → c ≢ clause → IsIn c (rest_from at list) ⊎ IsSeenTo a t lit c
+            → IsIn c (rest_from (following clause list) (without clause list)) ⊎ IsSeenTo b u lit c
         goes_off c d (inl i) = go (subst (IsIn c) rest_now i)
           where
-            go : IsIn c (clause ∷ rest_from (following clause list) list) → IsIn c (rest_from (following clause list) (without clause list)) ⊎ IsSeenTo b u lit c
+            go : IsIn c (clause ∷ rest_from (following clause list) list)
+                → IsIn c (rest_from (following clause list) (without clause list)) ⊎ IsSeenTo b u lit c
             go (inl e) = absurd (d e)
             go (inr j) = inl (rw (rest_without clause list once) j)
         goes_off c d (inr s) = inr (others c d s)
@@ -97,6 +105,7 @@ module _ (at : Option ℕ) (was a : Arena) (before t : Trail) (lit : Lit) (g : I
               stands = rw (on, off) (following_stays clause list);
               seen = λ c i.
                   let there : IsIn c (without clause list) = subst (IsIn c) off i in
-                  let differs : c ≢ clause = λ e. not_in_without clause list once (subst (λ (n : ℕ). IsIn n (without clause list)) e there) in
+                  let differs : c ≢ clause = λ e. not_in_without clause list once
+                  (subst (λ (n : ℕ). IsIn n (without clause list)) e there) in
                   rw (on, off) (goes_off c differs (g.seen c (in_without clause c list there)));
             }

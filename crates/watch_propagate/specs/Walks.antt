@@ -26,7 +26,8 @@ KeepsOthers old new was is lit clause = (other : ℕ) → other ≢ clause → I
 -- a clause that watches a literal was seen to, or watches it no more
 abbrev pub SeesTo : (old new : Arena) (is : Trail) (lit : Lit) (clause : ℕ) → Type 0
 SeesTo old new is lit clause =
-    ((watchers_of new lit ≡ watchers_of old lit) × IsSeenTo new is lit clause) ⊎ (watchers_of new lit ≡ without clause (watchers_of old lit))
+    ((watchers_of new lit ≡ watchers_of old lit) × IsSeenTo new is lit clause) ⊎
+    (watchers_of new lit ≡ without clause (watchers_of old lit))
 
 -- the literal has become false, of which the first literal that was not gone through tells
 abbrev pub IsPending : Trail → Lit → Type 0

@@ -88,7 +88,8 @@ pub record Implies (a : Arena) (old new : Trail) : Type 0 where
   pub gone : old.gone ≤ new.gone
   pub added : List Entry
   pub entries : new.entries ≡ old.entries ++ added
-  pub implied : (place : ℕ) (e : Entry) → length old.entries ≤ place → slice_get new.entries place ≡ Some e → IsImplied a new.entries place e
+  pub implied : (place : ℕ) (e : Entry) → length old.entries ≤ place → slice_get new.entries place ≡ Some e
+      → IsImplied a new.entries place e
 
 -- ---- a clause that is added
 

@@ -11,27 +11,38 @@ ghost use Rattle.watch_propagate.specs.WatchRule.{AreAtRest, AreReasons, HasAdde
 /// literal implied, where that one is open and the second is not false by what came before the current level.
 pub fn watch_rule_is_kept()
     ensures begun { (a : Arena) → (t : Trail) → t.entries ≡ [] → t.starts ≡ [] → KeepsWatch a t }
-    ensures assumed { (a : Arena) → (t : Trail) → (lit : Lit) → KeepsWatch a t → t.gone ≡ length t.entries → KeepsWatch a (assumed t lit) }
-    ensures implied { (a : Arena) → (t : Trail) → (lit : Lit) → (clause : ℕ) → AreEntries t → KeepsWatch a t → KeepsWatch a (implied t lit clause) }
+    ensures assumed { (a : Arena) → (t : Trail) → (lit : Lit) → KeepsWatch a t → t.gone ≡ length t.entries
+        → KeepsWatch a (assumed t lit) }
+    ensures implied { (a : Arena) → (t : Trail) → (lit : Lit) → (clause : ℕ) → AreEntries t → KeepsWatch a t
+        → KeepsWatch a (implied t lit clause) }
     ensures undone { (a : Arena) → (t : Trail) → (level : ℕ) → AreEntries t → KeepsWatch a t → KeepsWatch a (undone t level) }
-    ensures dropped { (old new : Arena) → (truths : List Bool) → (t : Trail) → new.clauses ≡ old.clauses → new.watchers ≡ map (filter (is_left truths old.clauses)) old.watchers → KeepsWatch old t → KeepsWatch new t }
-    ensures learned { (old new : Arena) → (lits : List Lit) → (t : Trail) → (lit : Lit) → (clause : ℕ) → AreEntries t → slice_get lits 0 ≡ Some lit → HasAdded old new lits → IsDueTo t lits → KeepsWatch old t → KeepsWatch new (implied t lit clause) }
-    ensures quiet { (old new : Arena) → (lits : List Lit) → (t : Trail) → AreEntries t → t.starts ≡ [] → HasAdded old new lits → IsQuiet t lits → KeepsWatch old t → KeepsWatch new t }
+    ensures dropped { (old new : Arena) → (truths : List Bool) → (t : Trail) → new.clauses ≡ old.clauses
+        → new.watchers ≡ map (filter (is_left truths old.clauses)) old.watchers → KeepsWatch old t → KeepsWatch new t }
+    ensures learned { (old new : Arena) → (lits : List Lit) → (t : Trail) → (lit : Lit) → (clause : ℕ) → AreEntries t
+        → slice_get lits 0 ≡ Some lit → HasAdded old new lits → IsDueTo t lits → KeepsWatch old t → KeepsWatch new
+        (implied t lit clause) }
+    ensures quiet { (old new : Arena) → (lits : List Lit) → (t : Trail) → AreEntries t → t.starts ≡ []
+        → HasAdded old new lits → IsQuiet t lits → KeepsWatch old t → KeepsWatch new t }
 {}
 
 /// Laws: under the watch rule unit propagation is at rest on each watched clause where a level begins, and where
 /// all entries have been gone through.
 pub fn watched_are_at_rest()
-    ensures at_starts { (a : Arena) → (t : Trail) → (i start : ℕ) → AreWatchers a → AreEntries t → KeepsWatch a t → slice_get t.starts i ≡ Some start → AreAtRest a (take start (lits_of t)) }
-    ensures at_end { (a : Arena) → (t : Trail) → AreWatchers a → AreEntries t → KeepsWatch a t → t.gone ≡ length t.entries → AreAtRest a (lits_of t) }
+    ensures at_starts { (a : Arena) → (t : Trail) → (i start : ℕ) → AreWatchers a → AreEntries t → KeepsWatch a t
+        → slice_get t.starts i ≡ Some start → AreAtRest a (take start (lits_of t)) }
+    ensures at_end { (a : Arena) → (t : Trail) → AreWatchers a → AreEntries t → KeepsWatch a t
+        → t.gone ≡ length t.entries → AreAtRest a (lits_of t) }
 {}
 
 /// Laws: entries keep their reasons where literals of clauses change places, where implied entries follow, and
 /// where levels are taken away.
 pub fn reasons_are_kept()
-    ensures propagated { (old new : Arena) → (was is : Trail) → IsRewatched old new → Implies new was is → AreReasons old was.entries → AreReasons new is.entries }
+    ensures propagated { (old new : Arena) → (was is : Trail) → IsRewatched old new → Implies new was is
+        → AreReasons old was.entries → AreReasons new is.entries }
     ensures assumed { (a : Arena) → (t : Trail) → (lit : Lit) → AreReasons a t.entries → AreReasons a (assumed t lit).entries }
-    ensures implied { (a : Arena) → (t : Trail) → (lit : Lit) → (clause : ℕ) → HasReason a (lits_of t) lit clause → AreReasons a t.entries → AreReasons a (implied t lit clause).entries }
+    ensures implied { (a : Arena) → (t : Trail) → (lit : Lit) → (clause : ℕ) → HasReason a (lits_of t) lit clause
+        → AreReasons a t.entries → AreReasons a (implied t lit clause).entries }
     ensures undone { (a : Arena) → (t : Trail) → (level : ℕ) → AreReasons a t.entries → AreReasons a (undone t level).entries }
-    ensures added { (old new : Arena) → (lits : List Lit) → (entries : List Entry) → HasAdded old new lits → AreReasons old entries → AreReasons new entries }
+    ensures added { (old new : Arena) → (lits : List Lit) → (entries : List Entry) → HasAdded old new lits
+        → AreReasons old entries → AreReasons new entries }
 {}

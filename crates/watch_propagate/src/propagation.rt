@@ -46,7 +46,8 @@ fn go_through(arena: &mut Arena, trail: &mut Trail, lit: Lit) -> Option<ClauseNo
     requires pending { IsPending trail.old lit }
     ensures goes { GoesOn arena.old arena.new trail.old trail.new }
     ensures conflict { IfSome result (λ clause. IsConflict arena.new (lits_of trail.new) clause.0) }
-    ensures all { IfNone result ((clause : ℕ) → IsIn clause (watchers_of arena.new lit) → IsSeenTo arena.new trail.new lit clause) }
+    ensures all { IfNone result ((clause : ℕ) → IsIn clause (watchers_of arena.new lit) → IsSeenTo arena.new
+        trail.new lit clause) }
 {
     let mut at = arena.first_watcher(lit);
     while let Some(clause) = at {
@@ -115,8 +116,10 @@ fn not_false(trail: &Trail, lits: &[Lit]) -> Option<usize>
     requires { (k : ℕ) (x : Lit) → slice_get lits.now k ≡ Some x → var_of x < trail.now.vars }
     ensures later { IfSome result (λ place. 2 ≤ place) }
     ensures within { IfSome result (λ place. place < length lits.now) }
-    ensures found { IfSome result (λ place. (x : Lit) → slice_get lits.now place ≡ Some x → Contains (lits_of trail.now) (negation x) → ⊥) }
-    ensures none { IfNone result ((k : ℕ) (x : Lit) → 2 ≤ k → slice_get lits.now k ≡ Some x → Contains (lits_of trail.now) (negation x)) }
+    ensures found { IfSome result (λ place. (x : Lit) → slice_get lits.now place ≡ Some x
+        → Contains (lits_of trail.now) (negation x) → ⊥) }
+    ensures none { IfNone result ((k : ℕ) (x : Lit) → 2 ≤ k → slice_get lits.now k ≡ Some x
+        → Contains (lits_of trail.now) (negation x)) }
 {
     for place in 2..lits.len() {
         if !is_false(trail, lits[place]) {

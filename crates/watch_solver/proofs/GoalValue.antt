@@ -17,15 +17,18 @@ pub record IsRead (t : Trail) (goal : Option Lit) (g : Lit) (values : List (Opti
   pub values_are : values ≡ values_of t
   pub is_of : var ≡ var_of g
 
-pub var_listed : (t : Trail) (goal : Option Lit) (g : Lit) (values : List (Option Bool)) (var : ℕ) → IsRead t goal g values var → IsGoalWithin t.vars goal → var < length values
+pub var_listed : (t : Trail) (goal : Option Lit) (g : Lit) (values : List (Option Bool)) (var : ℕ)
+    → IsRead t goal g values var → IsGoalWithin t.vars goal → var < length values
 var_listed t goal g values var r within =
     let few : var_of g < t.vars = subst (λ (o : Option Lit). IsGoalWithin t.vars o) r.is_goal within in
     omega (arith, few, r.is_of, as_many_values t, ap length r.values_are)
 
-told : (t : Trail) (goal : Option Lit) (g : Lit) (values : List (Option Bool)) (var : ℕ) (value read : Option Bool) → IsRead t goal g values var
+told : (t : Trail) (goal : Option Lit) (g : Lit) (values : List (Option Bool)) (var : ℕ) (value read : Option Bool)
+    → IsRead t goal g values var
     → slice_get values var ≡ Some read → read ≡ value → slice_get (values_of t) (var_of g) ≡ Some value
 told t goal g values var value read r at is =
-    ap (λ (vs : List (Option Bool)). slice_get vs (var_of g)) (sym r.values_are) ∙ ap (slice_get values) (sym r.is_of) ∙ at ∙ ap Some is
+    ap (λ (vs : List (Option Bool)). slice_get vs (var_of g)) (sym r.values_are) ∙ ap (slice_get values)
+    (sym r.is_of) ∙ at ∙ ap Some is
 
 same_if : (a b : Bool) → beq a b ≡ true → a ≡ b
 same_if true true e = refl
@@ -40,16 +43,21 @@ other_if true true e = let no : ⊥ = cc in absurd no
 other_if false false e = let no : ⊥ = cc in absurd no
 
 -- its value is its sign
-pub goal_is_false : (t : Trail) (goal : Option Lit) (g : Lit) (values : List (Option Bool)) (var : ℕ) (value negative : Bool) (read : Option Bool)
-    → IsRead t goal g values var → slice_get values var ≡ Some read → read ≡ Some value → negative ≡ is_negative g → beq value negative ≡ true → IsGoalFalse t goal
+pub goal_is_false : (t : Trail) (goal : Option Lit) (g : Lit) (values : List (Option Bool)) (var : ℕ)
+    (value negative : Bool) (read : Option Bool)
+    → IsRead t goal g values var → slice_get values var ≡ Some read → read ≡ Some value → negative ≡ is_negative g
+    → beq value negative ≡ true → IsGoalFalse t goal
 goal_is_false t goal g values var value negative read r at is sign test =
     let there : Contains (lits_of t) (negation g) =
-    false_by (lits_of t) g value (is_value t (var_of g) (Some value) (told t goal g values var (Some value) read r at is)) (same_if value negative test ∙ sign) in
+    false_by (lits_of t) g value (is_value t (var_of g) (Some value) (told t goal g values var (Some value) read r at
+    is)) (same_if value negative test ∙ sign) in
     subst (λ (o : Option Lit). IsGoalFalse t o) (sym r.is_goal) there
 
 -- its value is the other
-pub goal_is_true : (t : Trail) (goal : Option Lit) (g : Lit) (values : List (Option Bool)) (var : ℕ) (value negative : Bool) (read : Option Bool)
-    → IsRead t goal g values var → slice_get values var ≡ Some read → read ≡ Some value → negative ≡ is_negative g → beq value negative ≡ false
+pub goal_is_true : (t : Trail) (goal : Option Lit) (g : Lit) (values : List (Option Bool)) (var : ℕ)
+    (value negative : Bool) (read : Option Bool)
+    → IsRead t goal g values var → slice_get values var ≡ Some read → read ≡ Some value → negative ≡ is_negative g
+    → beq value negative ≡ false
     → length t.starts ≤ 0 → IsGoalTrue t goal g
 goal_is_true t goal g values var value negative read r at is sign test none = record {
   is_goal = r.is_goal;
@@ -60,7 +68,8 @@ goal_is_true t goal g values var value negative read r at is sign test none = re
 
 -- it has none
 pub goal_is_open : (t : Trail) (goal : Option Lit) (g lit : Lit) (values : List (Option Bool)) (var : ℕ) (read : Option Bool)
-    → IsRead t goal g values var → slice_get values var ≡ Some read → read ≡ None → lit ≡ negation g → length t.starts ≤ 0 → IsNextLit t goal lit
+    → IsRead t goal g values var → slice_get values var ≡ Some read → read ≡ None → lit ≡ negation g
+    → length t.starts ≤ 0 → IsNextLit t goal lit
 goal_is_open t goal g lit values var read r at is negated none =
     let free = told t goal g values var None read r at is in
     let same : var_of lit ≡ var_of g = ap var_of negated ∙ (other_parts g).var in

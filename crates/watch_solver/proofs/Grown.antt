@@ -20,8 +20,10 @@ take_front : (old added new : List Step) (place : ℕ) → new ≡ old ++ added 
 take_front old added new place is h = ap (take place) is ∙ take-append-le place old added h
 
 -- what stands before the end stood there before
-stood : (old added new : List Step) (place : ℕ) (step : Step) → new ≡ old ++ added → place < length old → slice_get new place ≡ Some step → slice_get old place ≡ Some step
-stood old added new place step is h at = get_front old added place step h (ap (λ (ss : List Step). slice_get ss place) (sym is) ∙ at)
+stood : (old added new : List Step) (place : ℕ) (step : Step) → new ≡ old ++ added → place < length old
+    → slice_get new place ≡ Some step → slice_get old place ≡ Some step
+stood old added new place step is h at = get_front old added place step h
+    (ap (λ (ss : List Step). slice_get ss place) (sym is) ∙ at)
 
 -- ---- no step is added
 
@@ -50,23 +52,28 @@ counted_none vars old new is = record {
 -- ---- one step is added
 
 -- a place behind the others is that of the step
-last_place : (old new : List Step) (step other : Step) (place : ℕ) → new ≡ old ++ step ∷ [] → length old ≤ place → slice_get new place ≡ Some other
+last_place : (old new : List Step) (step other : Step) (place : ℕ) → new ≡ old ++ step ∷ [] → length old ≤ place
+    → slice_get new place ≡ Some other
     → (place ≡ length old) × (step ≡ other)
-last_place old new step other place is h at = go (get_push old step place other (ap (λ (ss : List Step). slice_get ss place) (sym is) ∙ at))
+last_place old new step other place is h at =
+    go (get_push old step place other (ap (λ (ss : List Step). slice_get ss place) (sym is) ∙ at))
   where
     go : (slice_get old place ≡ Some other) ⊎ ((place ≡ length old) × (step ≡ other)) → (place ≡ length old) × (step ≡ other)
     go (inl before) = let within = slice_get_within old place other before in absurd (omega (arith, within, h))
     go (inr here) = here
 
 learned_last : (vars : ℕ) (old new : List Step) (step : Step) → new ≡ old ++ step ∷ [] → IsLearnedAfter vars (clauses_of old) step
-    → (place : ℕ) (other : Step) → length old ≤ place → slice_get new place ≡ Some other → IsLearnedAfter vars (clauses_of (take place new)) other
+    → (place : ℕ) (other : Step) → length old ≤ place → slice_get new place ≡ Some other → IsLearnedAfter vars
+    (clauses_of (take place new)) other
 learned_last vars old new step is learned place other h at =
     let here = last_place old new step other place is h at in
-    let whole : take place new ≡ old = take_front old (step ∷ []) new place is (omega (arith, here.0)) ∙ take_all place old (omega (arith, here.0)) in
+    let whole : take place new ≡ old = take_front old (step ∷ []) new place is (omega (arith, here.0))
+    ∙ take_all place old (omega (arith, here.0)) in
     subst (λ (s : Step). IsLearnedAfter vars (clauses_of (take place new)) s) here.1
     (subst (λ (ss : List Step). IsLearnedAfter vars (clauses_of ss) step) (sym whole) learned)
 
-pub grown_one : (vars : ℕ) (old new : List Step) (step : Step) → new ≡ old ++ step ∷ [] → IsLearnedAfter vars (clauses_of old) step → HasGrown vars old new
+pub grown_one : (vars : ℕ) (old new : List Step) (step : Step) → new ≡ old ++ step ∷ [] → IsLearnedAfter vars
+    (clauses_of old) step → HasGrown vars old new
 grown_one vars old new step is learned = record {
   added = step ∷ [];
   steps = is;
@@ -74,7 +81,8 @@ grown_one vars old new step is learned = record {
   counted = λ place other h more at. absurd (omega (arith, h, more, ap length is, length-append old (step ∷ [])));
 }
 
-pub counted_one : (vars : ℕ) (old new : List Step) (step : Step) → new ≡ old ++ step ∷ [] → IsLearnedAfter vars (clauses_of old) step → is_counted step ≡ true
+pub counted_one : (vars : ℕ) (old new : List Step) (step : Step) → new ≡ old ++ step ∷ [] → IsLearnedAfter vars
+    (clauses_of old) step → is_counted step ≡ true
     → HasCounted vars old new
 counted_one vars old new step is learned counted = record {
   added = step ∷ [];
@@ -85,7 +93,8 @@ counted_one vars old new step is learned counted = record {
 
 -- ---- one turn after another
 
-pub grown_then : (vars : ℕ) (old middle new : List Step) → HasCounted vars old middle → HasGrown vars middle new → HasGrown vars old new
+pub grown_then : (vars : ℕ) (old middle new : List Step) → HasCounted vars old middle → HasGrown vars middle new
+    → HasGrown vars old new
 grown_then vars old middle new one other = record {
   added = one.added ++ other.added;
   steps = other.steps ∙ ap (λ (ss : List Step). ss ++ other.added) one.steps ∙ append_assoc old one.added other.added;
@@ -93,19 +102,23 @@ grown_then vars old middle new one other = record {
   counted = λ place step h more at. counted place step h more at (cases_lt place (length middle));
 }
   where
-    learned : (place : ℕ) (step : Step) → length old ≤ place → slice_get new place ≡ Some step → (place < length middle) ⊎ (length middle ≤ place)
+    learned : (place : ℕ) (step : Step) → length old ≤ place → slice_get new place ≡ Some step →
+        (place < length middle) ⊎ (length middle ≤ place)
         → IsLearnedAfter vars (clauses_of (take place new)) step
     learned place step h at (inl below) =
-        subst (λ (ss : List Step). IsLearnedAfter vars (clauses_of ss) step) (sym (take_front middle other.added new place other.steps (omega (arith, below))))
+        subst (λ (ss : List Step). IsLearnedAfter vars (clauses_of ss) step)
+        (sym (take_front middle other.added new place other.steps (omega (arith, below))))
         (one.learned place step h (stood middle other.added new place step other.steps below at))
     learned place step h at (inr above) = other.learned place step above at
 
     counted : (place : ℕ) (step : Step) → length old ≤ place → place + 1 < length new → slice_get new place ≡ Some step
         → (place < length middle) ⊎ (length middle ≤ place) → is_counted step ≡ true
-    counted place step h more at (inl below) = one.counted place step h (stood middle other.added new place step other.steps below at)
+    counted place step h more at (inl below) = one.counted place step h
+        (stood middle other.added new place step other.steps below at)
     counted place step h more at (inr above) = other.counted place step above more at
 
-pub counted_then : (vars : ℕ) (old middle new : List Step) → HasCounted vars old middle → HasCounted vars middle new → HasCounted vars old new
+pub counted_then : (vars : ℕ) (old middle new : List Step) → HasCounted vars old middle → HasCounted vars middle new
+    → HasCounted vars old new
 counted_then vars old middle new one other = record {
   added = one.added ++ other.added;
   steps = other.steps ∙ ap (λ (ss : List Step). ss ++ other.added) one.steps ∙ append_assoc old one.added other.added;
@@ -113,10 +126,12 @@ counted_then vars old middle new one other = record {
   counted = λ place step h at. counted place step h at (cases_lt place (length middle));
 }
   where
-    learned : (place : ℕ) (step : Step) → length old ≤ place → slice_get new place ≡ Some step → (place < length middle) ⊎ (length middle ≤ place)
+    learned : (place : ℕ) (step : Step) → length old ≤ place → slice_get new place ≡ Some step →
+        (place < length middle) ⊎ (length middle ≤ place)
         → IsLearnedAfter vars (clauses_of (take place new)) step
     learned place step h at (inl below) =
-        subst (λ (ss : List Step). IsLearnedAfter vars (clauses_of ss) step) (sym (take_front middle other.added new place other.steps (omega (arith, below))))
+        subst (λ (ss : List Step). IsLearnedAfter vars (clauses_of ss) step)
+        (sym (take_front middle other.added new place other.steps (omega (arith, below))))
         (one.learned place step h (stood middle other.added new place step other.steps below at))
     learned place step h at (inr above) = other.learned place step above at
 
@@ -126,13 +141,15 @@ counted_then vars old middle new one other = record {
     counted place step h at (inr above) = other.counted place step above at
 
 -- with the variables that a state has still
-pub grown_across : (old middle : State) (first new : List Step) → middle.frame ≡ old.frame → HasCounted (vars_of old) first middle.steps
+pub grown_across : (old middle : State) (first new : List Step) → middle.frame ≡ old.frame → HasCounted (vars_of old)
+    first middle.steps
     → HasGrown (vars_of middle) middle.steps new → HasGrown (vars_of old) first new
 grown_across old middle first new frame one other =
     grown_then (vars_of old) first middle.steps new one
     (subst (λ (n : ℕ). HasGrown n middle.steps new) (ap (λ (f : Frame). length f.statements) frame) other)
 
-pub counted_across : (old middle : State) (first new : List Step) → middle.frame ≡ old.frame → HasCounted (vars_of old) first middle.steps
+pub counted_across : (old middle : State) (first new : List Step) → middle.frame ≡ old.frame → HasCounted
+    (vars_of old) first middle.steps
     → HasCounted (vars_of middle) middle.steps new → HasCounted (vars_of old) first new
 counted_across old middle first new frame one other =
     counted_then (vars_of old) first middle.steps new one
@@ -140,8 +157,10 @@ counted_across old middle first new frame one other =
 
 -- ---- what a state learns
 
-pub learned_after : (s : State) (lits : List Lit) (hints : List ℕ) (counted : Bool) → FollowsFrom (clauses_of s.steps) lits hints → IsFit (vars_of s) lits → OnlyOnce hints
-    → (counted ≡ true → IsNew (clauses_of s.steps) (Learn lits hints counted)) → IsLearnedAfter (vars_of s) (clauses_of s.steps) (Learn lits hints counted)
+pub learned_after : (s : State) (lits : List Lit) (hints : List ℕ) (counted : Bool) → FollowsFrom
+    (clauses_of s.steps) lits hints → IsFit (vars_of s) lits → OnlyOnce hints
+    → (counted ≡ true → IsNew (clauses_of s.steps) (Learn lits hints counted)) → IsLearnedAfter (vars_of s)
+    (clauses_of s.steps) (Learn lits hints counted)
 learned_after s lits hints counted follows fit once new = (follows, fit, once, new)
 
 pub counted_learned : (old new : State) → HasLearned old new → HasCounted (vars_of old) old.steps new.steps
@@ -152,11 +171,13 @@ counted_learned old new h =
 pub grown_concluded : (old new : State) (lits : List Lit) → HasConcluded old new lits → HasGrown (vars_of old) old.steps new.steps
 grown_concluded old new lits h =
     grown_one (vars_of old) old.steps new.steps (Learn lits h.hints false) h.steps
-    (learned_after old lits h.hints false h.derived.follows h.derived.fit h.derived.hints_once (λ e. let no : ⊥ = cc in absurd no))
+    (learned_after old lits h.hints false h.derived.follows h.derived.fit h.derived.hints_once
+    (λ e. let no : ⊥ = cc in absurd no))
 
 -- ---- the law
 
-new_after : (vars : ℕ) (earlier : List (List Lit)) (step : Step) → IsLearnedAfter vars earlier step → is_counted step ≡ true → IsNew earlier step
+new_after : (vars : ℕ) (earlier : List (List Lit)) (step : Step) → IsLearnedAfter vars earlier step
+    → is_counted step ≡ true → IsNew earlier step
 new_after vars earlier (Axiom label lits) learned counted = absurd learned
 new_after vars earlier (OnDemand label lits) learned counted = absurd learned
 new_after vars earlier (Learn lits hints counted) learned is = learned.3 is
@@ -166,6 +187,7 @@ stay_new vars old new were grown place step at counted = go (cases_lt place (len
   where
     go : (place < length old) ⊎ (length old ≤ place) → IsNew (clauses_of (take place new)) step
     go (inl below) =
-        subst (λ (ss : List Step). IsNew (clauses_of ss) step) (sym (take_front old grown.added new place grown.steps (omega (arith, below))))
+        subst (λ (ss : List Step). IsNew (clauses_of ss) step)
+        (sym (take_front old grown.added new place grown.steps (omega (arith, below))))
         (were place step (stood old grown.added new place step grown.steps below at) counted)
     go (inr above) = new_after vars (clauses_of (take place new)) step (grown.learned place step above at) counted

@@ -47,7 +47,8 @@ pub has_value : (lits : List Lit) (var : ℕ) (value : Bool) → value_in lits v
 has_value [] var value is = absurd (cc)
 has_value (x ∷ xs) var value is = go (λ h. has_value xs var value h) (cases_eq (var_of x) var)
   where
-    go : (value_in xs var ≡ Some value → HasValue xs var value) → (var_of x ≡ var) ⊎ (var_of x ≡ var → ⊥) → HasValue (x ∷ xs) var value
+    go : (value_in xs var ≡ Some value → HasValue xs var value) → (var_of x ≡ var) ⊎ (var_of x ≡ var → ⊥)
+        → HasValue (x ∷ xs) var value
     go more (inl e) =
         let same : not (is_negative x) ≡ value = same_Some (not (is_negative x)) value (sym (value_here x xs var e) ∙ is) in
         record { lit = x; place = 0; is_there = refl; is_of = e; sign = sym (not_twice (is_negative x)) ∙ ap not same }
@@ -56,13 +57,15 @@ has_value (x ∷ xs) var value is = go (λ h. has_value xs var value h) (cases_e
         record { lit = later.lit; place = suc later.place; is_there = later.is_there; is_of = later.is_of; sign = later.sign }
 
 -- the literal of a variable is true by the value that is not its sign, and false by its sign
-pub true_by : (lits : List Lit) (lit : Lit) (value : Bool) → value_in lits (var_of lit) ≡ Some value → value ≡ not (is_negative lit) → Contains lits lit
+pub true_by : (lits : List Lit) (lit : Lit) (value : Bool) → value_in lits (var_of lit) ≡ Some value → value ≡ not
+    (is_negative lit) → Contains lits lit
 true_by lits lit value is other =
     let h = has_value lits (var_of lit) value is in
     let same : h.lit ≡ lit = same_parts h.lit lit h.is_of (h.sign ∙ ap not other ∙ not_twice (is_negative lit)) in
     subst (Contains lits) same (contains_at lits h.place h.lit h.is_there)
 
-pub false_by : (lits : List Lit) (lit : Lit) (value : Bool) → value_in lits (var_of lit) ≡ Some value → value ≡ is_negative lit → Contains lits (negation lit)
+pub false_by : (lits : List Lit) (lit : Lit) (value : Bool) → value_in lits (var_of lit) ≡ Some value
+    → value ≡ is_negative lit → Contains lits (negation lit)
 false_by lits lit value is sign =
     let h = has_value lits (var_of lit) value is in
     let same : h.lit ≡ negation lit = is_other lit h.lit h.is_of (h.sign ∙ ap not sign) in
@@ -84,7 +87,8 @@ all_vars n es all = All-map (λ x. x < n) (λ (e : Entry). var_of e.lit) es all
 
 apart : (xs : List ℕ) → OnlyOnce xs → AllPairs (λ x y. x ≢ y) xs
 apart xs once i j d before within same =
-    let no : i ≡ j = once i j (get_or xs j d) (slice_get-get_or xs i d (omega (arith, before, within)) ∙ ap Some same) (slice_get-get_or xs j d within) in
+    let no : i ≡ j = once i j (get_or xs j d) (slice_get-get_or xs i d (omega (arith, before, within))
+    ∙ ap Some same) (slice_get-get_or xs j d within) in
     omega (arith, no, before)
 
 -- there are at most as many entries as variables

@@ -29,7 +29,8 @@ var_within t lit are c =
     let at = stands_at (lits_of t) lit c in
     let entry = stands t at.0 lit at.1 in
     subst (λ (v : ℕ). v < t.vars) entry.is_of
-    (All-contains (λ (e : Entry). var_of e.lit < t.vars) t.entries entry.entry are.within (contains_at t.entries at.0 entry.entry entry.is_entry))
+    (All-contains (λ (e : Entry). var_of e.lit < t.vars) t.entries entry.entry are.within
+    (contains_at t.entries at.0 entry.entry entry.is_entry))
 
 -- the truth of a literal by sign and truth of its variable
 unfoldable holds_by : Bool → Bool → Bool
@@ -51,14 +52,16 @@ by_other false true is = sym is
 by_other false false is = refl
 
 -- a literal that is true holds by the truths
-holds_where_true : (t : Trail) (truths : List Bool) (lit : Lit) → AreEntries t → AreTruths (values_of t) truths → Contains (lits_of t) lit
+holds_where_true : (t : Trail) (truths : List Bool) (lit : Lit) → AreEntries t → AreTruths (values_of t) truths
+    → Contains (lits_of t) lit
     → holds (truth_in truths) lit ≡ true
 holds_where_true t truths lit are of c = go (value_in (lits_of t) (var_of lit)) refl
   where
     listed : slice_get (values_of t) (var_of lit) ≡ Some (value_in (lits_of t) (var_of lit))
     listed = value_listed t (var_of lit) (var_within t lit are c)
 
-    signs : (b : Bool) → value_in (lits_of t) (var_of lit) ≡ Some b → (b ≡ is_negative lit) ⊎ (b ≡ not (is_negative lit)) → holds (truth_in truths) lit ≡ true
+    signs : (b : Bool) → value_in (lits_of t) (var_of lit) ≡ Some b → (b ≡ is_negative lit) ⊎
+        (b ≡ not (is_negative lit)) → holds (truth_in truths) lit ≡ true
     signs b is (inl sign) = absurd (lits_consistent t are lit c (false_by (lits_of t) lit b is sign))
     signs b is (inr other) =
         by_parts (truth_in truths) lit
@@ -75,16 +78,19 @@ false_where_true truth lit is =
     let parts = other_parts lit in
     let other : holds_by (not (is_negative lit)) (truth (var_of lit)) ≡ true =
     sym (ap (λ (n : Bool). holds_by n (truth (var_of lit))) parts.sign)
-    ∙ sym (ap (λ (v : ℕ). holds_by (is_negative (negation lit)) (truth v)) parts.var) ∙ sym (by_parts truth (negation lit)) ∙ is in
+    ∙ sym (ap (λ (v : ℕ). holds_by (is_negative (negation lit)) (truth v)) parts.var)
+    ∙ sym (by_parts truth (negation lit)) ∙ is in
     by_parts truth lit ∙ by_other (is_negative lit) (truth (var_of lit)) other
 
 -- a clause at rest has a literal that holds
 true_lit : (t : Trail) (truths : List Bool) (clause : List Lit) → AreEntries t → AreTruths (values_of t) truths → HasNoFree t
-    → All (λ lit. var_of lit < t.vars) clause → IsAtRest (lits_of t) clause → (lit : Lit) × Contains clause lit × (holds (truth_in truths) lit ≡ true)
+    → All (λ lit. var_of lit < t.vars) clause → IsAtRest (lits_of t) clause → (lit : Lit) × Contains clause lit ×
+    (holds (truth_in truths) lit ≡ true)
 true_lit t truths clause are of no_free within (inl h) = (h.lit, h.is_in, holds_where_true t truths h.lit are of h.is_true)
 true_lit t truths clause are of no_free within (inr h) = absurd (go (value_in (lits_of t) (var_of h.first)) refl)
   where
-    signs : (b : Bool) → value_in (lits_of t) (var_of h.first) ≡ Some b → (b ≡ is_negative h.first) ⊎ (b ≡ not (is_negative h.first)) → ⊥
+    signs : (b : Bool) → value_in (lits_of t) (var_of h.first) ≡ Some b → (b ≡ is_negative h.first) ⊎
+        (b ≡ not (is_negative h.first)) → ⊥
     signs b is (inl sign) = h.first_open.not_false (false_by (lits_of t) h.first b is sign)
     signs b is (inr other) = h.first_open.not_true (true_by (lits_of t) h.first b is other)
 
@@ -92,13 +98,16 @@ true_lit t truths clause are of no_free within (inr h) = absurd (go (value_in (l
     go (Some b) is = signs b is (sign_cases h.first b)
     go None is =
         no_free (var_of h.first)
-        (value_listed t (var_of h.first) (All-contains (λ (l : Lit). var_of l < t.vars) clause h.first within h.first_in) ∙ ap Some is)
+        (value_listed t (var_of h.first) (All-contains (λ (l : Lit). var_of l < t.vars) clause h.first within
+        h.first_in) ∙ ap Some is)
 
-pub is_model : (s : State) (goal : Option Lit) (truths : List Bool) → IsState s → AreEntries s.trail → IsComplete s goal → AreTruths (values_of s.trail) truths
+pub is_model : (s : State) (goal : Option Lit) (truths : List Bool) → IsState s → AreEntries s.trail
+    → IsComplete s goal → AreTruths (values_of s.trail) truths
     → IsModel (vars_of s) s.steps goal truths
 is_model s goal truths state are done of = record {
   whole = of.whole ∙ as_many_values s.trail ∙ state.trail_vars;
-  clauses_true = All-weaker (Contains (clauses_of s.steps)) (λ (clause : List Lit). (lit : Lit) × Contains clause lit × (holds (truth_in truths) lit ≡ true)) each (clauses_of s.steps) (All-contains_itself (clauses_of s.steps));
+  clauses_true = All-weaker (Contains (clauses_of s.steps)) (λ (clause : List Lit). (lit : Lit) × Contains clause lit
+      × (holds (truth_in truths) lit ≡ true)) each (clauses_of s.steps) (All-contains_itself (clauses_of s.steps));
   goal_false = IfSome_then goal done.whole.goal_false
       (λ g c. false_where_true (truth_in truths) g (holds_where_true s.trail truths (negation g) are of c));
 }
@@ -106,7 +115,8 @@ is_model s goal truths state are done of = record {
     fit : All (λ (c : List Lit). IsFit (vars_of s) c) (clauses_of s.steps)
     fit = All-map (λ (c : List Lit). IsFit (vars_of s) c) clause_of s.steps state.fit
 
-    each : (clause : List Lit) → Contains (clauses_of s.steps) clause → (lit : Lit) × Contains clause lit × (holds (truth_in truths) lit ≡ true)
+    each : (clause : List Lit) → Contains (clauses_of s.steps) clause → (lit : Lit) × Contains clause lit ×
+        (holds (truth_in truths) lit ≡ true)
     each clause c =
         let here = All-contains (λ (c : List Lit). IsFit (vars_of s) c) (clauses_of s.steps) clause fit c in
         true_lit s.trail truths clause are of done.whole.no_free

@@ -24,19 +24,23 @@ pub record Solver : Type 0 where
 
 -- ---- steps that are added
 
--- a step that is learned after earlier clauses: it follows with its hints, no literal and no hint twice, and is new if it is counted
+-- a step that is learned after earlier clauses: it follows with its hints, no literal and no hint twice, and is new if
+-- it is counted
 abbrev pub IsLearnedAfter : ℕ → List (List Lit) → Step → Type 0
 IsLearnedAfter vars earlier (Axiom label lits) = ⊥
 IsLearnedAfter vars earlier (OnDemand label lits) = ⊥
 IsLearnedAfter vars earlier (Learn lits hints counted) =
-    FollowsFrom earlier lits hints × IsFit vars lits × OnlyOnce hints × (counted ≡ true → IsNew earlier (Learn lits hints counted))
+    FollowsFrom earlier lits hints × IsFit vars lits × OnlyOnce hints ×
+    (counted ≡ true → IsNew earlier (Learn lits hints counted))
 
 -- steps were added; each was learned after those before it, and each but the last is counted
 pub record HasGrown (vars : ℕ) (old new : List Step) : Type 0 where
   pub added : List Step
   pub steps : new ≡ old ++ added
-  pub learned : (place : ℕ) (step : Step) → length old ≤ place → slice_get new place ≡ Some step → IsLearnedAfter vars (clauses_of (take place new)) step
-  pub counted : (place : ℕ) (step : Step) → length old ≤ place → place + 1 < length new → slice_get new place ≡ Some step → is_counted step ≡ true
+  pub learned : (place : ℕ) (step : Step) → length old ≤ place → slice_get new place ≡ Some step
+      → IsLearnedAfter vars (clauses_of (take place new)) step
+  pub counted : (place : ℕ) (step : Step) → length old ≤ place → place + 1 < length new → slice_get new place ≡ Some
+      step → is_counted step ≡ true
 
 -- ---- what is found
 
@@ -50,8 +54,9 @@ pub record IsModel (vars : ℕ) (steps : List Step) (goal : Option Lit) (truths 
   pub clauses_true : All (λ clause. (lit : Lit) × Contains clause lit × (holds (truth_in truths) lit ≡ true)) (clauses_of steps)
   pub goal_false : IfSome goal (λ lit. holds (truth_in truths) lit ≡ false)
 
--- a further counted step is due, by a trail: some step's clause is false, above the level of the goal, or above that where nothing is
--- assumed; and below the level at which it became false unit propagation is at rest on each step's clause
+-- a further counted step is due, by a trail: some step's clause is false, above the level of the goal, or above that
+-- where nothing is assumed; and below the level at which it became false unit propagation is at rest on each step's
+-- clause
 pub record IsDue (steps : List Step) (goal : Option Lit) (t : Trail) : Type 0 where
   pub clause : List Lit
   pub is_clause : Contains (clauses_of steps) clause

@@ -103,7 +103,8 @@ pub record AreTruths (values : List (Option Bool)) (truths : List Bool) : Type 0
 pub record HasCounted (vars : ℕ) (old new : List Step) : Type 0 where
   pub added : List Step
   pub steps : new ≡ old ++ added
-  pub learned : (place : ℕ) (step : Step) → length old ≤ place → slice_get new place ≡ Some step → IsLearnedAfter vars (clauses_of (take place new)) step
+  pub learned : (place : ℕ) (step : Step) → length old ≤ place → slice_get new place ≡ Some step
+      → IsLearnedAfter vars (clauses_of (take place new)) step
   pub counted : (place : ℕ) (step : Step) → length old ≤ place → slice_get new place ≡ Some step → is_counted step ≡ true
 
 -- ---- answers

@@ -4,15 +4,15 @@
 //! - `== TITLE`: the desk is cleared.
 //! - `:: REMARK`: nothing.
 //! - `-- NAME`: the lines that follow are the document of this name, until another one takes its place. A backslash at its end
-//!   stands for no line end.
-//! - `-- NAME N` or `-- NAME N-M`: for the next run alone, the lines that follow stand for these lines of the document; where none
-//!   follow, an empty line stands for each.
+//! stands for no line end.
+//! - `-- NAME N` or `-- NAME N-M`: for the next run alone, the lines that follow stand for these lines of the
+//! document; where none follow, an empty line stands for each.
 //! - `-- NAME: LINE`, `-- NAME N: LINE`: the same of one line.
 //! - `>> WORDS`: the program is run with these words, and no guide. Its status, a blank and its text follow; where the last
-//!   line is `...`, the text may go on. A document `p` that is not on the desk is what the run before wrote.
+//! line is `...`, the text may go on. A document `p` that is not on the desk is what the run before wrote.
 //! - `>> WORDS => STATUS LINE`: the same of a text of one line; a backslash at its end stands for no line end.
-//! - `>> !N WORDS`: the Nth reading of a document fails. `>> ^N WORDS`: the output takes N bytes and then fails. Both may come, in
-//!   this order.
+//! - `>> !N WORDS`: the Nth reading of a document fails. `>> ^N WORDS`: the output takes N bytes and then fails. Both
+//! may come, in this order.
 //!
 //! A line of a document may stand for many (`spelling`).
 

@@ -18,7 +18,8 @@ pub(crate) struct Steady {
 }
 
 impl Guide for Steady {
-    ghost choice = { λ g values. option_map (λ lit. if g.turned then negation lit else lit) (first_free_as (start_of g.first) values) };
+    ghost choice = { λ g values. option_map (λ lit. if g.turned then negation lit else lit)
+        (first_free_as (start_of g.first) values) };
 
     ghost has_room = { λ g vars. true };
 

@@ -281,7 +281,18 @@ end;
 >> ask s q --brief --brief => 2 words refused
 >> ask s q --guide 5 => 2 words refused
 >> ask s q --guide 1 => 2 words refused
->> explain s q 1 => 2 words refused
+>> why s q 1 => 2 words refused
+>> explain s q => 2 words refused
+>> explain s q 0 => 2 words refused
+>> explain s q 4294967296 => 2 words refused
+>> explain s q x => 2 words refused
+>> explain s q 1 --budget 0 => 2 words refused
+>> explain s q 1 --brief => 2 words refused
+>> explain s q 1 --guide 1 => 2 words refused
+>> conflicts => 2 words refused
+>> conflicts s q => 2 words refused
+>> conflicts s --budget 10000001 => 2 words refused
+>> conflicts s --guide 1 => 2 words refused
 >> forced s q => 2 words refused
 -- s: relation R from "r.csv" row id entity eid (a: int);
 -- r.csv

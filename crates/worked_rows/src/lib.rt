@@ -1,7 +1,7 @@
 //! Rows over whole documents: what the program says of specifications, questions and reports, and what it refuses.
 //!
-//! Most are transcripts; what needs more than text is a function. They are one crate, since a crate of tests begins with a hundred
-//! processor seconds of reading what it stands on.
+//! Most are transcripts; what needs more than text is a function. They are one crate, since a crate of tests begins
+//! with a hundred processor seconds of reading what it stands on.
 #![tactic(auto)]
 
 #[cfg(test)]
@@ -17,9 +17,13 @@ mod bytes;
 #[cfg(test)]
 mod claims;
 #[cfg(test)]
+mod conflicts;
+#[cfg(test)]
 mod copies;
 #[cfg(test)]
 mod documents;
+#[cfg(test)]
+mod explained;
 #[cfg(test)]
 mod faults;
 #[cfg(test)]

@@ -264,8 +264,8 @@ end;
 >> verify s q p => 6 limit 11
 "#;
 
-// 80 rules on 99,996 rows of an entity each and 159 on two rows have 7,999,998 instances; a copy of two rows of one entity from two
-// rows of one entity has two for each of its places. 80 on 99,999 and 80 on one have 8,000,000.
+// 80 rules on 99,996 rows of an entity each and 159 on two rows have 7,999,998 instances; a copy of two rows of one
+// entity from two rows of one entity has two for each of its places. 80 on 99,999 and 80 on one have 8,000,000.
 const OF_INSTANCES: &str = r#"
 == instances of copies are limited
 -- r.csv

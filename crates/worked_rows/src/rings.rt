@@ -1,5 +1,5 @@
-//! Rings of entities, each of four rows, which were copied from the rows of the next one. Those in which the last entity is turned by
-//! a row have no consistent completion.
+//! Rings of entities, each of four rows, which were copied from the rows of the next one. Those in which the last
+//! entity is turned by a row have no consistent completion.
 
 use crate::documents::expect_played;
 use std::test::Fail;

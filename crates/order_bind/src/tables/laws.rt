@@ -8,7 +8,8 @@ use table_bind::one_table;
 
 /// A law: documents, relations, the name of a relation and that of a document have one outcome at most.
 pub fn one_orders()
-    ensures { (told : List (List ℕ × List ℕ)) (done : List Relation) (relation document : Named) (a b : Result (List Relation) BindFault)
+    ensures { (told : List (List ℕ × List ℕ)) (done : List Relation) (relation document : Named)
+        (a b : Result (List Relation) BindFault)
         → IsOrdersMade told done relation document a → IsOrdersMade told done relation document b → a ≡ b }
 {
     one_table();

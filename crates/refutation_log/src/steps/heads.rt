@@ -180,7 +180,8 @@ impl<'a> LabelParts<'a> {
 
     // The parts of a step with this label.
     fn with(self, head: Head, lits: &'a [Lit]) -> Parts<'a>
-        ensures { step_of_parts result ≡ step_with head self.entry.rows.now self.entry.entities.now self.entry.values.now lits.now [] }
+        ensures { step_of_parts result ≡ step_with head self.entry.rows.now self.entry.entities.now
+            self.entry.values.now lits.now [] }
     {
         Parts {
             head,

@@ -4,10 +4,12 @@ use Rattle.ask_command.proofs.asking.ask_documents.Goals as goal
 
 pub returns-clause-due : goal.returns-clause-due
 returns-clause-due g c =
-    ask_due (g.S.Shelf.texts c.args.shelf.now) (ask_said c.args.asked) c.in-Ok.spec c.in-Ok-read_the_question.question c.reply.result
+    ask_due (g.S.Shelf.texts c.args.shelf.now) (ask_said c.args.asked) c.in-Ok.spec
+    c.in-Ok-read_the_question.question c.reply.result
     (c.in-Ok.ensures.stage tt) (rw c.in-Ok.ensures.kept at (c.in-Ok-read_the_question.ensures.stage tt)) c.reply.ensures.job
 
 pub returns-clause-told : goal.returns-clause-told
 returns-clause-told g c =
-    ask_told (g.S.Shelf.texts c.args.shelf.now) (ask_said c.args.asked) c.in-Ok.spec c.in-Ok-read_the_question.question c.reply.result
+    ask_told (g.S.Shelf.texts c.args.shelf.now) (ask_said c.args.asked) c.in-Ok.spec
+    c.in-Ok-read_the_question.question c.reply.result
     (c.in-Ok.ensures.stage tt) (rw c.in-Ok.ensures.kept at (c.in-Ok-read_the_question.ensures.stage tt)) c.reply.ensures.job

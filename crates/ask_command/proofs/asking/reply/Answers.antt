@@ -4,7 +4,8 @@ use Rattle.ask_command.proofs.asking.reply.Goals as goal
 
 pub returns-in-Ok-clause-job : goal.returns-in-Ok-clause-job
 returns-in-Ok-clause-job g c =
-    answered c.args.spec.now (ask_said c.args.asked) c.args.question.now c.in-Ok.report c.told_report.result c.in-Ok.ensures.answer
+    answered c.args.spec.now (ask_said c.args.asked) c.args.question.now c.in-Ok.report c.told_report.result
+    c.in-Ok.ensures.answer
     c.told_report.ensures.told c.told_report.ensures.memory
 
 pub returns-in-Err-clause-job : goal.returns-in-Err-clause-job

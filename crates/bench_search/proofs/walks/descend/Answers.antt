@@ -10,8 +10,10 @@ some_free-requires-clause-few c =
 
 pub assume-requires-clause-within : goal.assume-requires-clause-within
 assume-requires-clause-within c =
-    is_variable c.propagate.new.trail (var_of c.in-Some.lit) None (subst (λ vs. slice_get vs (var_of c.in-Some.lit) ≡ Some None) c.values.ensures c.in-Some.ensures)
+    is_variable c.propagate.new.trail (var_of c.in-Some.lit) None
+    (subst (λ vs. slice_get vs (var_of c.in-Some.lit) ≡ Some None) c.values.ensures c.in-Some.ensures)
 
 pub assume-requires-clause-free : goal.assume-requires-clause-free
 assume-requires-clause-free c =
-    is_free c.propagate.new.trail (var_of c.in-Some.lit) (subst (λ vs. slice_get vs (var_of c.in-Some.lit) ≡ Some None) c.values.ensures c.in-Some.ensures)
+    is_free c.propagate.new.trail (var_of c.in-Some.lit)
+    (subst (λ vs. slice_get vs (var_of c.in-Some.lit) ≡ Some None) c.values.ensures c.in-Some.ensures)

@@ -10,5 +10,6 @@ loop-preserved c =
       fits = c.descend.ensures.fits ∙ ap (λ n. 2 * n) (sym same);
       vars = same ∙ c.descend.ensures.vars ∙ c.loop.invariant.vars;
       rule = subst (λ t. KeepsWatch c.descend.new.arena t) (sym c.undo_to.ensures)
-          (c.watch_rule_is_kept.ensures.undone c.descend.new.arena c.descend.new.trail 0 c.are_entries.ensures c.descend.ensures.rule);
+          (c.watch_rule_is_kept.ensures.undone c.descend.new.arena c.descend.new.trail 0 c.are_entries.ensures
+          c.descend.ensures.rule);
     }

@@ -8,7 +8,8 @@ on_ok (Err e) P h = tt
 
 pub add_relation-requires : goal.add_relation-requires
 add_relation-requires c =
-    relation_follows c.args.spec.now c.args.spec.now c.args.relation refl c.is_specification.ensures c.requires.facts c.requires.within c.requires.fresh
+    relation_follows c.args.spec.now c.args.spec.now c.args.relation refl c.is_specification.ensures c.requires.facts
+    c.requires.within c.requires.fresh
 
 pub returns-clause-spec : goal.returns-clause-spec
 returns-clause-spec c = on_ok c.add.result _ c.in_ok-add_relation.ensures.ok

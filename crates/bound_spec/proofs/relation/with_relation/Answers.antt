@@ -4,4 +4,8 @@ use Rattle.bound_spec.proofs.relation.with_relation.Goals as goal
 
 pub overflow_add-rows : goal.overflow_add-rows
 overflow_add-rows c =
-    omega (arith, room c.bound.inside.spec c.args.bound c.args.relation c.bound.inside.rows c.len.result c.bound.view_is c.bound.invariant.rows_are c.len.ensures c.requires.within)
+    omega (
+      arith,
+      room c.bound.inside.spec c.args.bound c.args.relation c.bound.inside.rows c.len.result
+          c.bound.view_is c.bound.invariant.rows_are c.len.ensures c.requires.within,
+    )

@@ -4,4 +4,5 @@ use Rattle.refutation_log.specs.Counted.{counted_steps}
 use Rattle.certain_answers.proofs.matches.bring_matches.Given as goal
 
 abbrev pub invariant-loop-place : goal.invariant-loop-place
-invariant-loop-place g l = HasGone l.initial.search l.search × (counted_steps l.search.log.steps ≡ counted_steps l.initial.search.log.steps)
+invariant-loop-place g l = HasGone l.initial.search l.search × (counted_steps l.search.log.steps ≡ counted_steps
+    l.initial.search.log.steps)

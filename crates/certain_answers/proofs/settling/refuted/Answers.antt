@@ -7,5 +7,6 @@ pub returns-in-Ok-aim-clause-told : goal.returns-in-Ok-aim-clause-told
 returns-in-Ok-aim-clause-told g c = λ left.
     let tuple = item_at c.args.candidates.now.tuples c.args.place c.requires.place in
     inl (c.in-Ok.ensures.refuted c.args.place tuple.0 tuple.1
-    (refuted_at c.args.spec.now c.args.query.now c.args.search.now c.args.search.now c.args.candidates.now.tuples c.args.place c.args.completion
+    (refuted_at c.args.spec.now c.args.query.now c.args.search.now c.args.search.now c.args.candidates.now.tuples
+    c.args.place c.args.completion
     tuple.0 (gone_none c.args.search.now) c.requires.search c.requires.answers tuple.1 c.requires.refuted))

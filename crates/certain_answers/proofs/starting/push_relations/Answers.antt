@@ -5,7 +5,8 @@ use Rattle.certain_answers.proofs.starting.push_relations.Goals as goal
 
 pub loop-place-preserved : goal.loop-place-preserved
 loop-place-preserved c =
-    map_more (λ (a : Atom). a.relation) c.args.atoms.now c.loop-place.place _ _ _ _ c.get.ensures c.loop-place.invariant c.in-Ok.ensures.ok
+    map_more (λ (a : Atom). a.relation) c.args.atoms.now c.loop-place.place _ _ _ _ c.get.ensures
+    c.loop-place.invariant c.in-Ok.ensures.ok
 
 pub returns : goal.returns
 returns c =

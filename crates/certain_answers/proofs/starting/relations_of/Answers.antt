@@ -5,7 +5,8 @@ use Rattle.certain_answers.proofs.starting.relations_of.Goals as goal
 
 pub loop-place-preserved : goal.loop-place-preserved
 loop-place-preserved c =
-    flat_more relations_in c.args.query.now.disjuncts c.loop-place.place _ _ _ c.get.ensures c.loop-place.invariant c.in-Ok.ensures
+    flat_more relations_in c.args.query.now.disjuncts c.loop-place.place _ _ _ c.get.ensures c.loop-place.invariant
+    c.in-Ok.ensures
 
 pub returns : goal.returns
 returns c =

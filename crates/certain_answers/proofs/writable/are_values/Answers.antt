@@ -7,7 +7,8 @@ use Rattle.certain_answers.proofs.writable.are_values.Goals as goal
 pub loop-value-preserved : goal.loop-value-preserved
 loop-value-preserved c =
     let xs = c.args.values.now in
-    let at = slice_get_read xs (length xs) c.loop-value.value-index c.value-item.result refl c.loop-value-test.true c.value-item.is in
+    let at = slice_get_read xs (length xs) c.loop-value.value-index c.value-item.result refl c.loop-value-test.true
+    c.value-item.is in
     all_more IsValue xs c.loop-value.value-index c.value-item.result at c.loop-value.invariant c.is_value.ensures
 
 pub returns : goal.returns

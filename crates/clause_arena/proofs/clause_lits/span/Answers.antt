@@ -4,7 +4,8 @@ use Rattle.clause_arena.proofs.clause_lits.span.Goals as goal
 
 pub returns-clause-order : goal.returns-clause-order
 returns-clause-order c =
-    rw c.start_of-start.ensures (span_order 0 c.args.ends.now (length c.args.lits.now) c.args.clause c.requires.flat.ascend c.requires.within)
+    rw c.start_of-start.ensures (span_order 0 c.args.ends.now (length c.args.lits.now) c.args.clause
+    c.requires.flat.ascend c.requires.within)
 
 pub returns-clause-within : goal.returns-clause-within
 returns-clause-within c =

@@ -18,14 +18,16 @@ pub loop-at-smaller : goal.loop-at-smaller
 loop-at-smaller c =
     let dropping = c.loop-at.invariant.dropping in
     let on = c.next-at.ensures c.args.owner (drop_stands _ _ _ _ _ _ dropping c.in-Some.is) in
-    drop_falls _ _ _ _ _ _ _ c.in-Some.slot dropping c.in-Some.is (c.are_whole.ensures.once c.args.owner) on c.drop_slot.ensures.lists
+    drop_falls _ _ _ _ _ _ _ c.in-Some.slot dropping c.in-Some.is (c.are_whole.ensures.once c.args.owner) on
+    c.drop_slot.ensures.lists
 
 pub loop-at-preserved : goal.loop-at-preserved
 loop-at-preserved c =
     let dropping = c.loop-at.invariant.dropping in
     let on = c.next-at.ensures c.args.owner (drop_stands _ _ _ _ _ _ dropping c.in-Some.is) in
     record {
-      dropping = drop_goes_on _ _ _ _ _ _ _ c.in-Some.slot dropping c.in-Some.is (c.are_whole.ensures.once c.args.owner) on c.drop_slot.ensures.lists;
+      dropping = drop_goes_on _ _ _ _ _ _ _ c.in-Some.slot dropping c.in-Some.is
+          (c.are_whole.ensures.once c.args.owner) on c.drop_slot.ensures.lists;
       slots = c.drop_slot.ensures.slots ∙ c.loop-at.invariant.slots;
       room = c.drop_slot.ensures.room ∙ c.loop-at.invariant.room;
     }

@@ -18,9 +18,14 @@ returns-clause-lists c lits left taken is_clause is_left is_taken =
     let is_now = c.get-lits.ensures in
     let same : now ≡ lits = cc in
     let none : Lit = record { 0 = 0 } in
-    let is_left_read : get_or now c.args.from none ≡ left = ap (λ ls. get_or ls c.args.from none) same ∙ get_or_from_slice_get lits c.args.from left none is_left in
-    let is_taken_read : get_or now c.args.to none ≡ taken = ap (λ ls. get_or ls c.args.to none) same ∙ get_or_from_slice_get lits c.args.to taken none is_taken in
-    let twice = put_twice _ _ _ _ _ c.args.to lits _ (get_or now c.args.from none) is_clause (c.set.ensures.lists lits is_clause) c.set-2.ensures.lists in
+    let is_left_read : get_or now c.args.from none ≡ left = ap (λ ls. get_or ls c.args.from none) same
+    ∙ get_or_from_slice_get lits c.args.from left none is_left in
+    let is_taken_read : get_or now c.args.to none ≡ taken = ap (λ ls. get_or ls c.args.to none) same
+    ∙ get_or_from_slice_get lits c.args.to taken none is_taken in
+    let twice = put_twice _ _ _ _ _ c.args.to lits _ (get_or now c.args.from none) is_clause
+    (c.set.ensures.lists lits is_clause) c.set-2.ensures.lists in
     twice
-    ∙ ap (λ (x : Lit). slice_set c.args.clauses.now.lists c.args.clause (slice_set (slice_set lits c.args.from x) c.args.to (get_or now c.args.from none))) is_taken_read
-    ∙ ap (λ (x : Lit). slice_set c.args.clauses.now.lists c.args.clause (slice_set (slice_set lits c.args.from taken) c.args.to x)) is_left_read
+    ∙ ap (λ (x : Lit). slice_set c.args.clauses.now.lists c.args.clause
+    (slice_set (slice_set lits c.args.from x) c.args.to (get_or now c.args.from none))) is_taken_read
+    ∙ ap (λ (x : Lit). slice_set c.args.clauses.now.lists c.args.clause
+    (slice_set (slice_set lits c.args.from taken) c.args.to x)) is_left_read

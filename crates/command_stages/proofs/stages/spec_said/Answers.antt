@@ -3,9 +3,11 @@ use Rattle.command_stages.proofs.stages.spec_said.Goals as goal
 
 pub returns-in-Err-clause-said : goal.returns-in-Err-clause-said
 returns-in-Err-clause-said g c settled =
-    tree_refused (g.S.Shelf.texts c.args.shelf.now) c.args.name.now c.args.bytes.now c.in-Err.trouble (c.in-Err.ensures.tree settled)
+    tree_refused (g.S.Shelf.texts c.args.shelf.now) c.args.name.now c.args.bytes.now c.in-Err.trouble
+    (c.in-Err.ensures.tree settled)
 
 pub returns-clause-unread : goal.returns-clause-unread
 returns-clause-unread g c =
-    table_unread (g.S.Shelf.texts c.args.shelf.now) c.args.name.now c.args.bytes.now c.in-Ok.tree c.in-Err-bind_spec.fault c.of_binding.result (c.in-Ok.ensures.tree tt)
+    table_unread (g.S.Shelf.texts c.args.shelf.now) c.args.name.now c.args.bytes.now c.in-Ok.tree
+    c.in-Err-bind_spec.fault c.of_binding.result (c.in-Ok.ensures.tree tt)
     c.of_binding.ensures.due c.in-Err-bind_spec.ensures.table_due

@@ -33,6 +33,7 @@ pub returns-clause-other : goal.returns-clause-other
 returns-clause-other c = λ e.
     let cs = c.args.completions.now in
     let past : length cs ≤ c.loop-at.at = omega (arith, c.loop-at-test.false) in
-    not_common_some_left c.args.spec.now.relations c.args.query.now c.args.tuples.now cs c.loop-at.others (c.is_empty.ensures.some e)
+    not_common_some_left c.args.spec.now.relations c.args.query.now c.args.tuples.now cs c.loop-at.others
+    (c.is_empty.ensures.some e)
     (subst (λ front. AreLeft c.args.spec.now.relations c.args.query.now c.args.tuples.now front c.loop-at.others)
     (take_all c.loop-at.at cs past) c.loop-at.invariant)

@@ -14,7 +14,8 @@ returns-then-not-branch-clause-none c =
 pub returns-clause-some : goal.returns-clause-some
 returns-clause-some c =
     let found =
-    subst (λ (o : Option (List (List Value))). IfSome o (AreAnswers c.in_ok-indexed.indexed.query c.in_ok-indexed.indexed.instance))
+    subst (λ (o : Option (List (List Value))). IfSome o
+    (AreAnswers c.in_ok-indexed.indexed.query c.in_ok-indexed.indexed.instance))
     c.in-Some.is c.in_ok-answers.ensures.all in
     left_first c.one_current_instance.ensures c.args.spec.now.relations c.args.query.now c.args.completion.now _
     (indexed_of c.args.spec.now.relations c.args.query.now c.args.completion.now c.in_ok-instance.instance.relations _

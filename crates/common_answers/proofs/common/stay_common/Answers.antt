@@ -13,4 +13,5 @@ returns-clause-are c = λ e.
     left_more c.one_current_instance.ensures c.args.spec.now.relations c.args.query.now c.args.completion.now _
     (indexed_of c.args.spec.now.relations c.args.query.now c.args.completion.now c.in_ok-instance.instance.relations _
     c.in_ok-instance.ensures c.in_ok-indexed.ensures)
-    c.args.tuples.now c.args.others.now c.keep.new.self (c.in_ok-are_answers.ensures.are c.if-not-branch.false) c.in_ok-keep.ensures
+    c.args.tuples.now c.args.others.now c.keep.new.self (c.in_ok-are_answers.ensures.are c.if-not-branch.false)
+    c.in_ok-keep.ensures

@@ -9,7 +9,8 @@ loop-at-preserved c =
       | then-not-is_at+in_ok-push w ↦
           let pushed : c.if-not-is_at.left.items ≡ c.loop-at.left.items ++ c.loop-at.at ∷ [] = search rules in
           merged_apart c.laws_of_tuple_order.ensures.total c.args.answers.now c.args.tuples.now c.loop-at.at c.loop-at.from
-          c.first_not_below-from.result c.loop-at.left.items c.if-not-is_at.left.items c.get-answer.result.now c.requires.answers c.requires.tuples
+          c.first_not_below-from.result c.loop-at.left.items c.if-not-is_at.left.items c.get-answer.result.now
+          c.requires.answers c.requires.tuples
           c.get-answer.ensures c.first_not_below-from.ensures.below c.first_not_below-from.ensures.here
           (c.is_at.ensures.none w.if-not-is_at.true) pushed c.loop-at.invariant
       | else-not-is_at w ↦

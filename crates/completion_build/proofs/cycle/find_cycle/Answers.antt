@@ -13,5 +13,6 @@ unreachable-requires c =
 pub returns-clause-some : goal.returns-clause-some
 returns-clause-some c =
     let third = c.in-Some-find_third.ensures.some in
-    is_round c.args.tournament.now c.rows-rows.result.now c.args.ent.0 c.in-Some.first c.in-Some.second c.in-Some-find_third.third (record { 0 = 0 }) _
+    is_round c.args.tournament.now c.rows-rows.result.now c.args.ent.0 c.in-Some.first c.in-Some.second
+    c.in-Some-find_third.third (record { 0 = 0 }) _
     c.rows-rows.ensures.value c.in-Some.ensures.some.beats third.1 third.2 c.rel.ensures c.attr.ensures refl refl refl refl

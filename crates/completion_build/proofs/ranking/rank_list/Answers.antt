@@ -35,9 +35,13 @@ returns c =
     let old = c.args.draft.now in
     let judged = c.in_ok-judged.judged in
     let here = relation_at s.relations rel.0 c.requires.rel in
-    let is = subst (λ (t : Contest). IsJudged t ent judged) (c.tournament-tournament.ensures here.0 here.1) c.in_ok-judged.ensures in
-    let next = judged_more s.relations s.numbers s.truths rel attr ent here.0 here.1 (c.requires.attr here.0 here.1) (c.requires.ent here.0 here.1)
-    old.completion old.cycles c.requires.built (λ list. c.set_keeps_shape.ensures s.relations old.completion rel.0 attr.0 ent list c.requires.built.shape) judged is in
-    on_both c.put.result (c.put.new.self.completion ≡ rankings_with old.completion rel.0 attr.0 ent judged) (c.put.new.self.cycles ≡ cycles_with old.cycles judged)
+    let is = subst (λ (t : Contest). IsJudged t ent judged) (c.tournament-tournament.ensures here.0 here.1)
+    c.in_ok-judged.ensures in
+    let next = judged_more s.relations s.numbers s.truths rel attr ent here.0 here.1 (c.requires.attr here.0 here.1)
+    (c.requires.ent here.0 here.1)
+    old.completion old.cycles c.requires.built (λ list. c.set_keeps_shape.ensures s.relations old.completion rel.0
+    attr.0 ent list c.requires.built.shape) judged is in
+    on_both c.put.result (c.put.new.self.completion ≡ rankings_with old.completion rel.0 attr.0 ent judged)
+    (c.put.new.self.cycles ≡ cycles_with old.cycles judged)
     (AreBuilt s.relations s.numbers s.truths rel.0 attr.0 (ent + 1) c.put.new.self.completion c.put.new.self.cycles)
     (λ e f. rw (e, f) next) c.put.ensures.completion c.put.ensures.cycles

@@ -13,8 +13,15 @@ returns-in-Err-clause-flaw c =
     let same = c.relations-relations.ensures.value in
     let rs = c.args.spec.now.relations in
     let ps = c.as_slice-places.result.now in
-    let marked : AreMarkedIn rs c.args.completion.now ps = subst (AreMarkedIn rs c.args.completion.now) (sym c.as_slice-places.ensures.value) (rw same at c.in_ok-check_rankings.ensures.marked) in
-    let is : IsMarkedCompletion rs c.args.completion.now ps = record { facts = c.relations-relations.ensures.facts; completion = rw same at c.in_ok-check_rankings.ensures.ok; marked = marked } in
+    let marked : AreMarkedIn rs c.args.completion.now ps = subst (AreMarkedIn rs c.args.completion.now)
+    (sym c.as_slice-places.ensures.value) (rw same at c.in_ok-check_rankings.ensures.marked) in
+    let is : IsMarkedCompletion rs c.args.completion.now ps =
+    record {
+      facts = c.relations-relations.ensures.facts;
+      completion =
+          rw same at c.in_ok-check_rankings.ensures.ok;
+      marked = marked;
+    } in
     let found : IsPairFlaw rs ps c.in-Err.flaw = rw same at c.in-Err.ensures.err in
     pair_flaw c.args.spec.now c.args.completion.now ps c.in-Err.flaw is found
 
@@ -23,10 +30,18 @@ returns-in-Err-check_rules-clause-flaw c =
     let same = c.relations-relations.ensures.value in
     let rs = c.args.spec.now.relations in
     let ps = c.as_slice-places.result.now in
-    let marked : AreMarkedIn rs c.args.completion.now ps = subst (AreMarkedIn rs c.args.completion.now) (sym c.as_slice-places.ensures.value) (rw same at c.in_ok-check_rankings.ensures.marked) in
-    let is : IsMarkedCompletion rs c.args.completion.now ps = record { facts = c.relations-relations.ensures.facts; completion = rw same at c.in_ok-check_rankings.ensures.ok; marked = marked } in
+    let marked : AreMarkedIn rs c.args.completion.now ps = subst (AreMarkedIn rs c.args.completion.now)
+    (sym c.as_slice-places.ensures.value) (rw same at c.in_ok-check_rankings.ensures.marked) in
+    let is : IsMarkedCompletion rs c.args.completion.now ps =
+    record {
+      facts = c.relations-relations.ensures.facts;
+      completion =
+          rw same at c.in_ok-check_rankings.ensures.ok;
+      marked = marked;
+    } in
     let order : AreAllInOrder rs ps = rw same at c.in_default.ensures.ok in
-    let found : IsRuleFlaw rs c.args.spec.now.rules ps c.in-Err-check_rules.flaw = rw (same, c.rules.ensures.value) at c.in-Err-check_rules.ensures.err in
+    let found : IsRuleFlaw rs c.args.spec.now.rules ps c.in-Err-check_rules.flaw = rw (same, c.rules.ensures.value)
+    at c.in-Err-check_rules.ensures.err in
     rule_flaw c.args.spec.now c.args.completion.now ps c.in-Err-check_rules.flaw is c.rules.ensures.facts order found
 
 pub returns-clause-consistent : goal.returns-clause-consistent
@@ -34,12 +49,21 @@ returns-clause-consistent c =
     let same = c.relations-relations.ensures.value in
     let rs = c.args.spec.now.relations in
     let ps = c.as_slice-places.result.now in
-    let marked : AreMarkedIn rs c.args.completion.now ps = subst (AreMarkedIn rs c.args.completion.now) (sym c.as_slice-places.ensures.value) (rw same at c.in_ok-check_rankings.ensures.marked) in
-    let is : IsMarkedCompletion rs c.args.completion.now ps = record { facts = c.relations-relations.ensures.facts; completion = rw same at c.in_ok-check_rankings.ensures.ok; marked = marked } in
+    let marked : AreMarkedIn rs c.args.completion.now ps = subst (AreMarkedIn rs c.args.completion.now)
+    (sym c.as_slice-places.ensures.value) (rw same at c.in_ok-check_rankings.ensures.marked) in
+    let is : IsMarkedCompletion rs c.args.completion.now ps =
+    record {
+      facts = c.relations-relations.ensures.facts;
+      completion =
+          rw same at c.in_ok-check_rankings.ensures.ok;
+      marked = marked;
+    } in
     let order : AreAllInOrder rs ps = rw same at c.in_default.ensures.ok in
-    let none : NoRuleBreaks rs c.args.spec.now.rules ps = rw (same, c.rules.ensures.value) at c.in_default-check_rules.ensures.ok in
+    let none : NoRuleBreaks rs c.args.spec.now.rules ps = rw (same, c.rules.ensures.value) at
+    c.in_default-check_rules.ensures.ok in
     on_ok_weaker c.check_copies.result
-    (λ (unbroken : NoCopyBreaks rs c.args.spec.now.copies ps). consistent c.args.spec.now c.args.completion.now ps is c.rules.ensures.facts order none
+    (λ (unbroken : NoCopyBreaks rs c.args.spec.now.copies ps). consistent c.args.spec.now c.args.completion.now ps is
+    c.rules.ensures.facts order none
     (compatible c.args.spec.now c.args.completion.now ps is c.copies.ensures.facts unbroken))
     (rw (same, c.copies.ensures.value) at c.check_copies.ensures.ok)
 
@@ -48,10 +72,20 @@ returns-clause-flaw c =
     let same = c.relations-relations.ensures.value in
     let rs = c.args.spec.now.relations in
     let ps = c.as_slice-places.result.now in
-    let marked : AreMarkedIn rs c.args.completion.now ps = subst (AreMarkedIn rs c.args.completion.now) (sym c.as_slice-places.ensures.value) (rw same at c.in_ok-check_rankings.ensures.marked) in
-    let is : IsMarkedCompletion rs c.args.completion.now ps = record { facts = c.relations-relations.ensures.facts; completion = rw same at c.in_ok-check_rankings.ensures.ok; marked = marked } in
+    let marked : AreMarkedIn rs c.args.completion.now ps = subst (AreMarkedIn rs c.args.completion.now)
+    (sym c.as_slice-places.ensures.value) (rw same at c.in_ok-check_rankings.ensures.marked) in
+    let is : IsMarkedCompletion rs c.args.completion.now ps =
+    record {
+      facts = c.relations-relations.ensures.facts;
+      completion =
+          rw same at c.in_ok-check_rankings.ensures.ok;
+      marked = marked;
+    } in
     let order : AreAllInOrder rs ps = rw same at c.in_default.ensures.ok in
-    let none : NoRuleBreaks rs c.args.spec.now.rules ps = rw (same, c.rules.ensures.value) at c.in_default-check_rules.ensures.ok in
-    IfErr-weaker c.check_copies.result (IsCopyFlaw rs c.args.spec.now.copies ps) (IsFirstFlaw c.args.spec.now c.args.completion.now)
-    (λ flaw found. copy_flaw c.args.spec.now c.args.completion.now ps flaw is c.rules.ensures.facts c.copies.ensures.facts order none found)
+    let none : NoRuleBreaks rs c.args.spec.now.rules ps = rw (same, c.rules.ensures.value) at
+    c.in_default-check_rules.ensures.ok in
+    IfErr-weaker c.check_copies.result (IsCopyFlaw rs c.args.spec.now.copies ps)
+    (IsFirstFlaw c.args.spec.now c.args.completion.now)
+    (λ flaw found. copy_flaw c.args.spec.now c.args.completion.now ps flaw is c.rules.ensures.facts
+    c.copies.ensures.facts order none found)
     (rw (same, c.copies.ensures.value) at c.check_copies.ensures.err)

@@ -4,4 +4,5 @@ use Rattle.completion_check.specs.Relations.{AreInOrder}
 use Rattle.completion_check.proofs.check.check_given.Given as goal
 
 abbrev pub invariant-loop-at : goal.invariant-loop-at
-invariant-loop-at l = (rel : ℕ) (r : Relation) → rel < l.at → slice_get l.relations rel ≡ Some r → AreInOrder (slice_index_or l.places rel []) r.given
+invariant-loop-at l = (rel : ℕ) (r : Relation) → rel < l.at → slice_get l.relations rel ≡ Some r → AreInOrder
+    (slice_index_or l.places rel []) r.given

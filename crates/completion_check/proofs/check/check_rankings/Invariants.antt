@@ -8,7 +8,8 @@ abbrev pub invariant-loop-at : goal.invariant-loop-at
 invariant-loop-at l =
     record {
       room : HasAllPlaces l.relations l.places.items;
-      ranked : (rel : ℕ) (r : Relation) → rel < l.at → slice_get l.relations rel ≡ Some r → IsRanked r (slice_index_or l.completion rel []);
+      ranked : (rel : ℕ) (r : Relation) → rel < l.at → slice_get l.relations rel ≡ Some r → IsRanked r
+          (slice_index_or l.completion rel []);
       marked : (rel : ℕ) (r : Relation) → rel < l.at → slice_get l.relations rel ≡ Some r
           → AreAllMarked r (slice_index_or l.completion rel []) (slice_index_or l.places.items rel []);
     }

@@ -99,7 +99,8 @@ loop-at-preserved c =
     c.index-places-rel.is in
     let here : NoChoiceBreaks (tried rule r (slice_index_or c.args.places.now rel [])) =
     subst (λ (ps : Places). NoChoiceBreaks (tried rule r ps)) own c.in_default.ensures.none in
-    each_at_more (λ _ (q : Rule). (s : Relation) → slice_get rs q.relation.0 ≡ Some s → NoChoiceBreaks (tried q s (slice_index_or c.args.places.now q.relation.0 [])))
+    each_at_more (λ _ (q : Rule). (s : Relation) → slice_get rs q.relation.0 ≡ Some s → NoChoiceBreaks
+    (tried q s (slice_index_or c.args.places.now q.relation.0 [])))
     c.args.rules.now c.loop-at.at rule of.is_rule
     (λ s at. subst (λ (x : Relation). NoChoiceBreaks (tried rule x (slice_index_or c.args.places.now rel []))) (same_Some r s
     (sym of.is_relation ∙ at)) here)

@@ -6,4 +6,5 @@ use Rattle.completion_check.proofs.check.check_rules.Given as goal
 
 abbrev pub invariant-loop-at : goal.invariant-loop-at
 invariant-loop-at l = (k : ℕ) (rule : Rule) → k < l.at → slice_get l.rules k ≡ Some rule
-    → (r : Relation) → slice_get l.relations rule.relation.0 ≡ Some r → NoChoiceBreaks (tried rule r (slice_index_or l.places rule.relation.0 []))
+    → (r : Relation) → slice_get l.relations rule.relation.0 ≡ Some r → NoChoiceBreaks
+    (tried rule r (slice_index_or l.places rule.relation.0 []))

@@ -75,7 +75,8 @@ broken_between-requires-clause-target_places c =
     let target = c.index-relations-target.result in
     let source = c.index-relations-source.result in
     let are =
-    are_read c.args.relations.now c.args.places.now c.args.copy.now c.target-target.result.0 c.source-source.result.0 target source c.index-places-target.result c.index-places-source.result
+    are_read c.args.relations.now c.args.places.now c.args.copy.now c.target-target.result.0 c.source-source.result.0
+    target source c.index-places-target.result c.index-places-source.result
     c.requires.copy c.requires.places.per_relation (ap (λ x. x.0) c.target-target.ensures) (ap (λ x. x.0) c.source-source.ensures)
     c.index-relations-target.is c.index-relations-source.is c.index-places-target.is c.index-places-source.is in
     subst (HasPlaces target) (sym are.in_target) (c.requires.places.each c.args.copy.now.target.0 target are.is_target)
@@ -85,7 +86,8 @@ broken_between-requires-clause-source_places c =
     let target = c.index-relations-target.result in
     let source = c.index-relations-source.result in
     let are =
-    are_read c.args.relations.now c.args.places.now c.args.copy.now c.target-target.result.0 c.source-source.result.0 target source c.index-places-target.result c.index-places-source.result
+    are_read c.args.relations.now c.args.places.now c.args.copy.now c.target-target.result.0 c.source-source.result.0
+    target source c.index-places-target.result c.index-places-source.result
     c.requires.copy c.requires.places.per_relation (ap (λ x. x.0) c.target-target.ensures) (ap (λ x. x.0) c.source-source.ensures)
     c.index-relations-target.is c.index-relations-source.is c.index-places-target.is c.index-places-source.is in
     subst (HasPlaces source) (sym are.in_source) (c.requires.places.each c.args.copy.now.source.0 source are.is_source)
@@ -96,11 +98,18 @@ broken_between-requires-clause-members c =
     let target = c.index-relations-target.result in
     let source = c.index-relations-source.result in
     let are =
-    are_read c.args.relations.now c.args.places.now c.args.copy.now c.target-target.result.0 c.source-source.result.0 target source c.index-places-target.result c.index-places-source.result
+    are_read c.args.relations.now c.args.places.now c.args.copy.now c.target-target.result.0 c.source-source.result.0
+    target source c.index-places-target.result c.index-places-source.result
     c.requires.copy c.requires.places.per_relation (ap (λ x. x.0) c.target-target.ensures) (ap (λ x. x.0) c.source-source.ensures)
     c.index-relations-target.is c.index-relations-source.is c.index-places-target.is c.index-places-source.is in
-    let room : rel < length c.args.members.now = omega (arith, c.requires.members.per_relation, slice_get_within c.args.relations.now rel target are.is_target) in
-    let own = c.as_slice-own.ensures ∙ list_at c.args.members.now rel c.target-target.result.0 c.index-members-target.result (ap (λ x. x.0) c.target-target.ensures) room c.index-members-target.is in
+    let room : rel < length c.args.members.now = omega (
+      arith,
+      c.requires.members.per_relation,
+      slice_get_within
+          c.args.relations.now rel target are.is_target,
+    ) in
+    let own = c.as_slice-own.ensures ∙ list_at c.args.members.now rel c.target-target.result.0
+    c.index-members-target.result (ap (λ x. x.0) c.target-target.ensures) room c.index-members-target.is in
     subst (AreEntityRows target.rows (length target.entities)) (sym own) (c.requires.members.each rel target are.is_target)
 
 pub returns-clause-none : goal.returns-clause-none
@@ -108,19 +117,23 @@ returns-clause-none c =
     let target = c.index-relations-target.result in
     let source = c.index-relations-source.result in
     let are =
-    are_read c.args.relations.now c.args.places.now c.args.copy.now c.target-target.result.0 c.source-source.result.0 target source c.index-places-target.result c.index-places-source.result
+    are_read c.args.relations.now c.args.places.now c.args.copy.now c.target-target.result.0 c.source-source.result.0
+    target source c.index-places-target.result c.index-places-source.result
     c.requires.copy c.requires.places.per_relation (ap (λ x. x.0) c.target-target.ensures) (ap (λ x. x.0) c.source-source.ensures)
     c.index-relations-target.is c.index-relations-source.is c.index-places-target.is c.index-places-source.is in
     IfNone_then c.broken_between.result
-    (none_breaks c.args.relations.now c.args.places.now c.args.copy.now target source c.index-places-target.result c.index-places-source.result are) c.broken_between.ensures.none
+    (none_breaks c.args.relations.now c.args.places.now c.args.copy.now target source c.index-places-target.result
+    c.index-places-source.result are) c.broken_between.ensures.none
 
 pub returns-clause-some : goal.returns-clause-some
 returns-clause-some c =
     let target = c.index-relations-target.result in
     let source = c.index-relations-source.result in
     let are =
-    are_read c.args.relations.now c.args.places.now c.args.copy.now c.target-target.result.0 c.source-source.result.0 target source c.index-places-target.result c.index-places-source.result
+    are_read c.args.relations.now c.args.places.now c.args.copy.now c.target-target.result.0 c.source-source.result.0
+    target source c.index-places-target.result c.index-places-source.result
     c.requires.copy c.requires.places.per_relation (ap (λ x. x.0) c.target-target.ensures) (ap (λ x. x.0) c.source-source.ensures)
     c.index-relations-target.is c.index-relations-source.is c.index-places-target.is c.index-places-source.is in
     IfSome_then c.broken_between.result c.broken_between.ensures.some
-    (λ b found. breaks_first c.args.relations.now c.args.places.now c.args.copy.now target source c.index-places-target.result c.index-places-source.result b.place b.first b.second are found)
+    (λ b found. breaks_first c.args.relations.now c.args.places.now c.args.copy.now target source
+    c.index-places-target.result c.index-places-source.result b.place b.first b.second are found)

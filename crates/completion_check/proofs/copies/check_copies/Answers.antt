@@ -22,7 +22,8 @@ loop-at-preserved c =
     let copies = c.args.copies.now in
     let copy = c.index-copies-at.result in
     let at = slice_get_read copies (length copies) c.loop-at.at copy refl c.loop-at-test.true c.index-copies-at.is in
-    each_at_more (λ _ (q : CopyFunction). NoneBreaksCopy c.args.relations.now c.args.places.now q) copies c.loop-at.at copy at c.in_default.ensures.none c.loop-at.invariant
+    each_at_more (λ _ (q : CopyFunction). NoneBreaksCopy c.args.relations.now c.args.places.now q) copies
+    c.loop-at.at copy at c.in_default.ensures.none c.loop-at.invariant
 
 pub returns-clause-ok : goal.returns-clause-ok
 returns-clause-ok c = λ k copy at. c.loop-at.invariant k copy (omega (arith, slice_get_within c.args.copies.now k copy at)) at

@@ -4,4 +4,5 @@ use Rattle.completion_check.specs.CopyBreaks.{NoPairBreaks}
 use Rattle.completion_check.proofs.copy_search.first_broken.Given as goal
 
 abbrev pub invariant-loop-at : goal.invariant-loop-at
-invariant-loop-at l = (k : ℕ) (place : Place) → k < l.at → slice_get l.trial.copy.places k ≡ Some place → NoPairBreaks l.trial place
+invariant-loop-at l = (k : ℕ) (place : Place) → k < l.at → slice_get l.trial.copy.places k ≡ Some place
+    → NoPairBreaks l.trial place

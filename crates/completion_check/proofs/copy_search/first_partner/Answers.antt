@@ -22,8 +22,10 @@ pub loop-second-preserved : goal.loop-second-preserved
 loop-second-preserved c =
     let members = c.args.members.now in
     let i = c.loop-second.second-index in
-    each_at_more (λ _ row. breaks_copy c.args.trial.now c.args.place.now c.args.first row ≡ false) members i (slice_index_or members i (record { 0 = 0 }))
-    (slice_get-get_or members i (record { 0 = 0 }) c.loop-second-test.true) (sym c.breaks.ensures ∙ c.if-breaks.false) c.loop-second.invariant
+    each_at_more (λ _ row. breaks_copy c.args.trial.now c.args.place.now c.args.first row ≡ false) members i
+    (slice_index_or members i (record { 0 = 0 }))
+    (slice_get-get_or members i (record { 0 = 0 }) c.loop-second-test.true)
+    (sym c.breaks.ensures ∙ c.if-breaks.false) c.loop-second.invariant
 
 pub returns-clause-none : goal.returns-clause-none
 returns-clause-none c = λ k row at. c.loop-second.invariant k row (omega (arith, slice_get_within c.args.members.now k row at)) at

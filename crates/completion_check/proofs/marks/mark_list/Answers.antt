@@ -19,7 +19,8 @@ pub loop-place-preserved : goal.loop-place-preserved
 loop-place-preserved c =
     let free = c.if-not-is_unmarked.ensures.0 refl in
     record {
-      marks = marks_next c.args.rows.now c.args.ent c.loop-place.place c.args.list.now c.loop-place.places _ c.loop-place.invariant.marks
+      marks = marks_next c.args.rows.now c.args.ent c.loop-place.place c.args.list.now c.loop-place.places _
+          c.loop-place.invariant.marks
           (slice_get-get_or c.args.list.now c.loop-place.place _ c.loop-place-test.true) free.0 free.1 (omega arith);
       elsewhere = elsewhere_more c.args.rows.now c.args.ent _ (c.loop-place.place + 1) c.args.places.now c.loop-place.places
           c.loop-place.invariant.elsewhere free.0;

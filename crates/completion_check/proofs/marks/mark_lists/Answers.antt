@@ -10,11 +10,13 @@ loop-ent-preserved c =
     record {
       marks = λ ent below. ⊎_elim
           (λ (is : ent ≡ c.loop-ent.ent).
-          let read = get_or_read c.args.lists.now c.loop-ent.ent c.index-lists-ent.result c.loop-ent-test.true c.index-lists-ent.is [] in
+          let read = get_or_read c.args.lists.now c.loop-ent.ent c.index-lists-ent.result c.loop-ent-test.true
+          c.index-lists-ent.is [] in
           rw is (rw (c.as_slice.ensures, read) at c.if-not-mark_list.ensures.marks))
           (λ (apart : ent ≡ c.loop-ent.ent → ⊥).
           marks_kept c.args.rows.now c.loop-ent.ent ent _ _ _ same apart (c.loop-ent.invariant.marks ent (omega arith)))
           (cases_eq ent c.loop-ent.ent);
       unmarked = λ ent above.
-          unmarked_kept c.args.rows.now c.loop-ent.ent ent _ _ same (omega arith) (c.loop-ent.invariant.unmarked ent (omega arith));
+          unmarked_kept c.args.rows.now c.loop-ent.ent ent _ _ same (omega arith)
+          (c.loop-ent.invariant.unmarked ent (omega arith));
     }

@@ -18,6 +18,8 @@ loop-rel-preserved c =
     let all = alike c.args.spec.now.relations c.args.first.now c.args.completion.now c.requires.first c.requires.shape in
     record {
       alike = c.fill_relation.ensures.alike;
-      so_far = filled_more c.args.first.now c.args.completion.now c.loop-rel.completion c.fill_relation.new.completion c.loop-rel.rel
-          all (omega (arith, c.requires.first.per_relation, ap length c.relations-rel-end.ensures.value)) c.loop-rel.invariant.so_far c.in_ok-fill_relation.ensures.filled;
+      so_far = filled_more c.args.first.now c.args.completion.now c.loop-rel.completion
+          c.fill_relation.new.completion c.loop-rel.rel
+          all (omega (arith, c.requires.first.per_relation, ap length c.relations-rel-end.ensures.value))
+          c.loop-rel.invariant.so_far c.in_ok-fill_relation.ensures.filled;
     }

@@ -11,6 +11,8 @@ loop-attr-init c = record {
 pub loop-attr-preserved : goal.loop-attr-preserved
 loop-attr-preserved c = record {
   alike = c.fill_attribute.ensures.alike;
-  so_far = relation_more c.args.first.now c.args.completion.now c.loop-attr.completion c.fill_attribute.new.completion c.args.rel.0 c.loop-attr.attr
-      c.requires.alike c.requires.rel (omega (arith, ap length c.relation.ensures)) c.loop-attr.invariant.so_far c.in_ok-fill_attribute.ensures.filled;
+  so_far = relation_more c.args.first.now c.args.completion.now c.loop-attr.completion
+      c.fill_attribute.new.completion c.args.rel.0 c.loop-attr.attr
+      c.requires.alike c.requires.rel (omega (arith, ap length c.relation.ensures)) c.loop-attr.invariant.so_far
+      c.in_ok-fill_attribute.ensures.filled;
 }

@@ -10,5 +10,6 @@ loop-lit-preserved c =
 
 pub returns-clause-ok : goal.returns-clause-ok
 returns-clause-ok c =
-    let whole : take c.loop-lit.lit-index c.args.lits.now ≡ c.args.lits.now = take_all c.loop-lit.lit-index c.args.lits.now c.loop-lit-test.false in
+    let whole : take c.loop-lit.lit-index c.args.lits.now ≡ c.args.lits.now = take_all c.loop-lit.lit-index
+    c.args.lits.now c.loop-lit-test.false in
     rw whole at c.loop-lit.invariant

@@ -24,7 +24,8 @@ pub overflow_cast-assigned : goal.overflow_cast-assigned
 overflow_cast-assigned c =
     let t = c.args.trail.now in
     let few = few_entries t c.are_entries.ensures in
-    let long : length c.assigned.result.now ≡ length t.entries = ap length c.assigned.ensures ∙ length-map t.entries (λ (e : Entry). e.lit) in
+    let long : length c.assigned.result.now ≡ length t.entries = ap length c.assigned.ensures ∙ length-map t.entries
+    (λ (e : Entry). e.lit) in
     omega (arith, few, long, c.are_entries.ensures.few)
 
 pub complete-requires-clause-long : goal.complete-requires-clause-long
@@ -33,28 +34,37 @@ complete-requires-clause-long c =
     let long = ap (λ (s : State). length s.seen) c.clear.ensures ∙ length-replicate (length c.args.found.now.seen) false in
     omega (arith, few, long, c.requires.long, c.meet.ensures.long, c.meet_reason.ensures.long)
 
-first_met : (c : After-assigned) → AreMet c.args.arena.now c.args.trail.now.entries c.args.place c.args.place (length c.args.trail.now.entries) c.meet.new.self
+first_met : (c : After-assigned) → AreMet c.args.arena.now c.args.trail.now.entries c.args.place c.args.place
+    (length c.args.trail.now.entries) c.meet.new.self
 first_met c =
     let t = c.args.trail.now in
     let few = few_entries t c.are_entries.ensures in
     let n = length c.args.found.now.seen in
-    let is : c.meet.new.self ≡ meeting t.entries c.args.place c.args.place c.args.place (empty n) = c.in-Ok.ensures.ok ∙ ap (meeting t.entries c.args.place c.args.place c.args.place) c.clear.ensures in
+    let is : c.meet.new.self ≡ meeting t.entries c.args.place c.args.place c.args.place (empty n) =
+    c.in-Ok.ensures.ok ∙ ap (meeting t.entries c.args.place c.args.place c.args.place) c.clear.ensures in
     subst (AreMet c.args.arena.now t.entries c.args.place c.args.place (length t.entries)) (sym is)
-    (meets_place c.args.arena.now t.entries c.args.place n (omega (arith, c.are_entries.ensures.few, c.requires.long)) (omega (arith, few, c.requires.there, c.requires.long)) c.requires.there)
+    (meets_place c.args.arena.now t.entries c.args.place n
+    (omega (arith, c.are_entries.ensures.few, c.requires.long))
+    (omega (arith, few, c.requires.there, c.requires.long)) c.requires.there)
 
 pub complete-requires-clause-met : goal.complete-requires-clause-met
 complete-requires-clause-met c =
     let t = c.args.trail.now in
-    let long : length c.assigned.result.now ≡ length t.entries = ap length c.assigned.ensures ∙ length-map t.entries (λ (e : Entry). e.lit) in
+    let long : length c.assigned.result.now ≡ length t.entries = ap length c.assigned.ensures ∙ length-map t.entries
+    (λ (e : Entry). e.lit) in
     subst (λ n. AreMet c.args.arena.now t.entries c.args.place c.args.place n c.meet_reason.new.found) (sym long)
-    (meets_its_reason c.args.arena.now t.entries c.args.place c.meet.new.self c.meet_reason.new.found c.requires.reasons (first_met c) c.in-Ok-meet_reason.ensures.ok)
+    (meets_its_reason c.args.arena.now t.entries c.args.place c.meet.new.self c.meet_reason.new.found
+    c.requires.reasons (first_met c) c.in-Ok-meet_reason.ensures.ok)
 
 pub returns-clause-ok : goal.returns-clause-ok
 returns-clause-ok c =
     let t = c.args.trail.now in
-    let long : length c.assigned.result.now ≡ length t.entries = ap length c.assigned.ensures ∙ length-map t.entries (λ (e : Entry). e.lit) in
+    let long : length c.assigned.result.now ≡ length t.entries = ap length c.assigned.ensures ∙ length-map t.entries
+    (λ (e : Entry). e.lit) in
     on_ok_weaker c.complete.result
-    (λ x clause is. explains_place c.args.arena.now t.entries c.args.place clause c.meet.new.self c.meet_reason.new.found c.complete.new.found c.are_entries.ensures.once c.requires.reasons (first_met c.before)
+    (λ x clause is. explains_place c.args.arena.now t.entries c.args.place clause c.meet.new.self
+    c.meet_reason.new.found c.complete.new.found c.are_entries.ensures.once c.requires.reasons (first_met c.before)
     c.in-Ok-meet_reason.ensures.ok
-    (subst (λ n. Completes c.args.arena.now t.entries c.args.place c.args.place n c.meet_reason.new.found c.complete.new.found) long x) is)
+    (subst (λ n. Completes c.args.arena.now t.entries c.args.place c.args.place n c.meet_reason.new.found
+    c.complete.new.found) long x) is)
     c.complete.ensures.ok

@@ -12,14 +12,17 @@ walk-requires-clause-long c =
     omega (arith, few, c.start.ensures.long, c.requires.long)
 
 pub walk-requires-clause-reasoned : goal.walk-requires-clause-reasoned
-walk-requires-clause-reasoned c = reasoned_above c.args.trail.now c.args.bounds.level c.are_entries.ensures c.requires.deep c.requires.begins
+walk-requires-clause-reasoned c = reasoned_above c.args.trail.now c.args.bounds.level c.are_entries.ensures
+    c.requires.deep c.requires.begins
 
 pub walk-requires-clause-low : goal.walk-requires-clause-low
 walk-requires-clause-low c =
-    has_low c.args.arena.now c.args.trail.now c.args.bounds.base c.args.bounds.level c.args.conflict.0 c.start.new.found c.requires.conflict c.requires.level c.requires.begins c.in-Ok.ensures.ok
+    has_low c.args.arena.now c.args.trail.now c.args.bounds.base c.args.bounds.level c.args.conflict.0
+    c.start.new.found c.requires.conflict c.requires.level c.requires.begins c.in-Ok.ensures.ok
 
 pub walk-requires-clause-few : goal.walk-requires-clause-few
-walk-requires-clause-few c = let few = few_entries c.args.trail.now c.are_entries.ensures in omega (arith, few, c.are_entries.ensures.few)
+walk-requires-clause-few c = let few = few_entries c.args.trail.now c.are_entries.ensures in omega
+    (arith, few, c.are_entries.ensures.few)
 
 pub overflow_add-at : goal.overflow_add-at
 overflow_add-at c =
@@ -43,12 +46,15 @@ complete-requires-clause-inside c = omega (arith, c.low-at.ensures, c.in-Ok-walk
 
 pub complete-requires-clause-met : goal.complete-requires-clause-met
 complete-requires-clause-met c =
-    subst (λ n. AreMet c.args.arena.now c.args.trail.now.entries c.args.bounds.base c.args.bounds.level n c.walk.new.found) (ap (λ n. n + 1) (sym c.low-at.ensures)) c.in-Ok-walk.ensures.ok.met
+    subst (λ n. AreMet c.args.arena.now c.args.trail.now.entries c.args.bounds.base c.args.bounds.level n
+    c.walk.new.found) (ap (λ n. n + 1) (sym c.low-at.ensures)) c.in-Ok-walk.ensures.ok.met
 
 pub returns-clause-ok : goal.returns-clause-ok
 returns-clause-ok c =
     let few = few_entries c.args.trail.now c.are_entries.ensures in
     on_ok_weaker c.complete.result
-    (λ x. leads c.args.arena.now c.args.trail.now.entries c.args.bounds.base c.args.bounds.level c.args.conflict.0 _ c.start.new.found c.walk.new.found c.complete.new.found c.in-Ok.ensures.ok
-    c.in-Ok-walk.ensures.ok (ap (λ n. n + 1) c.low-at.ensures) (omega (arith, few, c.start.ensures.long, c.walk.ensures.long, c.requires.long, c.in-Ok-walk.ensures.ok.low)) x)
+    (λ x. leads c.args.arena.now c.args.trail.now.entries c.args.bounds.base c.args.bounds.level c.args.conflict.0 _
+    c.start.new.found c.walk.new.found c.complete.new.found c.in-Ok.ensures.ok
+    c.in-Ok-walk.ensures.ok (ap (λ n. n + 1) c.low-at.ensures)
+    (omega (arith, few, c.start.ensures.long, c.walk.ensures.long, c.requires.long, c.in-Ok-walk.ensures.ok.low)) x)
     c.complete.ensures.ok

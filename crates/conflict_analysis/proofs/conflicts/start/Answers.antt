@@ -13,14 +13,17 @@ meet_all-requires-clause-long c =
     omega (arith, few, long, c.requires.long)
 
 pub meet_all-requires-clause-assigned : goal.meet_all-requires-clause-assigned
-meet_all-requires-clause-assigned c = conflict_assigned c.args.arena.now c.args.trail.now c.args.conflict.0 c.requires.conflict c.lits.result.now c.lits.ensures
+meet_all-requires-clause-assigned c = conflict_assigned c.args.arena.now c.args.trail.now c.args.conflict.0
+    c.requires.conflict c.lits.result.now c.lits.ensures
 
 pub returns-clause-ok : goal.returns-clause-ok
 returns-clause-ok c =
     let t = c.args.trail.now in
     let n = length c.args.found.now.seen in
     on_ok_weaker c.meet_all.result
-    (λ m. starts c.args.arena.now t c.args.bounds.base c.args.bounds.level c.args.conflict.0 n c.lits.result.now c.meet_all.new.found c.requires.reasons c.requires.order
+    (λ m. starts c.args.arena.now t c.args.bounds.base c.args.bounds.level c.args.conflict.0 n c.lits.result.now
+    c.meet_all.new.found c.requires.reasons c.requires.order
     (omega (arith, c.are_entries.ensures.few, c.requires.long)) c.lits.ensures
-    (subst (λ (s : State). MeetsAll t.entries c.args.bounds.base c.args.bounds.level c.lits.result.now s c.meet_all.new.found) c.clear.ensures m))
+    (subst (λ (s : State). MeetsAll t.entries c.args.bounds.base c.args.bounds.level c.lits.result.now s
+    c.meet_all.new.found) c.clear.ensures m))
     c.meet_all.ensures.ok

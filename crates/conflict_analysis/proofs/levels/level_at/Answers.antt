@@ -10,7 +10,8 @@ stands : (c : After-var) → StandsAt c.args.trail.now c.var.result c.args.place
 stands c =
     let read : c.var.result ≡ var_of (get_or (lits_of c.args.trail.now) c.args.place (record { 0 = 0 })) =
     c.var.ensures.value ∙ ap (λ (ls : List Lit). var_of (get_or ls c.args.place (record { 0 = 0 }))) c.assigned.ensures in
-    subst (λ v. StandsAt c.args.trail.now v c.args.place) (sym read) (stands_there c.args.trail.now c.args.place (record { 0 = 0 }) c.requires)
+    subst (λ v. StandsAt c.args.trail.now v c.args.place) (sym read) (stands_there c.args.trail.now c.args.place
+    (record { 0 = 0 }) c.requires)
 
 pub level-requires-clause-within : goal.level-requires-clause-within
 level-requires-clause-within c = var_inside c.args.trail.now c.var.result c.args.place c.are_entries.ensures (stands c)

@@ -10,13 +10,15 @@ pub overflow_cast-high : goal.overflow_cast-high
 overflow_cast-high c =
     let t = c.args.trail.now in
     let few = few_entries t c.are_entries.ensures in
-    let long : length c.assigned.result.now ≡ length t.entries = ap length c.assigned.ensures ∙ length-map t.entries (λ (e : Entry). e.lit) in
+    let long : length c.assigned.result.now ≡ length t.entries = ap length c.assigned.ensures ∙ length-map t.entries
+    (λ (e : Entry). e.lit) in
     omega (arith, few, long, c.are_entries.ensures.few)
 
 pub loop-low-init : goal.loop-low-init
 loop-low-init c =
     let t = c.args.trail.now in
-    let long : length c.assigned.result.now ≡ length t.entries = ap length c.assigned.ensures ∙ length-map t.entries (λ (e : Entry). e.lit) in
+    let long : length c.assigned.result.now ≡ length t.entries = ap length c.assigned.ensures ∙ length-map t.entries
+    (λ (e : Entry). e.lit) in
     record {
       ordered = omega arith;
       within = omega (arith, long);
@@ -39,7 +41,8 @@ loop-low-preserved-then-level_at-level c =
     }
   where
     after : (start : ℕ) → slice_get c.args.trail.now.starts (c.args.level - 1) ≡ Some start
-        → ((c.loop-low.low + (c.loop-low.high - c.loop-low.low) / 2) < start) ⊎ (start ≤ (c.loop-low.low + (c.loop-low.high - c.loop-low.low) / 2))
+        → ((c.loop-low.low + (c.loop-low.high - c.loop-low.low) / 2) < start) ⊎
+        (start ≤ (c.loop-low.low + (c.loop-low.high - c.loop-low.low) / 2))
         → c.loop-low.low + (c.loop-low.high - c.loop-low.low) / 2 + 1 ≤ start
     after start is (inl h) = omega (arith, h)
     after start is (inr h) =
@@ -54,7 +57,8 @@ loop-low-preserved c =
       within = omega (arith, i.within, c.loop-low-test.true);
       after = i.after;
       before = λ start is.
-          counts_begun c.args.trail.now.starts (c.args.level - 1) start _ c.are_entries.ensures.ascend is (omega (arith, c.level_at.ensures, c.if-level_at-level.false, c.requires.above));
+          counts_begun c.args.trail.now.starts (c.args.level - 1) start _ c.are_entries.ensures.ascend is
+          (omega (arith, c.level_at.ensures, c.if-level_at-level.false, c.requires.above));
     }
 
 pub returns : goal.returns

@@ -9,11 +9,14 @@ pub reason-requires : goal.reason-requires
 reason-requires c =
     let t = c.args.trail.now in
     let inside = var_within t.entries t.vars c.args.place (record { 0 = 0 }) c.are_entries.ensures.within c.requires in
-    let read = c.var.ensures.value ∙ ap (λ (ls : List Lit). var_of (get_or ls c.args.place (record { 0 = 0 }))) c.assigned.ensures in
+    let read = c.var.ensures.value ∙ ap (λ (ls : List Lit). var_of (get_or ls c.args.place (record { 0 = 0 })))
+    c.assigned.ensures in
     omega (arith, inside, read)
 
 pub returns : goal.returns
 returns c =
     let t = c.args.trail.now in
-    let read = c.var.ensures.value ∙ ap (λ (ls : List Lit). var_of (get_or ls c.args.place (record { 0 = 0 }))) c.assigned.ensures in
-    c.reason.ensures ∙ ap (reason_in t.entries) read ∙ reason_read t.entries c.args.place (record { 0 = 0 }) c.are_entries.ensures.once c.requires
+    let read = c.var.ensures.value ∙ ap (λ (ls : List Lit). var_of (get_or ls c.args.place (record { 0 = 0 })))
+    c.assigned.ensures in
+    c.reason.ensures ∙ ap (reason_in t.entries) read ∙ reason_read t.entries c.args.place (record { 0 = 0 })
+    c.are_entries.ensures.once c.requires

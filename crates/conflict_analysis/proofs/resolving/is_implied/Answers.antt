@@ -11,4 +11,5 @@ lits-requires c =
 
 pub all_met-requires-clause-assigned : goal.all_met-requires-clause-assigned
 all_met-requires-clause-assigned c =
-    lits_assigned c.args.arena.now c.args.trail.now c.requires.reasons c.args.place c.in-Some.clause.0 (sym c.in-Some.ensures) c.lits.result.now c.lits.ensures
+    lits_assigned c.args.arena.now c.args.trail.now c.requires.reasons c.args.place c.in-Some.clause.0
+    (sym c.in-Some.ensures) c.lits.result.now c.lits.ensures

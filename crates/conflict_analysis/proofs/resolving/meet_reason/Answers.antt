@@ -11,4 +11,5 @@ lits-requires c =
 
 pub meet_all-requires-clause-assigned : goal.meet_all-requires-clause-assigned
 meet_all-requires-clause-assigned c =
-    lits_assigned c.args.arena.now c.args.trail.now c.requires.reasons c.args.place c.in-Some.clause.0 (sym c.in-Some.ensures) c.lits.result.now c.lits.ensures
+    lits_assigned c.args.arena.now c.args.trail.now c.requires.reasons c.args.place c.in-Some.clause.0
+    (sym c.in-Some.ensures) c.lits.result.now c.lits.ensures

@@ -6,12 +6,14 @@ use Rattle.conflict_analysis.proofs.resolving.pass.Goals as goal
 pub returns-then-not-is_met-clause-ok : goal.returns-then-not-is_met-clause-ok
 returns-then-not-is_met-clause-ok c =
     let h = c.if-not-is_met.true in let g = c.is_met.ensures in
-    passes_unmet c.args.arena.now c.args.trail.now.entries c.args.bounds.base c.args.bounds.level c.args.place c.args.found.now (cc)
+    passes_unmet c.args.arena.now c.args.trail.now.entries c.args.bounds.base c.args.bounds.level c.args.place
+    c.args.found.now (cc)
 
 pub returns-in-Ok-clause-ok : goal.returns-in-Ok-clause-ok
 returns-in-Ok-clause-ok c =
     let h = c.if-not-is_met.false in let g = c.is_met.ensures in
     on_ok_weaker c.resolve.result
-    (λ (is : c.resolve.new.self ≡ _). rw is (passes_met c.args.arena.now c.args.trail.now.entries c.args.bounds.base c.args.bounds.level c.args.place c.args.found.now c.meet_reason.new.found
+    (λ (is : c.resolve.new.self ≡ _). rw is (passes_met c.args.arena.now c.args.trail.now.entries c.args.bounds.base
+    c.args.bounds.level c.args.place c.args.found.now c.meet_reason.new.found
     c.are_entries.ensures.once c.requires.reasons c.requires.order c.requires.top (cc) c.in-Ok.ensures.ok))
     c.resolve.ensures.ok

@@ -10,11 +10,15 @@ loop-place-preserved c =
     let p = c.in-Some.ensures in
     record {
       long = c.settle.ensures.long ∙ ap length p.seen ∙ i.long;
-      kept = rw c.in-Ok.ensures.kept (All-pop (λ (place : ℕ). place < length t.entries) c.loop-place.found.kept c.pop_kept.new.self.kept (Some c.in-Some.place) p.kept i.kept).0;
-      settles = settles_more c.args.arena.now t.entries c.args.bounds.base c.args.bounds.level c.args.found.now c.loop-place.found c.settle.new.found i.settles (c.in-Ok.ensures.ok c.loop-place.found p);
+      kept = rw c.in-Ok.ensures.kept (All-pop (λ (place : ℕ). place < length t.entries) c.loop-place.found.kept
+          c.pop_kept.new.self.kept (Some c.in-Some.place) p.kept i.kept).0;
+      settles = settles_more c.args.arena.now t.entries c.args.bounds.base c.args.bounds.level c.args.found.now
+          c.loop-place.found c.settle.new.found i.settles (c.in-Ok.ensures.ok c.loop-place.found p);
     }
 
 pub returns-clause-ok : goal.returns-clause-ok
 returns-clause-ok c =
-    settles_more c.args.arena.now c.args.trail.now.entries c.args.bounds.base c.args.bounds.level c.args.found.now c.loop-place.found c.pop_kept.new.self c.loop-place.invariant.settles
-    (settles_end c.args.arena.now c.args.trail.now.entries c.args.bounds.base c.args.bounds.level c.loop-place.found c.pop_kept.new.self c.in_default.ensures)
+    settles_more c.args.arena.now c.args.trail.now.entries c.args.bounds.base c.args.bounds.level c.args.found.now
+    c.loop-place.found c.pop_kept.new.self c.loop-place.invariant.settles
+    (settles_end c.args.arena.now c.args.trail.now.entries c.args.bounds.base c.args.bounds.level c.loop-place.found
+    c.pop_kept.new.self c.in_default.ensures)

@@ -8,7 +8,8 @@ use Rattle.copy_bind.proofs.map.with_mappings.Given as goal
 
 abbrev pub invariant-loop-mapping : goal.invariant-loop-mapping
 invariant-loop-mapping l = record {
-  rest : with_mappings (option_map (λ n. n.now) l.document) l.target.relation.rows l.source.relation.rows l.copy (drop l.mapping-index l.mappings)
+  rest : with_mappings (option_map (λ n. n.now) l.document) l.target.relation.rows l.source.relation.rows l.copy
+      (drop l.mapping-index l.mappings)
       ≡ with_mappings (option_map (λ n. n.now) l.document) l.target.relation.rows l.source.relation.rows l.fn.copy l.mappings;
   keeps : KeepsHead l.fn.copy l.copy;
   copied : IsCopied l.copy l.target.relation.rows l.source.relation.rows;

@@ -6,5 +6,7 @@ use Rattle.copy_bind.proofs.mapping.mappings_named.Goals as goal
 
 pub returns-in-Err : goal.returns-in-Err
 returns-in-Err c =
-    item_refused (mapping_named (option_map (λ n. n.now) c.args.document) c.args.targets.now c.args.sources.now) c.args.pairs.now c.loop-pair.pair-index
-    c.pair-item.result c.loop-pair.mappings c.in-Err.fault c.loop-pair-test.true c.pair-item.is c.loop-pair.invariant c.in-Err.ensures
+    item_refused (mapping_named (option_map (λ n. n.now) c.args.document) c.args.targets.now c.args.sources.now)
+    c.args.pairs.now c.loop-pair.pair-index
+    c.pair-item.result c.loop-pair.mappings c.in-Err.fault c.loop-pair-test.true c.pair-item.is c.loop-pair.invariant
+    c.in-Err.ensures

@@ -9,5 +9,6 @@ loop-count-preserved c =
     let count = get_or c.loop-count.counts place 0 in
     let within : place < length c.loop-count.counts = omega arith in
     let within_first : place < length c.args.counts.now = omega arith in
-    map_over_more (λ (n : ℕ). n / 2 ^ c.args.power) c.args.counts.now c.loop-count.counts place count within_first c.loop-count.invariant
+    map_over_more (λ (n : ℕ). n / 2 ^ c.args.power) c.args.counts.now c.loop-count.counts place count within_first
+    c.loop-count.invariant
     (get_or_default c.loop-count.counts place 0 count within)

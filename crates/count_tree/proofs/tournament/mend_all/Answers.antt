@@ -13,5 +13,6 @@ loop-place-preserved c =
     record {
       as_long = long ∙ c.loop-place.invariant.as_long;
       within = omega arith;
-      after = right_after _ _ here _ _ pos inside c.winner.ensures (λ place after. c.loop-place.invariant.after place (omega arith));
+      after = right_after _ _ here _ _ pos inside c.winner.ensures (λ place after. c.loop-place.invariant.after place
+          (omega arith));
     }

@@ -15,11 +15,13 @@ use Rattle.currency_ask.proofs.Searched.{search_for_answers}
 use Rattle.currency_ask.proofs.answers.reported.Goals as goal
 
 pub tuples_at-requires : goal.tuples_at-requires
-tuples_at-requires c = left_within c.args.candidates (length c.args.candidates.tuples) c.in-Ok.left c.requires.candidates.per_tuple c.in-Ok.ensures
+tuples_at-requires c = left_within c.args.candidates (length c.args.candidates.tuples) c.in-Ok.left
+    c.requires.candidates.per_tuple c.in-Ok.ensures
 
 pub steps_at-requires : goal.steps_at-requires
 steps_at-requires c =
-    left_within c.args.candidates (length c.args.steps.now) c.in-Ok.left (c.requires.candidates.per_tuple ∙ sym c.requires.settled.as_many) c.in-Ok.ensures
+    left_within c.args.candidates (length c.args.steps.now) c.in-Ok.left (c.requires.candidates.per_tuple
+    ∙ sym c.requires.settled.as_many) c.in-Ok.ensures
 
 pub derived-requires-clause-goals : goal.derived-requires-clause-goals
 derived-requires-clause-goals c =
@@ -30,7 +32,8 @@ derived-requires-clause-goals c =
       candidates = c.requires.candidates;
       settled = c.requires.settled;
     } in
-    subst (All (IsGoalOn c.args.search.spec c.args.search.wanted)) (sym (c.in-Ok-goals_of.ensures ∙ ap (map Answer) c.in-Ok.ensures))
+    subst (All (IsGoalOn c.args.search.spec c.args.search.wanted))
+    (sym (c.in-Ok-goals_of.ensures ∙ ap (map Answer) c.in-Ok.ensures))
     (goals_on c.args.search c.args.spec.now c.args.query.now c.args.candidates c.args.steps.now are)
 
 pub derived-requires-clause-proved : goal.derived-requires-clause-proved
@@ -42,7 +45,8 @@ derived-requires-clause-proved c =
       candidates = c.requires.candidates;
       settled = c.requires.settled;
     } in
-    subst (λ (gs : List Goal). AreProved c.args.search gs c.in-Ok-steps_at.units) (sym (c.in-Ok-goals_of.ensures ∙ ap (map Answer) c.in-Ok.ensures))
+    subst (λ (gs : List Goal). AreProved c.args.search gs c.in-Ok-steps_at.units)
+    (sym (c.in-Ok-goals_of.ensures ∙ ap (map Answer) c.in-Ok.ensures))
     (subst (AreProved c.args.search (map Answer (left_of c.args.candidates.gone)))
     (sym (c.in-Ok-steps_at.ensures ∙ ap (map (λ place. slice_index_or c.args.steps.now place 0)) c.in-Ok.ensures))
     (units_are c.args.search c.args.spec.now c.args.query.now c.args.candidates c.args.steps.now are))
@@ -73,16 +77,23 @@ returns c = λ budget.
       candidates = c.requires.candidates;
       settled = c.requires.settled;
     } in
-    let goals : c.in-Ok-goals_of.goals ≡ map Answer (left_of standing.gone) = c.in-Ok-goals_of.ensures ∙ ap (map Answer) c.in-Ok.ensures in
-    let tuples : c.in-Ok-tuples_at.tuples ≡ left_tuples standing = c.in-Ok-tuples_at.ensures ∙ ap (tuples_at standing.tuples) c.in-Ok.ensures in
+    let goals : c.in-Ok-goals_of.goals ≡ map Answer (left_of standing.gone) = c.in-Ok-goals_of.ensures
+    ∙ ap (map Answer) c.in-Ok.ensures in
+    let tuples : c.in-Ok-tuples_at.tuples ≡ left_tuples standing = c.in-Ok-tuples_at.ensures
+    ∙ ap (tuples_at standing.tuples) c.in-Ok.ensures in
     let one_of = subst (λ (ts : List (List Value)). IsOneOf search.spec (asked.Answers query) (verdict.Answers ts)) (sym tuples)
     (answers_ascend search s query standing c.args.steps.now are c.left_are_common.ensures) in
-    let claims = subst (λ (gs : List Goal). AreClaims search.spec search.posed gs (answer_needs 0 c.in-Ok-tuples_at.tuples)) (sym goals)
-    (subst (λ (ts : List (List Value)). AreClaims search.spec search.posed (map Answer (left_of standing.gone)) (answer_needs 0 ts)) (sym tuples)
+    let claims = subst (λ (gs : List Goal). AreClaims search.spec search.posed gs
+    (answer_needs 0 c.in-Ok-tuples_at.tuples)) (sym goals)
+    (subst (λ (ts : List (List Value)). AreClaims search.spec search.posed (map Answer (left_of standing.gone))
+    (answer_needs 0 ts)) (sym tuples)
     (claims_are search s query standing c.args.steps.now are)) in
     let completions = c.into_completions-completions.result in
-    let listed = subst (λ (ts : List (List Value)). IsListedFor search.spec (asked.Answers query) (verdict.Answers ts) completions) (sym tuples)
-    (answers_listed search s query standing c.args.steps.now are c.left_are_common.ensures completions c.into_completions-completions.ensures) in
+    let listed = subst (λ (ts : List (List Value)). IsListedFor search.spec (asked.Answers query)
+    (verdict.Answers ts) completions) (sym tuples)
+    (answers_listed search s query standing c.args.steps.now are c.left_are_common.ensures completions
+    c.into_completions-completions.ensures) in
     subst (λ (x : Spec). IfOk c.derived.result (IsReported x (asked.Answers query) budget)) c.requires.search.spec
-    (c.derived.ensures (asked.Answers query) budget (search_for_answers s query standing.tuples search c.requires.search c.requires.posed c.requires.over) one_of
+    (c.derived.ensures (asked.Answers query) budget (search_for_answers s query standing.tuples search
+    c.requires.search c.requires.posed c.requires.over) one_of
     claims listed)

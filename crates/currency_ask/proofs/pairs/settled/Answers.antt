@@ -9,7 +9,8 @@ use Rattle.currency_ask.proofs.pairs.settled.Goals as goal
 pub proved-requires-clause-goals : goal.proved-requires-clause-goals
 proved-requires-clause-goals c =
     list_goals c.args.search.spec c.args.search.wanted c.args.goals.now
-    (pairs_asked c.args.spec.now c.args.search.spec c.args.search.wanted c.args.pairs.now (unwrap_or c.args.failing (length c.args.pairs.now)) c.args.goals.now
+    (pairs_asked c.args.spec.now c.args.search.spec c.args.search.wanted c.args.pairs.now
+    (unwrap_or c.args.failing (length c.args.pairs.now)) c.args.goals.now
     c.requires.spec c.requires.asked c.requires.goals)
 
 pub returns-in-None : goal.returns-in-None
@@ -21,5 +22,6 @@ returns-in-None c = λ budget.
 
 pub fails_at-requires-clause-others : goal.fails_at-requires-clause-others
 fails_at-requires-clause-others c =
-    before_failing c.args.search c.args.spec.now c.args.pairs.now c.args.failing c.args.goals.now c.in-Some.place c.args.steps.now c.proved_pairs_hold.ensures
+    before_failing c.args.search c.args.spec.now c.args.pairs.now c.args.failing c.args.goals.now c.in-Some.place
+    c.args.steps.now c.proved_pairs_hold.ensures
     c.requires.spec c.requires.asked c.requires.goals c.in-Some.is c.requires.proved

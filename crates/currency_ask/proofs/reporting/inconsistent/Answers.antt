@@ -36,4 +36,5 @@ returns c = λ q budget for_it.
       few = c.requires.few;
       empty = c.requires.empty;
     } in
-    empty_reported laws c.args.search c.into_log-log.result c.args.place c.in-Ok.trimmed q budget c.new.result for_it has c.in-Ok.ensures c.new.ensures
+    empty_reported laws c.args.search c.into_log-log.result c.args.place c.in-Ok.trimmed q budget c.new.result for_it
+    has c.in-Ok.ensures c.new.ensures

@@ -51,5 +51,6 @@ returns c = λ q budget for_it one_of are listed.
       on = c.requires.goals;
       proved = subst (AreProved c.args.search c.args.goals.now) (sym c.as_slice.ensures) c.requires.proved;
     } in
-    claims_reported laws c.args.search c.into_log-log.result c.args.goals.now c.as_slice.result.now has c.in-Ok.needed c.in-Ok.ensures c.args.verdict c.args.completions
+    claims_reported laws c.args.search c.into_log-log.result c.args.goals.now c.as_slice.result.now has
+    c.in-Ok.needed c.in-Ok.ensures c.args.verdict c.args.completions
     c.requires.listed c.requires.few c.requires.writable q budget for_it one_of are listed

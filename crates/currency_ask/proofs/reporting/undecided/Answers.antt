@@ -10,5 +10,6 @@ returns c = λ q for_it.
       whole = c.axioms_agree.ensures.whole;
       few_counted = c.counted_steps_are_few.ensures;
     } in
-    spent_reported laws c.args.search q c.args.budget c.into_log.result c.new.result c.ranges.budget.fits for_it c.is_search.ensures c.requires.few c.requires.spent
+    spent_reported laws c.args.search q c.args.budget c.into_log.result c.new.result c.ranges.budget.fits for_it
+    c.is_search.ensures c.requires.few c.requires.spent
     c.into_log.ensures c.new.ensures

@@ -6,5 +6,6 @@ use Rattle.currency_cli.proofs.commands.outcome.Goals as goal
 
 pub returns-in-Ok-clause-told : goal.returns-in-Ok-clause-told
 returns-in-Ok-clause-told g c =
-    told_for_words (g.S.Shelf.texts c.args.shelf.now) _ (map (λ w. string_bytes w) c.args.words.now) (said_of c.in-Ok.command) c.outcome_of.result
+    told_for_words (g.S.Shelf.texts c.args.shelf.now) _ (map (λ w. string_bytes w) c.args.words.now)
+    (said_of c.in-Ok.command) c.outcome_of.result
     c.in-Ok.ensures.taken c.outcome_of.ensures.told

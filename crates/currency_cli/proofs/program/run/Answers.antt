@@ -4,13 +4,14 @@ use Rattle.currency_cli.proofs.program.run.Goals as goal
 use Rattle.currency_cli.proofs.JobsDone.{done_reads, sink_failed, is_done, is_undecided, prefix_written, refusal_not_zero, refusal_not_three, refusal_not_eight}
 use Rattle.currency_cli.proofs.Exact.{comes_to, comes_to_its_own}
 use Rattle.currency_cli.proofs.Refusals.{refused, words_refused, are_words, done_not_two, names_unread}
-use Rattle.currency_cli.proofs.Replies.{answered, verified, listed}
+use Rattle.currency_cli.proofs.Replies.{answered, blamed, explained, verified, listed}
 
 -- ---- the job was done
 
 pub returns-in-Ok-clause-done : goal.returns-in-Ok-clause-done
 returns-in-Ok-clause-done g c status =
-    is_done (g.S.Shelf.texts c.args.shelf.now) _ (map (λ w. string_bytes w) c.args.words.now) _ _ _ _ c.in-Ok.done c.hand_out.result
+    is_done (g.S.Shelf.texts c.args.shelf.now) _ (map (λ w. string_bytes w) c.args.words.now) _ _ _ _ c.in-Ok.done
+    c.hand_out.result
     c.in-Ok.ensures.told c.hand_out.ensures status
 
 pub returns-in-Err-clause-done : goal.returns-in-Err-clause-done
@@ -18,29 +19,34 @@ returns-in-Err-clause-done g c status = absurd (refusal_not_zero _ _ _ _ c.in-Er
 
 pub returns-in-Ok-clause-undecided : goal.returns-in-Ok-clause-undecided
 returns-in-Ok-clause-undecided g c status =
-    is_undecided (g.S.Shelf.texts c.args.shelf.now) _ (map (λ w. string_bytes w) c.args.words.now) _ _ _ _ c.in-Ok.done c.hand_out.result
+    is_undecided (g.S.Shelf.texts c.args.shelf.now) _ (map (λ w. string_bytes w) c.args.words.now) _ _ _ _
+    c.in-Ok.done c.hand_out.result
     c.in-Ok.ensures.told c.hand_out.ensures status
 
 pub returns-in-Err-clause-undecided : goal.returns-in-Err-clause-undecided
-returns-in-Err-clause-undecided g c status = absurd (refusal_not_three _ _ _ _ c.in-Err.trouble c.refuse.result c.refuse.ensures status)
+returns-in-Err-clause-undecided g c status = absurd (refusal_not_three _ _ _ _ c.in-Err.trouble c.refuse.result
+    c.refuse.ensures status)
 
 pub returns-in-Ok-clause-write_fault_text : goal.returns-in-Ok-clause-write_fault_text
 returns-in-Ok-clause-write_fault_text g c status =
     (c.in-Ok.done, prefix_written _ _ _ _ c.in-Ok.done c.hand_out.result c.hand_out.ensures status)
 
 pub returns-in-Err-clause-write_fault_text : goal.returns-in-Err-clause-write_fault_text
-returns-in-Err-clause-write_fault_text g c status = absurd (refusal_not_eight _ _ _ _ c.in-Err.trouble c.refuse.result c.refuse.ensures status)
+returns-in-Err-clause-write_fault_text g c status =
+    absurd (refusal_not_eight _ _ _ _ c.in-Err.trouble c.refuse.result c.refuse.ensures status)
 
 -- ---- the other way round
 
 pub returns-in-Ok-clause-exact : goal.returns-in-Ok-clause-exact
 returns-in-Ok-clause-exact g c =
-    comes_to c.one_due.ensures (g.S.Shelf.texts c.args.shelf.now) _ (map (λ w. string_bytes w) c.args.words.now) (Ok c.in-Ok.done) _ _ _ _ _ _ c.hand_out.result
+    comes_to c.one_due.ensures (g.S.Shelf.texts c.args.shelf.now) _ (map (λ w. string_bytes w) c.args.words.now)
+    (Ok c.in-Ok.done) _ _ _ _ _ _ c.hand_out.result
     c.in-Ok.ensures.due c.in-Ok.ensures.read_fault c.hand_out.ensures
 
 pub returns-in-Err-clause-exact : goal.returns-in-Err-clause-exact
 returns-in-Err-clause-exact g c =
-    comes_to c.one_due.ensures (g.S.Shelf.texts c.args.shelf.now) _ (map (λ w. string_bytes w) c.args.words.now) (Err c.in-Err.trouble) _ _ _ _ _ _ c.refuse.result
+    comes_to c.one_due.ensures (g.S.Shelf.texts c.args.shelf.now) _ (map (λ w. string_bytes w) c.args.words.now)
+    (Err c.in-Err.trouble) _ _ _ _ _ _ c.refuse.result
     c.in-Err.ensures.due c.in-Err.ensures.read_fault c.refuse.ensures
 
 pub returns-in-Ok-clause-complete : goal.returns-in-Ok-clause-complete
@@ -55,22 +61,26 @@ returns-in-Err-clause-complete g c reads writes =
 
 pub returns-in-Ok-clause-answered : goal.returns-in-Ok-clause-answered
 returns-in-Ok-clause-answered g c =
-    answered c.one_read.ensures.specs c.one_read.ensures.questions (g.S.Shelf.texts c.args.shelf.now) _ (map (λ w. string_bytes w) c.args.words.now)
+    answered c.one_read.ensures.specs c.one_read.ensures.questions (g.S.Shelf.texts c.args.shelf.now) _
+    (map (λ w. string_bytes w) c.args.words.now)
     (Ok c.in-Ok.done) _ _ _ _ _ _ c.hand_out.result c.in-Ok.ensures.due c.in-Ok.ensures.read_fault c.hand_out.ensures
 
 pub returns-in-Err-clause-answered : goal.returns-in-Err-clause-answered
 returns-in-Err-clause-answered g c =
-    answered c.one_read.ensures.specs c.one_read.ensures.questions (g.S.Shelf.texts c.args.shelf.now) _ (map (λ w. string_bytes w) c.args.words.now)
+    answered c.one_read.ensures.specs c.one_read.ensures.questions (g.S.Shelf.texts c.args.shelf.now) _
+    (map (λ w. string_bytes w) c.args.words.now)
     (Err c.in-Err.trouble) _ _ _ _ _ _ c.refuse.result c.in-Err.ensures.due c.in-Err.ensures.read_fault c.refuse.ensures
 
 pub returns-in-Ok-clause-verified : goal.returns-in-Ok-clause-verified
 returns-in-Ok-clause-verified g c =
-    verified c.one_read.ensures.specs c.one_read.ensures.questions c.one_judgement.ensures.reports (g.S.Shelf.texts c.args.shelf.now) _ (map (λ w. string_bytes w) c.args.words.now)
+    verified c.one_read.ensures.specs c.one_read.ensures.questions c.one_judgement.ensures.reports
+    (g.S.Shelf.texts c.args.shelf.now) _ (map (λ w. string_bytes w) c.args.words.now)
     (Ok c.in-Ok.done) _ _ _ _ _ _ c.hand_out.result c.in-Ok.ensures.due c.in-Ok.ensures.read_fault c.hand_out.ensures
 
 pub returns-in-Err-clause-verified : goal.returns-in-Err-clause-verified
 returns-in-Err-clause-verified g c =
-    verified c.one_read.ensures.specs c.one_read.ensures.questions c.one_judgement.ensures.reports (g.S.Shelf.texts c.args.shelf.now) _ (map (λ w. string_bytes w) c.args.words.now)
+    verified c.one_read.ensures.specs c.one_read.ensures.questions c.one_judgement.ensures.reports
+    (g.S.Shelf.texts c.args.shelf.now) _ (map (λ w. string_bytes w) c.args.words.now)
     (Err c.in-Err.trouble) _ _ _ _ _ _ c.refuse.result c.in-Err.ensures.due c.in-Err.ensures.read_fault c.refuse.ensures
 
 pub returns-in-Ok-clause-listed : goal.returns-in-Ok-clause-listed
@@ -83,16 +93,40 @@ returns-in-Err-clause-listed g c =
     listed c.one_read.ensures.specs (g.S.Shelf.texts c.args.shelf.now) _ (map (λ w. string_bytes w) c.args.words.now)
     (Err c.in-Err.trouble) _ _ _ _ _ _ c.refuse.result c.in-Err.ensures.due c.in-Err.ensures.read_fault c.refuse.ensures
 
+pub returns-in-Ok-clause-explained : goal.returns-in-Ok-clause-explained
+returns-in-Ok-clause-explained g c =
+    explained c.one_read.ensures.specs c.one_read.ensures.questions (g.S.Shelf.texts c.args.shelf.now) _
+    (map (λ w. string_bytes w) c.args.words.now)
+    (Ok c.in-Ok.done) _ _ _ _ _ _ c.hand_out.result c.in-Ok.ensures.due c.in-Ok.ensures.read_fault c.hand_out.ensures
+
+pub returns-in-Err-clause-explained : goal.returns-in-Err-clause-explained
+returns-in-Err-clause-explained g c =
+    explained c.one_read.ensures.specs c.one_read.ensures.questions (g.S.Shelf.texts c.args.shelf.now) _
+    (map (λ w. string_bytes w) c.args.words.now)
+    (Err c.in-Err.trouble) _ _ _ _ _ _ c.refuse.result c.in-Err.ensures.due c.in-Err.ensures.read_fault c.refuse.ensures
+
+pub returns-in-Ok-clause-blamed : goal.returns-in-Ok-clause-blamed
+returns-in-Ok-clause-blamed g c =
+    blamed c.one_read.ensures.specs (g.S.Shelf.texts c.args.shelf.now) _ (map (λ w. string_bytes w) c.args.words.now)
+    (Ok c.in-Ok.done) _ _ _ _ _ _ c.hand_out.result c.in-Ok.ensures.due c.in-Ok.ensures.read_fault c.hand_out.ensures
+
+pub returns-in-Err-clause-blamed : goal.returns-in-Err-clause-blamed
+returns-in-Err-clause-blamed g c =
+    blamed c.one_read.ensures.specs (g.S.Shelf.texts c.args.shelf.now) _ (map (λ w. string_bytes w) c.args.words.now)
+    (Err c.in-Err.trouble) _ _ _ _ _ _ c.refuse.result c.in-Err.ensures.due c.in-Err.ensures.read_fault c.refuse.ensures
+
 -- ---- refusals
 
 pub returns-in-Ok-clause-refused : goal.returns-in-Ok-clause-refused
 returns-in-Ok-clause-refused g c =
-    refused (g.S.Shelf.texts c.args.shelf.now) _ (map (λ w. string_bytes w) c.args.words.now) (Ok c.in-Ok.done) _ _ _ _ c.hand_out.result
+    refused (g.S.Shelf.texts c.args.shelf.now) _ (map (λ w. string_bytes w) c.args.words.now) (Ok c.in-Ok.done) _ _ _
+    _ c.hand_out.result
     c.in-Ok.ensures.due c.hand_out.ensures
 
 pub returns-in-Err-clause-refused : goal.returns-in-Err-clause-refused
 returns-in-Err-clause-refused g c =
-    refused (g.S.Shelf.texts c.args.shelf.now) _ (map (λ w. string_bytes w) c.args.words.now) (Err c.in-Err.trouble) _ _ _ _ c.refuse.result
+    refused (g.S.Shelf.texts c.args.shelf.now) _ (map (λ w. string_bytes w) c.args.words.now) (Err c.in-Err.trouble)
+    _ _ _ _ c.refuse.result
     c.in-Err.ensures.due c.refuse.ensures
 
 pub returns-in-Ok-clause-words : goal.returns-in-Ok-clause-words
@@ -112,7 +146,8 @@ returns-in-Err-clause-words_refused g c none =
 
 pub returns-in-Err-clause-read_fault_text : goal.returns-in-Err-clause-read_fault_text
 returns-in-Err-clause-read_fault_text g c seven =
-    names_unread (g.S.Shelf.texts c.args.shelf.now) _ (map (λ w. string_bytes w) c.args.words.now) c.in-Err.trouble _ _ _ _ c.refuse.result
+    names_unread (g.S.Shelf.texts c.args.shelf.now) _ (map (λ w. string_bytes w) c.args.words.now) c.in-Err.trouble _
+    _ _ _ c.refuse.result
     c.in-Err.ensures.unread c.refuse.ensures seven
 
 -- ---- faults of the outside
@@ -121,7 +156,8 @@ pub returns-in-Ok-clause-read_fault : goal.returns-in-Ok-clause-read_fault
 returns-in-Ok-clause-read_fault g c seven = absurd (done_reads _ _ _ _ c.in-Ok.done c.hand_out.result c.hand_out.ensures seven)
 
 pub returns-in-Ok-clause-read_fault_text : goal.returns-in-Ok-clause-read_fault_text
-returns-in-Ok-clause-read_fault_text g c seven = absurd (done_reads _ _ _ _ c.in-Ok.done c.hand_out.result c.hand_out.ensures seven)
+returns-in-Ok-clause-read_fault_text g c seven = absurd (done_reads _ _ _ _ c.in-Ok.done c.hand_out.result
+    c.hand_out.ensures seven)
 
 pub returns-in-Ok-clause-write_fault : goal.returns-in-Ok-clause-write_fault
 returns-in-Ok-clause-write_fault g c eight = sink_failed _ _ _ _ c.in-Ok.done c.hand_out.result c.hand_out.ensures eight

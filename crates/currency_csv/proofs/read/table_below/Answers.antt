@@ -10,9 +10,11 @@ returns-in_default c = inr (sym (table_empty c.args.columns.now c.args.records.n
 pub returns-in-Some-first_ragged : goal.returns-in-Some-first_ragged
 returns-in-Some-first_ragged c =
     let place = c.in-Some-first_ragged.place in
-    let number = told_number (place + 1) c.saturating_add.result c.told-number.result c.saturating_add.ensures c.told-number.ensures in
+    let number = told_number (place + 1) c.saturating_add.result c.told-number.result c.saturating_add.ensures
+    c.told-number.ensures in
     let found = sym c.first_ragged.ensures ∙ c.in-Some-first_ragged.is in
-    inr (rw number (sym (table_ragged c.args.columns.now c.args.records.now c.in-Some.header.now c.in-Some.rows.now c.in-Some.ensures.cases.0 place found)))
+    inr (rw number (sym (table_ragged c.args.columns.now c.args.records.now c.in-Some.header.now c.in-Some.rows.now
+    c.in-Some.ensures.cases.0 place found)))
 
 pub sources-requires : goal.sources-requires
 sources-requires c =
@@ -27,15 +29,18 @@ tuples-requires c =
 pub returns-in-Ok-tuples : goal.returns-in-Ok-tuples
 returns-in-Ok-tuples c =
     let fits = sym c.first_ragged.ensures ∙ c.in_default-first_ragged.is in
-    let whole = table_read c.args.columns.now c.args.records.now c.in-Some.header.now c.in-Some.rows.now c.in-Some.ensures.cases.0 fits c.in-Ok.sources.items in
+    let whole = table_read c.args.columns.now c.args.records.now c.in-Some.header.now c.in-Some.rows.now
+    c.in-Some.ensures.cases.0 fits c.in-Ok.sources.items in
     ⊎_elim (λ e. cc e)
-    (λ found. ⊎_elim (λ e. cc e) (λ made. inr (ap table_with (rw c.as_slice.ensures.value at made) ∙ sym (whole found))) c.in-Ok-tuples.ensures)
+    (λ found. ⊎_elim (λ e. cc e) (λ made. inr (ap table_with (rw c.as_slice.ensures.value at made)
+    ∙ sym (whole found))) c.in-Ok-tuples.ensures)
     c.in-Ok.ensures
 
 pub returns-in-Ok : goal.returns-in-Ok
 returns-in-Ok c =
     let fits = sym c.first_ragged.ensures ∙ c.in_default-first_ragged.is in
-    let whole = table_read c.args.columns.now c.args.records.now c.in-Some.header.now c.in-Some.rows.now c.in-Some.ensures.cases.0 fits c.in-Ok.sources.items in
+    let whole = table_read c.args.columns.now c.args.records.now c.in-Some.header.now c.in-Some.rows.now
+    c.in-Some.ensures.cases.0 fits c.in-Ok.sources.items in
     ⊎_elim (λ e. cc e)
     (λ found. ⊎_elim
     (λ e. inl (ap Err (same_fault c.tuples.result _ _ c.in-Err-tuples.is (c.in-Err-tuples.is ∙ e))))
@@ -48,5 +53,6 @@ returns c =
     let fits = sym c.first_ragged.ensures ∙ c.in_default-first_ragged.is in
     ⊎_elim
     (λ e. inl (ap Err (same_fault c.sources.result _ _ c.in-Err.is (c.in-Err.is ∙ e))))
-    (λ lacking. inr (sym (table_missing c.args.columns.now c.args.records.now c.in-Some.header.now c.in-Some.rows.now c.in-Some.ensures.cases.0 fits c.in-Err.fault lacking)))
+    (λ lacking. inr (sym (table_missing c.args.columns.now c.args.records.now c.in-Some.header.now c.in-Some.rows.now
+    c.in-Some.ensures.cases.0 fits c.in-Err.fault lacking)))
     c.in-Err.ensures

@@ -18,7 +18,8 @@ returns-in-Ok-None c =
     let fields = fields_of c.args.row.now in
     let none = sym c.in-Ok-None.field-0-is ∙ c.in-Ok-None.ensures ∙ ap (value_of source.kind) c.field.ensures in
     let bad = value_missing c.args.number c.loop-place.place fields source none in
-    inr (rw c.told-place.ensures (so_far_fault (read_value c.args.number fields) 0 c.args.sources.now c.loop-place.place c.loop-place.place c.loop-place.tuple source _
+    inr (rw c.told-place.ensures (so_far_fault (read_value c.args.number fields) 0 c.args.sources.now
+    c.loop-place.place c.loop-place.place c.loop-place.tuple source _
     c.loop-place-test.true (omega arith) refl c.loop-place.invariant _ bad))
 
 pub loop-place-preserved : goal.loop-place-preserved
@@ -27,9 +28,11 @@ loop-place-preserved c =
     let fields = fields_of c.args.row.now in
     let some = sym c.in-Ok-Some.field-0-is ∙ c.in-Ok-Some.ensures ∙ ap (value_of source.kind) c.field.ensures in
     let good = value_found c.args.number c.loop-place.place fields source c.in-Ok-Some.value some in
-    rw c.in-Ok.ensures.ok (so_far_more (read_value c.args.number fields) 0 c.args.sources.now c.loop-place.place c.loop-place.place c.loop-place.tuple source _
+    rw c.in-Ok.ensures.ok (so_far_more (read_value c.args.number fields) 0 c.args.sources.now c.loop-place.place
+    c.loop-place.place c.loop-place.tuple source _
     c.loop-place-test.true (omega arith) refl c.loop-place.invariant _ good)
 
 pub returns : goal.returns
 unfolding read_tuple
-returns c = inr (so_far_all (read_value c.args.number (fields_of c.args.row.now)) 0 c.args.sources.now c.loop-place.place c.loop-place.tuple (omega arith) c.loop-place.invariant)
+returns c = inr (so_far_all (read_value c.args.number (fields_of c.args.row.now)) 0 c.args.sources.now
+    c.loop-place.place c.loop-place.tuple (omega arith) c.loop-place.invariant)

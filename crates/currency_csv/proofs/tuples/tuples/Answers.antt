@@ -10,15 +10,18 @@ pub returns-in-Err : goal.returns-in-Err
 unfolding read_tuples
 returns-in-Err c =
     let row = c.index-rows-place.result in
-    let number = told_number (2 + c.loop-place.place) c.saturating_add.result c.told-number.result (omega arith) c.told-number.ensures in
+    let number = told_number (2 + c.loop-place.place) c.saturating_add.result c.told-number.result (omega arith)
+    c.told-number.ensures in
     ⊎_elim
     (λ e. inl (ap Err (same_fault c.tuple.result _ _ c.in-Err.is e)))
     (λ e.
     let bad = ap (λ n. read_tuple c.args.sources.now n (fields_of row)) (sym number) ∙ sym e ∙ c.in-Err.is in
-    inr (so_far_fault (read_row c.args.sources.now) 2 c.args.rows.now c.loop-place.place (2 + c.loop-place.place) c.loop-place.tuples row row
+    inr (so_far_fault (read_row c.args.sources.now) 2 c.args.rows.now c.loop-place.place (2 + c.loop-place.place)
+    c.loop-place.tuples row row
     c.loop-place-test.true refl c.index-rows-place.is c.loop-place.invariant _ bad))
     c.tuple.ensures
 
 pub returns : goal.returns
 unfolding read_tuples
-returns c = inr (so_far_all (read_row c.args.sources.now) 2 c.args.rows.now c.loop-place.place c.loop-place.tuples (omega arith) c.loop-place.invariant)
+returns c = inr (so_far_all (read_row c.args.sources.now) 2 c.args.rows.now c.loop-place.place c.loop-place.tuples
+    (omega arith) c.loop-place.invariant)

@@ -5,4 +5,5 @@ use Rattle.currency_report.proofs.claim.currents_said.Given as goal
 
 abbrev pub invariant-loop-tree : goal.invariant-loop-tree
 invariant-loop-tree l =
-    and_then (currents_said l.spec.relations (drop l.tree-index l.trees)) (λ more. Ok (l.list ++ more)) ≡ currents_said l.spec.relations l.trees
+    and_then (currents_said l.spec.relations (drop l.tree-index l.trees)) (λ more. Ok (l.list ++ more)) ≡
+    currents_said l.spec.relations l.trees

@@ -4,10 +4,12 @@ use Rattle.currency_report.proofs.place.entity_named.Goals as goal
 
 pub overflow_cast-result-2 : goal.overflow_cast-result-2
 overflow_cast-result-2 c =
-    Fits-of_lt (entity_fits c.args.spec.now c.args.names.now c.in_ok-rel.rel c.relation-parts.result.now c.relations-relations.ensures.facts c.requires
+    Fits-of_lt (entity_fits c.args.spec.now c.args.names.now c.in_ok-rel.rel c.relation-parts.result.now
+    c.relations-relations.ensures.facts c.requires
     c.relation-parts.ensures c.args.entity.now.name c.in_ok-ent.ent c.in_ok-ent.ensures.place)
 
 pub returns : goal.returns
 returns c =
-    is_entity c.args.spec.now c.args.names.now c.args.relation.now c.args.entity.now c.in_ok-rel.rel c.in_ok-ent.ent c.relation-parts.result.now c.requires
+    is_entity c.args.spec.now c.args.names.now c.args.relation.now c.args.entity.now c.in_ok-rel.rel c.in_ok-ent.ent
+    c.relation-parts.result.now c.requires
     c.relation-parts.ensures (rw c.relations.ensures at c.in_ok-rel.ensures.place) c.in_ok-ent.ensures.place

@@ -5,6 +5,7 @@ use Rattle.currency_report.proofs.rank.rank_all.Given as goal
 
 abbrev pub invariant-loop-ranking : goal.invariant-loop-ranking
 invariant-loop-ranking l = record {
-  due : ranked_by l.spec.relations (drop l.ranking-index l.rankings) l.completion ≡ ranked_by l.spec.relations l.rankings l.initial.completion;
+  due : ranked_by l.spec.relations (drop l.ranking-index l.rankings) l.completion ≡ ranked_by l.spec.relations
+      l.rankings l.initial.completion;
   shape : HasShape l.spec.relations l.completion;
 }

@@ -13,12 +13,14 @@ returns-then-not-is_asked c =
 
 pub claim_entity-requires-clause-entity : goal.claim_entity-requires-clause-entity
 claim_entity-requires-clause-entity c =
-    entity_read c.args.spec.now.relations c.relations.result.now c.args.rel.0 c.loop-ent.ent c.index-relations-rel.result c.len-ent-end.result
+    entity_read c.args.spec.now.relations c.relations.result.now c.args.rel.0 c.loop-ent.ent
+    c.index-relations-rel.result c.len-ent-end.result
     c.relations.ensures.value c.requires.rel c.len-ent-end.ensures c.loop-ent-test.true
 
 pub loop-ent-preserved : goal.loop-ent-preserved
 loop-ent-preserved c =
-    told_more c.args.spec.now.relations c.args.rels.now c.args.completion.now c.args.rel (record { 0 = c.loop-ent.ent }) c.loop-ent.claims
+    told_more c.args.spec.now.relations c.args.rels.now c.args.completion.now c.args.rel
+    (record { 0 = c.loop-ent.ent }) c.loop-ent.claims
     c.claim_entity.new.claims (c.if-not-is_asked.ensures.0 refl) c.loop-ent.invariant c.in_ok-claim_entity.ensures
 
 pub returns : goal.returns
@@ -31,4 +33,5 @@ returns c =
     read_of (λ (q : Relation). length q.entities) relations c.relations.result.now c.args.rel.0 own r c.len-ent-end.result
     c.relations.ensures.value c.len-ent-end.ensures at in
     let whole : length r.entities ≤ c.loop-ent.ent = omega arith in
-    told_relation relations c.args.rels.now c.args.completion.now c.args.rel c.loop-ent.ent c.loop-ent.claims r at whole c.loop-ent.invariant
+    told_relation relations c.args.rels.now c.args.completion.now c.args.rel c.loop-ent.ent c.loop-ent.claims r at
+    whole c.loop-ent.invariant

@@ -9,15 +9,18 @@ pub loop-attr-preserved : goal.loop-attr-preserved
 loop-attr-preserved c = λ r at.
     subst (AreValuesOf r c.args.completion.now c.args.rel.0 c.args.ent.0 (c.loop-attr.attr + 1)) (sym c.in_ok-push.ensures.ok)
     (values_more r c.args.completion.now c.args.rel.0 c.args.ent.0 c.loop-attr.attr c.loop-attr.values c.last-value.result.now
-    c.in_ok-duplicate.field-0 (c.last-value.ensures r at) c.is_value.ensures c.in_ok-duplicate.ensures (c.loop-attr.invariant r at))
+    c.in_ok-duplicate.field-0 (c.last-value.ensures r at) c.is_value.ensures c.in_ok-duplicate.ensures
+    (c.loop-attr.invariant r at))
 
 pub returns-clause-values : goal.returns-clause-values
 returns-clause-values c = λ r at.
     let attrs : c.len-attr-end.result ≡ length r.attrs =
-    read_of (λ (q : Relation). length q.attrs) c.args.spec.now.relations c.relations.result.now c.args.rel.0 c.index-relations-rel.result r
+    read_of (λ (q : Relation). length q.attrs) c.args.spec.now.relations c.relations.result.now c.args.rel.0
+    c.index-relations-rel.result r
     c.len-attr-end.result c.relations.ensures.value c.len-attr-end.ensures at in
     let all : c.loop-attr.attr ≡ length r.attrs = omega arith in
-    subst (λ n. AreValuesOf r c.args.completion.now c.args.rel.0 c.args.ent.0 n c.loop-attr.values) all (c.loop-attr.invariant r at)
+    subst (λ n. AreValuesOf r c.args.completion.now c.args.rel.0 c.args.ent.0 n c.loop-attr.values) all
+    (c.loop-attr.invariant r at)
 
 pub returns-clause-few : goal.returns-clause-few
 returns-clause-few c =

@@ -5,4 +5,5 @@ use Rattle.current_claims.proofs.claims.push_last_rows.Given as goal
 
 abbrev pub invariant-loop-attr : goal.invariant-loop-attr
 invariant-loop-attr l =
-    (r : Relation) → slice_get l.spec.relations l.rel.0 ≡ Some r → AddsLastOf r l.completion l.rel l.ent l.attr l.initial.rows l.rows
+    (r : Relation) → slice_get l.spec.relations l.rel.0 ≡ Some r → AddsLastOf r l.completion l.rel l.ent l.attr
+    l.initial.rows l.rows

@@ -6,12 +6,14 @@ use Rattle.current_claims.proofs.difference.relation_difference.Goals as goal
 
 pub entity_difference-requires-clause-entity : goal.entity_difference-requires-clause-entity
 entity_difference-requires-clause-entity c =
-    entity_read c.args.spec.now.relations c.relations.result.now c.args.rel.0 c.loop-ent.ent c.index-relations-rel.result c.len-ent-end.result
+    entity_read c.args.spec.now.relations c.relations.result.now c.args.rel.0 c.loop-ent.ent
+    c.index-relations-rel.result c.len-ent-end.result
     c.relations.ensures.value c.requires.rel c.len-ent-end.ensures c.loop-ent-test.true
 
 pub loop-ent-preserved : goal.loop-ent-preserved
 loop-ent-preserved c =
-    before_more c.args.spec.now.relations c.args.first.now c.args.second.now c.args.rel (record { 0 = c.loop-ent.ent }) c.in_default.ensures.none
+    before_more c.args.spec.now.relations c.args.first.now c.args.second.now c.args.rel
+    (record { 0 = c.loop-ent.ent }) c.in_default.ensures.none
     c.loop-ent.invariant
 
 pub returns-clause-none : goal.returns-clause-none
@@ -19,7 +21,8 @@ returns-clause-none c =
     none_of_relation c.args.spec.now.relations c.args.first.now c.args.second.now c.args.rel c.loop-ent.ent
     (λ r at.
     let entities : c.len-ent-end.result ≡ length r.entities =
-    read_of (λ (q : Relation). length q.entities) c.args.spec.now.relations c.relations.result.now c.args.rel.0 c.index-relations-rel.result r
+    read_of (λ (q : Relation). length q.entities) c.args.spec.now.relations c.relations.result.now c.args.rel.0
+    c.index-relations-rel.result r
     c.len-ent-end.result c.relations.ensures.value c.len-ent-end.ensures at in
     omega arith)
     c.loop-ent.invariant

@@ -9,4 +9,5 @@ returns-clause-at c =
     let rank = rank_to c.args.table.now c.args.attr c.args.value.now in
     let rows = c.args.by_value.now in
     IsPartitionPoint-from_clause (λ y. leb (rank y) 1) rows c.partition_point.result c.partition_point.ensures.partitioned
-    (IsPartitionedBy-leb rank rows 1 (ranks_rise c.args.table.now c.args.attr c.args.members.now rows c.args.value.now c.requires)) (λ a r q k. search rules)
+    (IsPartitionedBy-leb rank rows 1 (ranks_rise c.args.table.now c.args.attr c.args.members.now rows
+    c.args.value.now c.requires)) (λ a r q k. search rules)

@@ -11,5 +11,6 @@ abbrev pub invariant-loop-row : goal.invariant-loop-row
 invariant-loop-row l = record {
   front : l.front.items ≡ l.initial.front.items;
   so_far : l.grounds ≡ l.initial.grounds
-      ++ flat_map (λ row. chosen_from (has_instance l.rule l.table) l.members (l.left - 1) (l.initial.front.items ++ row ∷ [])) (take l.row-index l.members);
+      ++ flat_map (λ row. chosen_from (has_instance l.rule l.table) l.members (l.left - 1)
+      (l.initial.front.items ++ row ∷ [])) (take l.row-index l.members);
 }

@@ -5,4 +5,5 @@ use Rattle.entity_ground.specs.Grounds.{grounds_among}
 use Rattle.entity_ground.proofs.rules.grounds_in.Given as goal
 
 abbrev pub invariant-loop-ent : goal.invariant-loop-ent
-invariant-loop-ent l = l.grounds ≡ flat_map (λ ent. grounds_among l.rule l.relation.rows (rows_of (entities_of l.relation.rows) ent)) (range_with_len 0 l.ent)
+invariant-loop-ent l = l.grounds ≡ flat_map (λ ent. grounds_among l.rule l.relation.rows
+    (rows_of (entities_of l.relation.rows) ent)) (range_with_len 0 l.ent)

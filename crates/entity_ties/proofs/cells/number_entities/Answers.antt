@@ -9,7 +9,8 @@ loop-rel-preserved c =
     let relations = c.args.relations.now in
     let rel = c.loop-rel.rel in
     let r = c.index-relations-rel.result in
-    let at : slice_get relations rel ≡ Some r = slice_get_read relations (length relations) rel r (omega arith) (omega arith) c.index-relations-rel.is in
+    let at : slice_get relations rel ≡ Some r = slice_get_read relations (length relations) rel r (omega arith)
+    (omega arith) c.index-relations-rel.is in
     let first : c.in_ok-number_of.field-0 ≡ length c.loop-rel.members.items = search rules in
     let firsts : c.push.new.self.items ≡ c.loop-rel.firsts.items ++ c.in_ok-number_of.field-0 ∷ [] = search rules in
     let adds : AddsMembers rel (length r.entities) c.loop-rel.members.items c.add_members.new.members.items = search rules in

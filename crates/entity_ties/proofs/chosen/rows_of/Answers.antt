@@ -13,9 +13,11 @@ loop-ent-preserved c =
     let numbers = c.args.entities.now in
     let i = c.loop-ent.ent-index in
     let below : i < length numbers = omega arith in
-    let rows : c.append_rows.new.rows.items ≡ c.loop-ent.rows.items ++ map (λ (r : RowId). r.0) (rows_of group.entities (get_or numbers i 0)) = search rules in
+    let rows : c.append_rows.new.rows.items ≡ c.loop-ent.rows.items ++ map (λ (r : RowId). r.0)
+    (rows_of group.entities (get_or numbers i 0)) = search rules in
     subst (AreRowsOf group.entities (take (i + 1) numbers)) (sym rows)
-    (rows_more group.entities numbers i (get_or numbers i 0) c.loop-ent.rows.items (slice_get-get_or numbers i 0 below) c.loop-ent.invariant)
+    (rows_more group.entities numbers i (get_or numbers i 0) c.loop-ent.rows.items
+    (slice_get-get_or numbers i 0 below) c.loop-ent.invariant)
 
 pub returns : goal.returns
 returns c =

@@ -12,7 +12,8 @@ returns-then-len-clause-joined c =
     let at_other : slice_get labels c.args.other ≡ Some c.index-2.result.now =
     slice_get_read labels (length labels) c.args.other c.index-2.result.now refl c.requires.other c.index-2.ensures in
     on_ok_weaker c.unite.result (λ is.
-    joined c.args.one c.args.other c.index.result.now c.index-2.result.now labels c.unite.new.labels.items at_one at_other c.if-one-other.false is)
+    joined c.args.one c.args.other c.index.result.now c.index-2.result.now labels c.unite.new.labels.items at_one
+    at_other c.if-one-other.false is)
     c.unite.ensures.united
 
 pub unite-requires-2-clause-from : goal.unite-requires-2-clause-from
@@ -31,5 +32,6 @@ returns-clause-joined c =
     let apart : c.index-2.result.now ≢ c.index.result.now = λ e. c.if-one-other.false (sym e) in
     on_ok_weaker c.unite-2.result (λ is.
     joined_round c.args.one c.args.other labels c.unite-2.new.labels.items
-    (joined c.args.other c.args.one c.index-2.result.now c.index.result.now labels c.unite-2.new.labels.items at_other at_one apart is))
+    (joined c.args.other c.args.one c.index-2.result.now c.index.result.now labels c.unite-2.new.labels.items
+    at_other at_one apart is))
     c.unite-2.ensures.united

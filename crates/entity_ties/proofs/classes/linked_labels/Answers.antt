@@ -14,8 +14,10 @@ loop-link-preserved c =
     let below : i < length links = omega arith in
     let link : Link = get_or links i (record { one = 0; other = 0 }) in
     so_far_more c.args.count i links link c.loop-link.labels.items c.join.new.labels.items c.loop-link.members c.join.new.members
-    (slice_get-get_or links i (record { one = 0; other = 0 }) below) c.requires.within c.loop-link.invariant c.in_ok-join.ensures.joined c.in_ok-join.ensures.classes
+    (slice_get-get_or links i (record { one = 0; other = 0 }) below) c.requires.within c.loop-link.invariant
+    c.in_ok-join.ensures.joined c.in_ok-join.ensures.classes
 
 pub returns-clause-labels : goal.returns-clause-labels
 returns-clause-labels c =
-    so_far_all c.args.count c.loop-link.link-index c.args.links.now c.loop-link.labels.items c.loop-link.members (omega arith) c.loop-link.invariant
+    so_far_all c.args.count c.loop-link.link-index c.args.links.now c.loop-link.labels.items c.loop-link.members
+    (omega arith) c.loop-link.invariant

@@ -6,4 +6,5 @@ pub loop-number-preserved : goal.loop-number-preserved
 loop-number-preserved c =
     let labels : c.push.new.self.items ≡ c.loop-number.labels.items ++ c.loop-number.number ∷ [] = search rules in
     let members : c.push-in-loop-number-2.new.self ≡ c.loop-number.members ++ (c.loop-number.number ∷ []) ∷ [] = search rules in
-    rw (labels, members) (single_more c.loop-number.number c.loop-number.labels.items c.loop-number.members c.loop-number.invariant)
+    rw (labels, members) (single_more c.loop-number.number c.loop-number.labels.items c.loop-number.members
+    c.loop-number.invariant)

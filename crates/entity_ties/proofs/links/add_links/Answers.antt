@@ -13,10 +13,12 @@ loop-row-preserved c =
     elim c.match-link_of.branch [
       | in-Some+in_ok-push-in-Some w ↦
           let pushed : c.match-link_of.links.items ≡ c.loop-row.links.items ++ w.in-Some.link ∷ [] = search rules in
-          rw pushed (adds_more copy targets sources c.args.first c.args.first_source c.loop-row.row row w.in-Some.link c.args.links.now.items c.loop-row.links.items
+          rw pushed (adds_more copy targets sources c.args.first c.args.first_source c.loop-row.row row
+          w.in-Some.link c.args.links.now.items c.loop-row.links.items
           refl w.in-Some.ensures.some c.loop-row.invariant)
       | in-None w ↦
           let same : c.match-link_of.links.items ≡ c.loop-row.links.items = search rules in
-          rw same (adds_skip copy targets sources c.args.first c.args.first_source c.loop-row.row row c.args.links.now.items c.loop-row.links.items
+          rw same (adds_skip copy targets sources c.args.first c.args.first_source c.loop-row.row row
+          c.args.links.now.items c.loop-row.links.items
           refl w.in-None.ensures.none c.loop-row.invariant)
     ]

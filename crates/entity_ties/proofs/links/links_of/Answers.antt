@@ -11,7 +11,8 @@ loop-copy-preserved c =
     let i = c.loop-copy.copy-index in
     let copies = c.copies-copy-items.result.now in
     let copy = c.copy-item.result in
-    let at : slice_get copies i ≡ Some copy = slice_get_read copies (length copies) i copy (omega arith) (omega arith) c.copy-item.is in
+    let at : slice_get copies i ≡ Some copy = slice_get_read copies (length copies) i copy (omega arith)
+    (omega arith) c.copy-item.is in
     let at_spec : slice_get s.copies i ≡ Some copy = rw (← c.copies-copy-items.ensures.value) at in
     let adds : AddsLinksOf s.relations firsts copy c.loop-copy.links.items c.add_copy.new.links.items =
     rw (← c.relations.ensures.value) c.in_ok-add_copy.ensures in

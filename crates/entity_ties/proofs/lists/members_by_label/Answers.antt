@@ -11,8 +11,11 @@ loop-place-preserved c =
     let i = c.loop-place.place in
     let in_members : i < length members = omega arith in
     let in_labels : i < length labels = omega arith in
-    parts_more members labels c.args.count i (get_or labels i 0) (get_or members i (member 0 0)) c.loop-place.parts c.put.new.lists
-    (slice_get-get_or members i (member 0 0) in_members) (slice_get-get_or labels i 0 in_labels) c.loop-place.invariant c.in_ok-put.ensures
+    parts_more members labels c.args.count i (get_or labels i 0) (get_or members i (member 0 0)) c.loop-place.parts
+    c.put.new.lists
+    (slice_get-get_or members i (member 0 0) in_members) (slice_get-get_or labels i 0 in_labels)
+    c.loop-place.invariant c.in_ok-put.ensures
 
 pub returns : goal.returns
-returns c = parts_all c.args.members.now c.args.labels.now c.args.count c.loop-place.place c.loop-place.parts (omega arith) c.loop-place.invariant
+returns c = parts_all c.args.members.now c.args.labels.now c.args.count c.loop-place.place c.loop-place.parts
+    (omega arith) c.loop-place.invariant

@@ -13,10 +13,13 @@ loop-label-preserved c =
     let inside = All-get_or (λ l. l < length labels) labels i 0 below c.requires.within in
     let pushed : c.push.new.self.items ≡ c.loop-label.ordered.items ++ c.name_of.result ∷ [] = search rules in
     record {
-      room = as_much_room c.loop-label.names.items c.name_of.new.names.items c.loop-label.count c.name_of.new.count (get_or labels i 0) c.name_of.result c.name_of.ensures
+      room = as_much_room c.loop-label.names.items c.name_of.new.names.items c.loop-label.count c.name_of.new.count
+          (get_or labels i 0) c.name_of.result c.name_of.ensures
           ∙ c.loop-label.invariant.room;
-      named = rw pushed (named_more i (get_or labels i 0) c.name_of.result c.loop-label.count c.name_of.new.count labels c.loop-label.ordered.items
-          c.loop-label.names.items c.name_of.new.names.items (slice_get-get_or labels i 0 below) (omega (arith, inside, c.loop-label.invariant.room))
+      named = rw pushed (named_more i (get_or labels i 0) c.name_of.result c.loop-label.count c.name_of.new.count
+          labels c.loop-label.ordered.items
+          c.loop-label.names.items c.name_of.new.names.items (slice_get-get_or labels i 0 below)
+          (omega (arith, inside, c.loop-label.invariant.room))
           c.loop-label.invariant.named c.name_of.ensures);
     }
 
@@ -26,4 +29,5 @@ returns c =
     let i = c.loop-label.label-index in
     let all : take i labels ≡ labels = take_all i labels (omega arith) in
     named_all labels c.loop-label.ordered.items c.loop-label.names.items c.loop-label.count
-    (subst (λ l. AreNamed l c.loop-label.names.items c.loop-label.ordered.items c.loop-label.count) all c.loop-label.invariant.named)
+    (subst (λ l. AreNamed l c.loop-label.names.items c.loop-label.ordered.items c.loop-label.count) all
+    c.loop-label.invariant.named)

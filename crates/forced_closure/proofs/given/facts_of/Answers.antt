@@ -12,7 +12,8 @@ loop-rel-init c = record {
 pub loop-rel-preserved : goal.loop-rel-preserved
 loop-rel-preserved c = record {
   each = c.in_ok-add_given.ensures.each;
-  all = facts_next c.args.subject.now c.loop-rel.facts.items c.add_given.new.facts.items c.loop-rel.rel c.in_ok-add_given.ensures.grows c.loop-rel.invariant.all
+  all = facts_next c.args.subject.now c.loop-rel.facts.items c.add_given.new.facts.items c.loop-rel.rel
+      c.in_ok-add_given.ensures.grows c.loop-rel.invariant.all
       c.in_ok-add_given.ensures.all;
 }
 

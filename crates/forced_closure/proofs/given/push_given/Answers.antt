@@ -12,13 +12,15 @@ pub returns-clause-each : goal.returns-clause-each
 returns-clause-each c =
     let pushed : c.push.new.self.items ≡ c.args.facts.now.items ++ c.slot.result ∷ [] = search rules in
     subst (AreOfGiven c.args.subject.now) (sym pushed)
-    (given_more c.args.subject.now c.args.facts.now.items c.slot.result c.args.rel.0 c.args.pair c.requires.each c.requires.given c.slot.ensures)
+    (given_more c.args.subject.now c.args.facts.now.items c.slot.result c.args.rel.0 c.args.pair c.requires.each
+    c.requires.given c.slot.ensures)
 
 pub returns-clause-is_in : goal.returns-clause-is_in
 returns-clause-is_in c =
     let pushed : c.push.new.self.items ≡ c.args.facts.now.items ++ c.slot.result ∷ [] = search rules in
     record {
       slot = c.slot.result;
-      is_in = subst (λ (xs : List ℕ). Contains xs c.slot.result) (sym pushed) (Contains-push c.args.facts.now.items c.slot.result);
+      is_in = subst (λ (xs : List ℕ). Contains xs c.slot.result) (sym pushed)
+          (Contains-push c.args.facts.now.items c.slot.result);
       is_slot = c.slot.ensures;
     }

@@ -18,5 +18,6 @@ add_grounds-requires-clause-concludes c rule at =
 pub returns-in-Order : goal.returns-in-Order
 returns-in-Order c =
     on_ok_weaker c.add_grounds.result
-    (λ adds. adds_as c.args.subject.now c.args.gathered.now c.add_grounds.new.gathered (OfGroundsAt c.args.subject.now c.args.rule) (OfRule c.args.subject.now c.args.rule) adds (λ o is. is.at))
+    (λ adds. adds_as c.args.subject.now c.args.gathered.now c.add_grounds.new.gathered
+    (OfGroundsAt c.args.subject.now c.args.rule) (OfRule c.args.subject.now c.args.rule) adds (λ o is. is.at))
     c.add_grounds.ensures

@@ -13,8 +13,10 @@ loop-pair-init c =
 
 pub loop-pair-preserved : goal.loop-pair-preserved
 loop-pair-preserved c =
-    slots_next c.args.subject.now.layout c.args.rel.0 c.args.pairs.now c.loop-pair.pair-index _ c.loop-pair.slots.items c.push.new.self.items c.slot.result
-    (slice_get-get_or c.args.pairs.now c.loop-pair.pair-index _ c.loop-pair-test.true) c.loop-pair.invariant c.slot.ensures (search rules)
+    slots_next c.args.subject.now.layout c.args.rel.0 c.args.pairs.now c.loop-pair.pair-index _
+    c.loop-pair.slots.items c.push.new.self.items c.slot.result
+    (slice_get-get_or c.args.pairs.now c.loop-pair.pair-index _ c.loop-pair-test.true) c.loop-pair.invariant
+    c.slot.ensures (search rules)
 
 pub returns : goal.returns
 returns c =

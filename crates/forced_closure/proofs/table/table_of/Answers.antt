@@ -13,8 +13,10 @@ loop-cell-preserved c =
     let none : Derived = record { slot = 0; why = Fact } in
     let cell = get_or c.args.derived.now c.loop-cell.cell-index none in
     let at = slice_get-get_or c.args.derived.now c.loop-cell.cell-index none c.loop-cell-test.true in
-    table_next c.args.cells c.args.derived.now c.loop-cell.cell-index cell c.loop-cell.table.items _ at (c.requires c.loop-cell.cell-index none c.loop-cell-test.true)
+    table_next c.args.cells c.args.derived.now c.loop-cell.cell-index cell c.loop-cell.table.items _ at
+    (c.requires c.loop-cell.cell-index none c.loop-cell-test.true)
     c.loop-cell.invariant refl
 
 pub returns : goal.returns
-returns c = table_all c.args.cells c.args.derived.now c.loop-cell.cell-index c.loop-cell.table.items c.loop-cell-test.false c.loop-cell.invariant
+returns c = table_all c.args.cells c.args.derived.now c.loop-cell.cell-index c.loop-cell.table.items
+    c.loop-cell-test.false c.loop-cell.invariant

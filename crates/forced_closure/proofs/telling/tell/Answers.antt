@@ -16,5 +16,7 @@ tell_one-requires-clause-why c =
 
 pub loop-cell-preserved : goal.loop-cell-preserved
 loop-cell-preserved c =
-    told_next c.args.subject.now c.args.origins.now c.args.derived.now c.loop-cell.pairs.items c.push.new.self.items c.loop-cell.cell-index _ c.tell_one.result
-    (slice_get-get_or c.args.derived.now c.loop-cell.cell-index _ c.loop-cell-test.true) c.loop-cell.invariant c.tell_one.ensures (search rules)
+    told_next c.args.subject.now c.args.origins.now c.args.derived.now c.loop-cell.pairs.items c.push.new.self.items
+    c.loop-cell.cell-index _ c.tell_one.result
+    (slice_get-get_or c.args.derived.now c.loop-cell.cell-index _ c.loop-cell-test.true) c.loop-cell.invariant
+    c.tell_one.ensures (search rules)

@@ -7,7 +7,8 @@ use Rattle.forced_write.proofs.listing.forced_pairs.Goals as goal
 
 pub loop-rel-init : goal.loop-rel-init
 loop-rel-init c =
-    subst (λ (pairs : List Asked). AreListed c.args.spec.now 0 0 0 [] pairs) (sym c.new-pairs.ensures) (listed_none c.args.spec.now)
+    subst (λ (pairs : List Asked). AreListed c.args.spec.now 0 0 0 [] pairs) (sym c.new-pairs.ensures)
+    (listed_none c.args.spec.now)
 
 pub returns-clause-pairs : goal.returns-clause-pairs
 returns-clause-pairs c =

@@ -8,7 +8,8 @@ use Rattle.forced_write.proofs.listing.list_pair.Goals as goal
 pub returns-then-not-has : goal.returns-then-not-has
 returns-then-not-has c = λ laters below are.
     let p : Asked = record { rel = c.args.rel; pair = c.args.pair } in
-    listed_past c.args.closure.now.spec p laters c.args.pairs.now (λ forced. not_both c.has.result c.if-not-has.true (c.has.ensures.1 forced)) are
+    listed_past c.args.closure.now.spec p laters c.args.pairs.now (λ forced. not_both c.has.result c.if-not-has.true
+    (c.has.ensures.1 forced)) are
 
 pub returns : goal.returns
 returns c =

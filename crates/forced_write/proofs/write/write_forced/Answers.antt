@@ -8,7 +8,8 @@ use Rattle.forced_closure.specs.Forced.{HasLoop}
 use Rattle.forced_write.specs.ForcedText.{forced_pieces}
 use Rattle.forced_write.proofs.write.write_forced.Goals as goal
 
-written_is : (w v : Writing) (relations others : List Relation) (loops : Bool) (pairs same : List Asked) → v ≡ start → relations ≡ others → pairs ≡ same
+written_is : (w v : Writing) (relations others : List Relation) (loops : Bool) (pairs same : List Asked) → v ≡ start
+    → relations ≡ others → pairs ≡ same
     → w ≡ writes_all v (forced_pieces relations loops pairs) → w ≡ writes_all start (forced_pieces others loops same)
 written_is w v relations others loops pairs same e f g is =
     is ∙ ap (λ (u : Writing). writes_all u (forced_pieces relations loops pairs)) e
@@ -20,7 +21,8 @@ returns c =
     let s = c.args.spec.now in
     let pairs = c.in_ok-pairs.pairs in
     let loops = c.loops.result in
-    let written = written_is c.write_pairs.new.into c.new-into.result c.relations.result.now s.relations loops c.as_slice.result.now pairs c.new-into.ensures
+    let written = written_is c.write_pairs.new.into c.new-into.result c.relations.result.now s.relations loops
+    c.as_slice.result.now pairs c.new-into.ensures
     c.relations.ensures.value c.as_slice.ensures c.in_ok-write_pairs.ensures in
     record {
       pairs = pairs;

@@ -10,5 +10,6 @@ returns-clause-ok c =
     let at = subst (StandsAt c.args.known.now.derived c.in-Some.second) c.slot_in.ensures.slot c.in-Some.ensures.some in
     on_ok_weaker _
     (λ added. one_ahead _ _ _ _ _ _ c.requires.other at
-    (subst (λ (s : ℕ). IsAdded c.args.known.now.derived s (Joined c.args.place c.in-Some.second) c.add.new.self.derived) c.slot_in-2.ensures.slot added))
+    (subst (λ (s : ℕ). IsAdded c.args.known.now.derived s (Joined c.args.place c.in-Some.second)
+    c.add.new.self.derived) c.slot_in-2.ensures.slot added))
     c.add.ensures.ok

@@ -6,7 +6,8 @@ abbrev pub invariant-loop-at : goal.invariant-loop-at
 invariant-loop-at l = record {
   cells : l.known.cells ≡ l.fn.known.cells;
   within : l.at ≤ length l.uses.uses.items;
-  walked : IsWalked l.clauses.premises l.clauses.conclusions.items l.uses.uses.items (slice_index l.uses.lasts.items l.slot) l.at l.fn.known.derived
+  walked : IsWalked l.clauses.premises l.clauses.conclusions.items l.uses.uses.items
+      (slice_index l.uses.lasts.items l.slot) l.at l.fn.known.derived
       l.known.derived;
 }
 

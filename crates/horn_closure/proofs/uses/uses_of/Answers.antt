@@ -10,5 +10,6 @@ loop-clause-preserved c = record {
 
 pub returns-clause-uses : goal.returns-clause-uses
 returns-clause-uses c =
-    let all : length c.args.clauses.now.premises ≤ c.loop-clause.clause = omega (arith, c.len-clause-end.ensures, c.loop-clause-test.false) in
+    let all : length c.args.clauses.now.premises ≤ c.loop-clause.clause =
+    omega (arith, c.len-clause-end.ensures, c.loop-clause-test.false) in
     uses_all _ _ _ _ all c.loop-clause.invariant.uses

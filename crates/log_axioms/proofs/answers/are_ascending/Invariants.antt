@@ -6,4 +6,5 @@ use Rattle.log_axioms.proofs.answers.are_ascending.Given as goal
 abbrev pub invariant-loop-place : goal.invariant-loop-place
 invariant-loop-place l =
     (1 ≤ l.place)
-    × ((k : ℕ) (a b : List Value) → k + 1 < l.place → slice_get l.tuples k ≡ Some a → slice_get l.tuples (k + 1) ≡ Some b → IsBelow a b)
+    × ((k : ℕ) (a b : List Value) → k + 1 < l.place → slice_get l.tuples k ≡ Some a → slice_get l.tuples (k + 1) ≡
+    Some b → IsBelow a b)

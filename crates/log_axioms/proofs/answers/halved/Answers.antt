@@ -13,7 +13,8 @@ pub returns-then-is_eq : goal.returns-then-is_eq
 returns-then-is_eq c =
     let tuples = c.args.tuples.now in
     let tuple = c.args.tuple.now in
-    let cut = IsPartitionPoint-from_clause (λ y. is_lt (slice_cmp value_cmp y tuple)) tuples c.partition_point-place.result c.partition_point-place.ensures.partitioned
+    let cut = IsPartitionPoint-from_clause (λ y. is_lt (slice_cmp value_cmp y tuple)) tuples
+    c.partition_point-place.result c.partition_point-place.ensures.partitioned
     (lesser_first c.laws_of_tuple_order.ensures.total tuples tuple c.requires) (λ a r q k. search rules) in
     let same : is_tuple c.in-Some.found.now tuple ≡ true = search rules in
     let at : slice_get tuples c.partition_point-place.result ≡ Some c.in-Some.found.now = sym c.in-Some.ensures in
@@ -23,7 +24,8 @@ pub returns-else-is_eq : goal.returns-else-is_eq
 returns-else-is_eq c =
     let tuples = c.args.tuples.now in
     let tuple = c.args.tuple.now in
-    let cut = IsPartitionPoint-from_clause (λ y. is_lt (slice_cmp value_cmp y tuple)) tuples c.partition_point-place.result c.partition_point-place.ensures.partitioned
+    let cut = IsPartitionPoint-from_clause (λ y. is_lt (slice_cmp value_cmp y tuple)) tuples
+    c.partition_point-place.result c.partition_point-place.ensures.partitioned
     (lesser_first c.laws_of_tuple_order.ensures.total tuples tuple c.requires) (λ a r q k. search rules) in
     let other : is_tuple c.in-Some.found.now tuple ≡ false = search rules in
     let at : slice_get tuples c.partition_point-place.result ≡ Some c.in-Some.found.now = sym c.in-Some.ensures in
@@ -34,7 +36,8 @@ pub returns-in-None : goal.returns-in-None
 returns-in-None c =
     let tuples = c.args.tuples.now in
     let tuple = c.args.tuple.now in
-    let cut = IsPartitionPoint-from_clause (λ y. is_lt (slice_cmp value_cmp y tuple)) tuples c.partition_point-place.result c.partition_point-place.ensures.partitioned
+    let cut = IsPartitionPoint-from_clause (λ y. is_lt (slice_cmp value_cmp y tuple)) tuples
+    c.partition_point-place.result c.partition_point-place.ensures.partitioned
     (lesser_first c.laws_of_tuple_order.ensures.total tuples tuple c.requires) (λ a r q k. search rules) in
     let none : slice_get tuples c.partition_point-place.result ≡ None = sym c.in-None.ensures in
     nowhere_by_cut tuples tuple c.partition_point-place.result c.laws_of_tuple_order.ensures.equal c.requires cut

@@ -11,7 +11,8 @@ returns-then-is_eq c =
     let place = c.loop-place.place in
     let x = c.index-tuples-place.result in
     let same : is_tuple x tuple ≡ true = search rules in
-    is_first tuples tuple x place (slice_get-get_or tuples place x c.loop-place-test.true ∙ ap Some (sym c.index-tuples-place.is)) same c.loop-place.invariant
+    is_first tuples tuple x place (slice_get-get_or tuples place x c.loop-place-test.true
+    ∙ ap Some (sym c.index-tuples-place.is)) same c.loop-place.invariant
 
 pub loop-place-preserved : goal.loop-place-preserved
 loop-place-preserved c =
@@ -20,7 +21,8 @@ loop-place-preserved c =
     let place = c.loop-place.place in
     let x = c.index-tuples-place.result in
     let other : is_tuple x tuple ≡ false = search rules in
-    scanned_more tuples tuple x place (slice_get-get_or tuples place x c.loop-place-test.true ∙ ap Some (sym c.index-tuples-place.is)) other
+    scanned_more tuples tuple x place (slice_get-get_or tuples place x c.loop-place-test.true
+    ∙ ap Some (sym c.index-tuples-place.is)) other
     c.loop-place.invariant
 
 pub returns : goal.returns

@@ -4,5 +4,6 @@ use Rattle.log_axioms.proofs.matches.match_claims.Given as goal
 
 abbrev pub invariant-loop-place : goal.invariant-loop-place
 invariant-loop-place l =
-    option_map (λ rest. l.premises ++ rest) (match_claims l.spec.relations l.values (drop l.place l.atoms) (drop l.place l.entities))
+    option_map (λ rest. l.premises ++ rest) (match_claims l.spec.relations l.values (drop l.place l.atoms)
+    (drop l.place l.entities))
     ≡ match_claims l.spec.relations l.values l.atoms l.entities

@@ -5,4 +5,5 @@ use Rattle.log_checker.proofs.numbered.are_numbered.Given as goal
 
 abbrev pub invariant-loop-place : goal.invariant-loop-place
 invariant-loop-place l =
-    list_all (is_numbered_step (length l.log.statements)) (drop l.place l.log.steps) ≡ list_all (is_numbered_step (length l.log.statements)) l.log.steps
+    list_all (is_numbered_step (length l.log.statements)) (drop l.place l.log.steps) ≡ list_all
+    (is_numbered_step (length l.log.statements)) l.log.steps

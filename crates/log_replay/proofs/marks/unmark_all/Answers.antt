@@ -17,7 +17,8 @@ loop-lit-preserved c =
     c.loop-lit-test.true c.index.ensures in
     record {
       among =
-          unmark_more c.loop-lit.marked.items c.args.lits.now c.loop-lit.lit-index _ c.index.result c.loop-lit-test.true c.index.ensures
+          unmark_more c.loop-lit.marked.items c.args.lits.now c.loop-lit.lit-index _ c.index.result
+          c.loop-lit-test.true c.index.ensures
           (omega (arith, c.loop-lit.invariant.count)) c.loop-lit.invariant.among;
       count = length-set c.loop-lit.marked.items c.index.result false ∙ c.loop-lit.invariant.count;
     }

@@ -7,7 +7,8 @@ pub loop-place-preserved : goal.loop-place-preserved
 loop-place-preserved c =
     let last : c.in-Some.last + 1 ≡ length c.args.hints.now = omega (arith, c.in-Some.ensures) in
     let within : c.loop-place.place < length c.args.hints.now = omega (arith, last, c.loop-place-test.true) in
-    reached_more c.args.clauses.now c.args.lits.now c.args.hints.now c.loop-place.place _ c.loop-place.falses c.use_hint.new.falses
+    reached_more c.args.clauses.now c.args.lits.now c.args.hints.now c.loop-place.place _ c.loop-place.falses
+    c.use_hint.new.falses
     c.loop-place.invariant (slice_get-get_or c.args.hints.now c.loop-place.place 0 within) c.in_ok-use_hint.ensures.used
 
 pub returns-in-None-clause-refused : goal.returns-in-None-clause-refused
@@ -31,6 +32,7 @@ returns-in_default-state c =
       follows = tt;
       refused = inr (inr (no_conflict_here c.args.clauses.now c.args.lits.now c.args.hints.now c.loop-place.place c.in-Some.last
           c.loop-place.falses c.in-Some-hint_state.state
-          (omega (arith, c.loop-place-test.false, c.loop-place.auto.place-end)) c.loop-place.invariant last c.in_default-state.not-Falsified
+          (omega (arith, c.loop-place-test.false, c.loop-place.auto.place-end)) c.loop-place.invariant last
+          c.in_default-state.not-Falsified
           c.in-Some-hint_state.ensures));
     }

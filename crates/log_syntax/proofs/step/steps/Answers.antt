@@ -9,4 +9,5 @@ pub returns : goal.returns
 unfolding steps_at
 returns c =
     begun (λ x. (x.0, map lexeme_of x.1.now)) c.gather.result stepped begins_step ended_step_at
-    _ no_step_said (map lexeme_of c.args.tokens.now) 4294967294 (same_steps c.new.result [] c.new-2.result [] c.new.ensures c.new-2.ensures) c.gather.ensures
+    _ no_step_said (map lexeme_of c.args.tokens.now) 4294967294
+    (same_steps c.new.result [] c.new-2.result [] c.new.ensures c.new-2.ensures) c.gather.ensures

@@ -8,7 +8,9 @@ returns c told =
     let log = c.args.log.now in
     are_in_place log c.args.goals.now
     (subst (λ (n : ℕ). All (λ goal. goal < n) c.args.goals.now) c.len.ensures (c.are_below.ensures c.if-not-are_below.false))
-    (subst (λ (n : ℕ). AreStepsInPlace n (length log.steps) log.steps) c.len-2.ensures (c.are_steps_in_place.ensures c.if-not-are_steps_in_place.false))
-    (subst (λ (n : ℕ). AreStatementsInPlace n (length log.statements) log.statements) c.len-3.ensures (c.are_statements_in_place.ensures told))
+    (subst (λ (n : ℕ). AreStepsInPlace n (length log.steps) log.steps) c.len-2.ensures
+    (c.are_steps_in_place.ensures c.if-not-are_steps_in_place.false))
+    (subst (λ (n : ℕ). AreStatementsInPlace n (length log.statements) log.statements) c.len-3.ensures
+    (c.are_statements_in_place.ensures told))
     (c.are_few.ensures.steps c.if-not-are_few.false) (c.are_few.ensures.statements c.if-not-are_few.false)
     (c.are_few.ensures.answers c.if-not-are_few.false)

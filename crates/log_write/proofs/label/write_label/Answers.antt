@@ -11,5 +11,6 @@ returns-in_ok-word-in-Transitive c =
     let written = subst (λ (w : Writing). OnOk c.write_triple.result (c.write_triple.new.into
     ≡ writes_all w (triple_pieces parts.rel parts.attr parts.first parts.second parts.third)))
     c.in_ok-word-in-Transitive.ensures c.write_triple.ensures in
-    subst (λ (l : LabelRef). OnOk c.write_triple.result (c.write_triple.new.into ≡ writes_all c.args.into.now (label_pieces (label_of l))))
+    subst (λ (l : LabelRef). OnOk c.write_triple.result (c.write_triple.new.into ≡ writes_all c.args.into.now
+    (label_pieces (label_of l))))
     (sym parts.is) written

@@ -5,4 +5,5 @@ use Rattle.log_write.proofs.many.write_many.Given as goal
 
 abbrev pub invariant-loop-item : goal.invariant-loop-item
 invariant-loop-item g l =
-    writes_all l.into (many_pieces g.W.Written.pieces (drop l.item-index l.items)) ≡ writes_all l.initial.into (many_pieces g.W.Written.pieces l.items)
+    writes_all l.into (many_pieces g.W.Written.pieces (drop l.item-index l.items)) ≡ writes_all l.initial.into
+    (many_pieces g.W.Written.pieces l.items)

@@ -5,4 +5,5 @@ use Rattle.log_write.proofs.step.write_steps.Goals as goal
 
 pub loop-place-preserved : goal.loop-place-preserved
 loop-place-preserved c =
-    step_more ended_step_pieces c.args.steps.now c.loop-place.place _ _ _ c.get.ensures c.in_ok-write_ended_step.ensures ∙ c.loop-place.invariant
+    step_more ended_step_pieces c.args.steps.now c.loop-place.place _ _ _ c.get.ensures
+    c.in_ok-write_ended_step.ensures ∙ c.loop-place.invariant

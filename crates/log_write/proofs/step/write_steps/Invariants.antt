@@ -5,4 +5,5 @@ use Rattle.log_write.proofs.step.write_steps.Given as goal
 
 abbrev pub invariant-loop-place : goal.invariant-loop-place
 invariant-loop-place l =
-    writes_all l.into (many_pieces ended_step_pieces (drop l.place l.steps)) ≡ writes_all l.initial.into (many_pieces ended_step_pieces l.steps)
+    writes_all l.into (many_pieces ended_step_pieces (drop l.place l.steps)) ≡ writes_all l.initial.into
+    (many_pieces ended_step_pieces l.steps)

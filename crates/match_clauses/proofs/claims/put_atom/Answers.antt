@@ -11,10 +11,13 @@ returns-in-len1-up c =
     let relations = c.args.source.spec.now.relations in
     let completion = c.args.source.completion.now in
     let terms = c.as_slice.result.now in
-    let said : OnOk c.put_terms.result (Puts (statements_of c.args.source.numbering.now) (terms_said relations completion c.args.atom.now.relation c.args.ent 0 (drop 1 terms))
+    let said : OnOk c.put_terms.result (Puts (statements_of c.args.source.numbering.now)
+    (terms_said relations completion c.args.atom.now.relation c.args.ent 0 (drop 1 terms))
     c.args.lits.now c.put_terms.new.lits) =
     subst (λ (xs : List Term). OnOk c.put_terms.result (Puts (statements_of c.args.source.numbering.now)
-    (terms_said relations completion c.args.atom.now.relation c.args.ent 0 xs) c.args.lits.now c.put_terms.new.lits)) (all_but_first terms)
+    (terms_said relations completion c.args.atom.now.relation c.args.ent 0 xs) c.args.lits.now c.put_terms.new.lits))
+    (all_but_first terms)
     c.put_terms.ensures in
     subst (λ (xs : List Term). OnOk c.put_terms.result (Puts (statements_of c.args.source.numbering.now)
-    (terms_said relations completion c.args.atom.now.relation c.args.ent 0 (drop 1 xs)) c.args.lits.now c.put_terms.new.lits)) c.as_slice.ensures said
+    (terms_said relations completion c.args.atom.now.relation c.args.ent 0 (drop 1 xs)) c.args.lits.now
+    c.put_terms.new.lits)) c.as_slice.ensures said

@@ -13,13 +13,17 @@ loop-place-preserved c =
     let entities = c.args.entities.now in
     let place = c.loop-place.place in
     let atom = c.index-atoms-place.result in
-    let at : slice_get atoms place ≡ Some atom = slice_get-get_or atoms place atom c.loop-place-test.true ∙ ap Some (sym c.index-atoms-place.is) in
-    let below : place < length entities = let e = c.requires.atoms.per_atom in let b = c.loop-place-test.true in omega (arith, e, b) in
+    let at : slice_get atoms place ≡ Some atom = slice_get-get_or atoms place atom c.loop-place-test.true
+    ∙ ap Some (sym c.index-atoms-place.is) in
+    let below : place < length entities = let e = c.requires.atoms.per_atom in let b =
+    c.loop-place-test.true in omega (arith, e, b) in
     so_far_more (statements_of c.args.source.numbering.now) (atoms_said relations completion atoms entities)
     (atoms_said relations completion (drop place atoms) (drop place entities))
     (atom_said relations completion atom _)
-    (atoms_said relations completion (drop (place + 1) atoms) (drop (place + 1) entities)) c.args.lits.now c.loop-place.lits c.put_atom.new.lits
-    (atoms_left relations completion atoms entities place atom _ at (slice_get-get_or entities place _ below)) c.loop-place.invariant c.in-Ok.ensures
+    (atoms_said relations completion (drop (place + 1) atoms) (drop (place + 1) entities)) c.args.lits.now
+    c.loop-place.lits c.put_atom.new.lits
+    (atoms_left relations completion atoms entities place atom _ at (slice_get-get_or entities place _ below))
+    c.loop-place.invariant c.in-Ok.ensures
 
 pub returns : goal.returns
 returns c =

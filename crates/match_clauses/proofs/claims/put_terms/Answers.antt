@@ -12,11 +12,13 @@ loop-place-preserved c =
     let terms = c.args.terms.now in
     let place = c.loop-place.place in
     let t = c.index-terms-place.result in
-    let at : slice_get terms place ≡ Some t = slice_get-get_or terms place t c.loop-place-test.true ∙ ap Some (sym c.index-terms-place.is) in
+    let at : slice_get terms place ≡ Some t = slice_get-get_or terms place t c.loop-place-test.true
+    ∙ ap Some (sym c.index-terms-place.is) in
     so_far_more (statements_of c.args.source.numbering.now) (terms_said relations completion c.args.rel c.args.ent 0 terms)
     (terms_said relations completion c.args.rel c.args.ent place (drop place terms))
     (term_said relations completion c.args.rel c.args.ent (record { 0 = place }) t)
-    (terms_said relations completion c.args.rel c.args.ent (place + 1) (drop (place + 1) terms)) c.args.lits.now c.loop-place.lits c.put_term.new.lits
+    (terms_said relations completion c.args.rel c.args.ent (place + 1) (drop (place + 1) terms)) c.args.lits.now
+    c.loop-place.lits c.put_term.new.lits
     (terms_left relations completion c.args.rel c.args.ent terms place t at) c.loop-place.invariant c.in-Ok.ensures
 
 pub returns : goal.returns

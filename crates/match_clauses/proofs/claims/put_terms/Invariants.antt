@@ -6,5 +6,7 @@ use Rattle.match_clauses.proofs.claims.put_terms.Given as goal
 
 abbrev pub invariant-loop-place : goal.invariant-loop-place
 invariant-loop-place l =
-    IsSoFar (statements_of l.source.numbering.now) (terms_said l.source.spec.now.relations l.source.completion.now l.rel l.ent 0 l.terms)
-    (terms_said l.source.spec.now.relations l.source.completion.now l.rel l.ent l.place (drop l.place l.terms)) l.initial.lits l.lits
+    IsSoFar (statements_of l.source.numbering.now) (terms_said l.source.spec.now.relations l.source.completion.now
+    l.rel l.ent 0 l.terms)
+    (terms_said l.source.spec.now.relations l.source.completion.now l.rel l.ent l.place (drop l.place l.terms))
+    l.initial.lits l.lits

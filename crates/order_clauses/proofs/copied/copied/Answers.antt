@@ -19,8 +19,10 @@ pub loop-k-preserved : goal.loop-k-preserved
 loop-k-preserved c =
     let s = c.args.sayings.now in
     below_more s (copy_at s.spec c.args.grounds.now) c.loop-k.k _ _ _ c.loop-k.invariant
-    (copy_at_is s c.args.grounds.now (record { 0 = c.loop-k.k }) c.as_slice-pairs.result.now _ _ (c.get.ensures ∙ ap Some (sym c.as_slice-pairs.ensures)) c.in_ok-copied_by.ensures)
+    (copy_at_is s c.args.grounds.now (record { 0 = c.loop-k.k }) c.as_slice-pairs.result.now _ _
+    (c.get.ensures ∙ ap Some (sym c.as_slice-pairs.ensures)) c.in_ok-copied_by.ensures)
 
 pub returns : goal.returns
 unfolding copy_labels
-returns c = below_all c.args.sayings.now (copy_at c.args.sayings.now.spec c.args.grounds.now) c.loop-k.k _ _ _ (omega arith) c.loop-k.invariant
+returns c = below_all c.args.sayings.now (copy_at c.args.sayings.now.spec c.args.grounds.now) c.loop-k.k _ _ _
+    (omega arith) c.loop-k.invariant

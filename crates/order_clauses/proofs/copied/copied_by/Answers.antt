@@ -7,4 +7,5 @@ loop-place-init c = below_none c.args.sayings.now (copy_place c.args.copy c.args
 
 pub loop-place-preserved : goal.loop-place-preserved
 loop-place-preserved c =
-    below_more c.args.sayings.now (copy_place c.args.copy c.args.pairs.now) c.loop-place.place _ _ _ c.loop-place.invariant c.in_ok-copied_at.ensures
+    below_more c.args.sayings.now (copy_place c.args.copy c.args.pairs.now) c.loop-place.place _ _ _
+    c.loop-place.invariant c.in_ok-copied_at.ensures

@@ -54,9 +54,12 @@ push_axiom-requires c =
     ap (λ places. slice_get places c.args.place) (sym c.places.ensures.value) ∙ c.get-at.ensures in
     let first : source_at copy c.args.pair.first ≡ Some c.in-Some.first = cc in
     let second : source_at copy c.args.pair.second ≡ Some c.in-Some-source_of.second = cc in
-    let supposed = subst (λ (rel : RelId). Says (told s) c.not_before-supposed.result (not_before rel at.source c.in-Some.first c.in-Some-source_of.second)) c.source.ensures
+    let supposed = subst (λ (rel : RelId). Says (told s) c.not_before-supposed.result
+    (not_before rel at.source c.in-Some.first c.in-Some-source_of.second)) c.source.ensures
     c.not_before-supposed.ensures in
-    let concluded = subst (λ (rel : RelId). Says (told s) c.before-concluded.result (before rel at.target c.args.pair.first c.args.pair.second)) c.target.ensures
+    let concluded = subst (λ (rel : RelId). Says (told s) c.before-concluded.result
+    (before rel at.target c.args.pair.first c.args.pair.second)) c.target.ensures
     c.before-concluded.ensures in
-    copy_clause s c.args.copy c.args.place c.args.pair copy at c.in-Some.first c.in-Some-source_of.second c.not_before-supposed.result c.before-concluded.result
+    copy_clause s c.args.copy c.args.place c.args.pair copy at c.in-Some.first c.in-Some-source_of.second
+    c.not_before-supposed.result c.before-concluded.result
     c.requires.pair c.copy-map.ensures place first second supposed concluded

@@ -14,13 +14,15 @@ loop-rel-init c = record {
 
 pub loop-rel-preserved : goal.loop-rel-preserved
 loop-rel-preserved c = record {
-  adds = below_more c.args.sayings.now (given_at c.args.sayings.now.spec) c.loop-rel.rel _ _ _ c.loop-rel.invariant.adds c.in_ok-given_in.ensures.adds;
+  adds = below_more c.args.sayings.now (given_at c.args.sayings.now.spec) c.loop-rel.rel _ _ _
+      c.loop-rel.invariant.adds c.in_ok-given_in.ensures.adds;
   once = once_given_more c.args.sayings.now.spec c.loop-rel.rel c.loop-rel.invariant.once c.in_ok-given_in.ensures.once;
 }
 
 pub returns-clause-adds : goal.returns-clause-adds
 unfolding given_labels
-returns-clause-adds c = below_all c.args.sayings.now (given_at c.args.sayings.now.spec) c.loop-rel.rel _ _ _ (omega arith) c.loop-rel.invariant.adds
+returns-clause-adds c = below_all c.args.sayings.now (given_at c.args.sayings.now.spec) c.loop-rel.rel _ _ _
+    (omega arith) c.loop-rel.invariant.adds
 
 pub returns-clause-once : goal.returns-clause-once
 unfolding given_labels

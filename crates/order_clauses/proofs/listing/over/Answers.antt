@@ -8,4 +8,5 @@ use Rattle.order_clauses.proofs.listing.over.Goals as goal
 pub returns : goal.returns
 unfolding told
 returns c =
-    subst (λ (n : Numbers). IfOk c.listed.result (AreAxioms c.args.spec.now c.args.wanted.now.currents (statements_of n))) (sym c.requires.numbering) c.listed.ensures
+    subst (λ (n : Numbers). IfOk c.listed.result (AreAxioms c.args.spec.now c.args.wanted.now.currents
+    (statements_of n))) (sym c.requires.numbering) c.listed.ensures

@@ -5,6 +5,7 @@ use Rattle.order_clauses.proofs.pushing.push_distinct.Goals as goal
 
 pub returns : goal.returns
 returns c = on_ok_weaker c.push.result
-    (adds_clause c.args.sayings.now (label_of c.args.label) c.args.lits.now c.args.lits.now c.args.steps.now c.push.new.self c.requires.clause
+    (adds_clause c.args.sayings.now (label_of c.args.label) c.args.lits.now c.args.lits.now c.args.steps.now
+    c.push.new.self c.requires.clause
     (distinct_of_once c.args.lits.now c.requires.once))
     c.push.ensures.ok

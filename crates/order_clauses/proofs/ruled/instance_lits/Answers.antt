@@ -11,8 +11,10 @@ use Rattle.order_clauses.proofs.ruled.instance_lits.Goals as goal
 
 pub loop-pair-preserved : goal.loop-pair-preserved
 loop-pair-preserved c =
-    say_premise (told c.args.sayings.now) c.args.rel c.as_slice-pair-items.result.now c.loop-pair.pair-index _ c.loop-pair.lits.items c.put.new.lits.items c.not_before.result
-    (slice_get-get_or c.as_slice-pair-items.result.now c.loop-pair.pair-index _ c.loop-pair-test.true) c.loop-pair.invariant c.not_before.ensures c.in_ok-put.ensures
+    say_premise (told c.args.sayings.now) c.args.rel c.as_slice-pair-items.result.now c.loop-pair.pair-index _
+    c.loop-pair.lits.items c.put.new.lits.items c.not_before.result
+    (slice_get-get_or c.as_slice-pair-items.result.now c.loop-pair.pair-index _ c.loop-pair-test.true)
+    c.loop-pair.invariant c.not_before.ensures c.in_ok-put.ensures
 
 pub returns-in-Some : goal.returns-in-Some
 returns-in-Some c =
@@ -21,6 +23,7 @@ returns-in-Some c =
     take_all c.loop-pair.pair-index c.as_slice-pair-items.result.now c.loop-pair-test.false ∙ cc in
     let say = subst (λ ps. Say (told c.args.sayings.now) c.loop-pair.lits.items (map said ps)) all c.loop-pair.invariant in
     on_ok_weaker c.put-in-Some.result
-    (say_conclusion (told c.args.sayings.now) c.args.rel c.args.instance.now c.in-Some.pair c.loop-pair.lits.items c.put-in-Some.new.lits.items c.before-in-Some.result
+    (say_conclusion (told c.args.sayings.now) c.args.rel c.args.instance.now c.in-Some.pair c.loop-pair.lits.items
+    c.put-in-Some.new.lits.items c.before-in-Some.result
     c.in-Some.is say c.before-in-Some.ensures)
     c.put-in-Some.ensures

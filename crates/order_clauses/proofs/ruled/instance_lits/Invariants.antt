@@ -5,4 +5,5 @@ use Rattle.order_clauses.specs.Subject.{told}
 use Rattle.order_clauses.proofs.ruled.instance_lits.Given as goal
 
 abbrev pub invariant-loop-pair : goal.invariant-loop-pair
-invariant-loop-pair l = Say (told l.sayings) l.lits.items (map (λ p. not_before l.rel p.attr p.earlier p.later) (take l.pair-index l.pair-items))
+invariant-loop-pair l = Say (told l.sayings) l.lits.items (map (λ p. not_before l.rel p.attr p.earlier p.later)
+    (take l.pair-index l.pair-items))

@@ -12,7 +12,8 @@ pub ruled_by-requires-clause-grounds : goal.ruled_by-requires-clause-grounds
 ruled_by-requires-clause-grounds c =
     let s = c.args.sayings.now.spec in
     let rule = item_at s.rules c.loop-k.k (omega arith) in
-    all_grounds s c.args.grounds.now c.loop-k.k rule.0 c.get.result.now c.rules-k-end.ensures.facts c.requires rule.1 c.get.ensures
+    all_grounds s c.args.grounds.now c.loop-k.k rule.0 c.get.result.now c.rules-k-end.ensures.facts c.requires rule.1
+    c.get.ensures
 
 pub loop-k-preserved : goal.loop-k-preserved
 loop-k-preserved c =
@@ -22,4 +23,5 @@ loop-k-preserved c =
 
 pub returns : goal.returns
 unfolding rule_labels
-returns c = below_all c.args.sayings.now (rule_at c.args.grounds.now) c.loop-k.k _ _ _ (omega (arith, c.requires.per_rule)) c.loop-k.invariant
+returns c = below_all c.args.sayings.now (rule_at c.args.grounds.now) c.loop-k.k _ _ _
+    (omega (arith, c.requires.per_rule)) c.loop-k.invariant

@@ -9,9 +9,11 @@ loop-third-init c =
 
 pub loop-third-preserved : goal.loop-third-preserved
 loop-third-preserved c =
-    below_more c.args.column.now.subject (third_labels c.args.column.now c.args.members.now) c.loop-third.third _ _ _ c.loop-third.invariant c.in_ok-with_third.ensures
+    below_more c.args.column.now.subject (third_labels c.args.column.now c.args.members.now) c.loop-third.third _ _ _
+    c.loop-third.invariant c.in_ok-with_third.ensures
 
 pub returns : goal.returns
 unfolding three_labels
 returns c =
-    below_all c.args.column.now.subject (third_labels c.args.column.now c.args.members.now) c.loop-third.third _ _ _ (omega arith) c.loop-third.invariant
+    below_all c.args.column.now.subject (third_labels c.args.column.now c.args.members.now) c.loop-third.third _ _ _
+    (omega arith) c.loop-third.invariant

@@ -8,5 +8,6 @@ use Rattle.order_clauses.proofs.three_rows.over.Goals as goal
 pub returns : goal.returns
 unfolding told
 returns c =
-    subst (λ (n : Numbers). IfOk c.of_attribute.result (AreTransitive c.args.spec.now (statements_of n) c.args.rel c.args.attr c.args.ent.0)) (sym c.requires.numbering)
+    subst (λ (n : Numbers). IfOk c.of_attribute.result (AreTransitive c.args.spec.now (statements_of n) c.args.rel
+    c.args.attr c.args.ent.0)) (sym c.requires.numbering)
     c.of_attribute.ensures

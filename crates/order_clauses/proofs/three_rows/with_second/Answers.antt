@@ -6,7 +6,8 @@ use Rattle.order_clauses.proofs.three_rows.with_second.Goals as goal
 
 pub loop-first-init : goal.loop-first-init
 loop-first-init c =
-    below_none c.args.column.now.subject (first_labels c.args.column.now c.args.members.now c.args.third c.args.second) c.args.steps.now
+    below_none c.args.column.now.subject (first_labels c.args.column.now c.args.members.now c.args.third
+    c.args.second) c.args.steps.now
 
 pub both_ways-requires : goal.both_ways-requires
 both_ways-requires c =
@@ -16,7 +17,8 @@ both_ways-requires c =
 pub loop-first-preserved : goal.loop-first-preserved
 loop-first-preserved c =
     let p = c.args.column.now in
-    below_more p.subject (first_labels p c.args.members.now c.args.third c.args.second) c.loop-first.first _ _ _ c.loop-first.invariant
+    below_more p.subject (first_labels p c.args.members.now c.args.third c.args.second) c.loop-first.first _ _ _
+    c.loop-first.invariant
     (first_added p c.args.members.now c.loop-first.first c.args.second c.args.third _ _ c.loop-first-test.true
     c.requires.second c.requires.third c.in_ok-both_ways.ensures)
 

@@ -9,9 +9,11 @@ loop-second-init c =
 
 pub loop-second-preserved : goal.loop-second-preserved
 loop-second-preserved c =
-    below_more c.args.column.now.subject (second_labels c.args.column.now c.args.members.now c.args.third) c.loop-second.second _ _ _ c.loop-second.invariant c.in_ok-with_second.ensures
+    below_more c.args.column.now.subject (second_labels c.args.column.now c.args.members.now c.args.third)
+    c.loop-second.second _ _ _ c.loop-second.invariant c.in_ok-with_second.ensures
 
 pub returns : goal.returns
 unfolding third_labels
 returns c =
-    below_all c.args.column.now.subject (second_labels c.args.column.now c.args.members.now c.args.third) c.loop-second.second _ _ _ (omega arith) c.loop-second.invariant
+    below_all c.args.column.now.subject (second_labels c.args.column.now c.args.members.now c.args.third)
+    c.loop-second.second _ _ _ (omega arith) c.loop-second.invariant

@@ -5,4 +5,5 @@ use Rattle.order_clauses.specs.Listing.{above_label}
 use Rattle.order_clauses.proofs.wanted.above.Given as goal
 
 abbrev pub invariant-loop-other : goal.invariant-loop-other
-invariant-loop-other l = Adds l.column.subject (flat_map (above_label l.column l.row) (take l.other-index l.other-items)) l.initial.steps l.steps
+invariant-loop-other l = Adds l.column.subject
+    (flat_map (above_label l.column l.row) (take l.other-index l.other-items)) l.initial.steps l.steps

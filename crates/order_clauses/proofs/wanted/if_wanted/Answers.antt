@@ -12,5 +12,6 @@ returns-then-not-is_wanted c =
 pub returns : goal.returns
 returns c =
     on_ok_weaker c.of_relation.result
-    (wanted_some c.args.sayings.now c.args.rel c.relation.result.now c.args.steps.now c.of_relation.new.steps c.relation.ensures.value (sym c.is_wanted.ensures ∙ c.if-not-is_wanted.false))
+    (wanted_some c.args.sayings.now c.args.rel c.relation.result.now c.args.steps.now c.of_relation.new.steps
+    c.relation.ensures.value (sym c.is_wanted.ensures ∙ c.if-not-is_wanted.false))
     c.of_relation.ensures

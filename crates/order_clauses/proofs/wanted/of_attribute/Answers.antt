@@ -9,7 +9,8 @@ loop-ent-init c =
 
 pub loop-ent-preserved : goal.loop-ent-preserved
 loop-ent-preserved c =
-    below_more c.args.column.now.subject (entity_labels c.args.column.now) c.loop-ent.ent _ _ _ c.loop-ent.invariant c.in_ok-of_entity.ensures
+    below_more c.args.column.now.subject (entity_labels c.args.column.now) c.loop-ent.ent _ _ _ c.loop-ent.invariant
+    c.in_ok-of_entity.ensures
 
 pub returns : goal.returns
 unfolding attr_labels

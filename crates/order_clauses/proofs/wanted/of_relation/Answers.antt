@@ -9,9 +9,11 @@ loop-attr-init c =
 
 pub loop-attr-preserved : goal.loop-attr-preserved
 loop-attr-preserved c =
-    below_more c.args.sayings.now (attr_labels c.args.sayings.now c.args.relation.now c.args.rel) c.loop-attr.attr _ _ _ c.loop-attr.invariant c.in_ok-of_attribute.ensures
+    below_more c.args.sayings.now (attr_labels c.args.sayings.now c.args.relation.now c.args.rel) c.loop-attr.attr _
+    _ _ c.loop-attr.invariant c.in_ok-of_attribute.ensures
 
 pub returns : goal.returns
 unfolding relation_labels
 returns c =
-    below_all c.args.sayings.now (attr_labels c.args.sayings.now c.args.relation.now c.args.rel) c.loop-attr.attr _ _ _ (omega arith) c.loop-attr.invariant
+    below_all c.args.sayings.now (attr_labels c.args.sayings.now c.args.relation.now c.args.rel) c.loop-attr.attr _ _
+    _ (omega arith) c.loop-attr.invariant

@@ -5,5 +5,6 @@ use Rattle.order_clauses.proofs.wanted.of_row.Goals as goal
 pub returns : goal.returns
 returns c =
     on_ok_weaker c.push_value.result
-    (row_all c.args.column.now c.args.ent.0 c.args.row _ _ _ _ _ c.in_ok-above.ensures c.in_ok-push_top.ensures c.in_ok-push_last.ensures)
+    (row_all c.args.column.now c.args.ent.0 c.args.row _ _ _ _ _ c.in_ok-above.ensures c.in_ok-push_top.ensures
+    c.in_ok-push_last.ensures)
     c.push_value.ensures

@@ -12,4 +12,5 @@ last-requires-clause-named c =
 pub push_axiom-requires : goal.push_axiom-requires
 push_axiom-requires c =
     rw (c.sayings.ensures, c.rel.ensures, c.attr.ensures)
-    (last_is_clause c.args.column.now c.args.row c.name.result c.not_top.result c.last.result c.facts.ensures c.requires.row c.name.ensures c.not_top.ensures c.last.ensures)
+    (last_is_clause c.args.column.now c.args.row c.name.result c.not_top.result c.last.result c.facts.ensures
+    c.requires.row c.name.ensures c.not_top.ensures c.last.ensures)

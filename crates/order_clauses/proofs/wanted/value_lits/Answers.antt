@@ -7,18 +7,22 @@ use Rattle.order_clauses.proofs.wanted.value_lits.Goals as goal
 
 pub put_alike-requires : goal.put_alike-requires
 put_alike-requires c =
-    wanted_member c.args.column.now c.args.ent.0 c.loop-other.other-index _ c.members-other-items.result.now c.requires.row.wanted c.members-other-items.ensures c.loop-other-test.true
+    wanted_member c.args.column.now c.args.ent.0 c.loop-other.other-index _ c.members-other-items.result.now
+    c.requires.row.wanted c.members-other-items.ensures c.loop-other-test.true
     (slice_get-get_or c.members-other-items.result.now c.loop-other.other-index _ c.loop-other-test.true)
 
 pub loop-other-preserved : goal.loop-other-preserved
 loop-other-preserved c =
     let p = c.args.column.now in
-    tells_more (told p.subject) (not_last p.rel p.attr c.args.row) (alike_said p c.args.row) c.members-other-items.result.now c.loop-other.other-index _ _ _ _
-    (slice_get-get_or c.members-other-items.result.now c.loop-other.other-index _ c.loop-other-test.true) c.loop-other.invariant c.in_ok-put_alike.ensures
+    tells_more (told p.subject) (not_last p.rel p.attr c.args.row) (alike_said p c.args.row)
+    c.members-other-items.result.now c.loop-other.other-index _ _ _ _
+    (slice_get-get_or c.members-other-items.result.now c.loop-other.other-index _ c.loop-other-test.true)
+    c.loop-other.invariant c.in_ok-put_alike.ensures
 
 pub returns : goal.returns
 unfolding value_clause
 returns c =
     let p = c.args.column.now in
-    tells_all (told p.subject) (not_last p.rel p.attr c.args.row) (alike_said p c.args.row) c.members-other-items.result.now (members_of p.relation c.args.ent.0) c.loop-other.other-index _ _
+    tells_all (told p.subject) (not_last p.rel p.attr c.args.row) (alike_said p c.args.row)
+    c.members-other-items.result.now (members_of p.relation c.args.ent.0) c.loop-other.other-index _ _
     c.loop-other-test.false c.members-other-items.ensures c.loop-other.invariant

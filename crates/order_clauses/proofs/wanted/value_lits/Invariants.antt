@@ -7,4 +7,5 @@ use Rattle.order_clauses.specs.Subject.{told}
 use Rattle.order_clauses.proofs.wanted.value_lits.Given as goal
 
 abbrev pub invariant-loop-other : goal.invariant-loop-other
-invariant-loop-other l = Tells (told l.column.subject) (not_last l.column.rel l.column.attr l.row ∷ [] ++ flat_map (alike_said l.column l.row) (take l.other-index l.other-items)) [] l.lits.items
+invariant-loop-other l = Tells (told l.column.subject) (not_last l.column.rel l.column.attr l.row ∷ []
+    ++ flat_map (alike_said l.column l.row) (take l.other-index l.other-items)) [] l.lits.items

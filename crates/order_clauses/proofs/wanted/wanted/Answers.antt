@@ -9,7 +9,8 @@ loop-rel-init c =
 
 pub loop-rel-preserved : goal.loop-rel-preserved
 loop-rel-preserved c =
-    below_more c.args.sayings.now (wanted_at c.args.sayings.now) c.loop-rel.rel _ _ _ c.loop-rel.invariant c.in_ok-if_wanted.ensures
+    below_more c.args.sayings.now (wanted_at c.args.sayings.now) c.loop-rel.rel _ _ _ c.loop-rel.invariant
+    c.in_ok-if_wanted.ensures
 
 pub returns : goal.returns
 unfolding wanted_labels

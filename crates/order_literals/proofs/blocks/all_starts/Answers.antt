@@ -13,7 +13,8 @@ overflow_cast-total c =
 pub overflow_add-total : goal.overflow_add-total
 overflow_add-total c =
     let n : Numbers = record { tables = c.args.tables.now; answers = c.args.answers } in
-    let next = total_more n c.args.blocks.now c.loop-place.place c.loop-place.total c.block_len-total.result _ (Pairs (record { 0 = 0 }) (record { 0 = 0 }))
+    let next = total_more n c.args.blocks.now c.loop-place.place c.loop-place.total c.block_len-total.result _
+    (Pairs (record { 0 = 0 }) (record { 0 = 0 }))
     c.loop-place-test.true c.loop-place.invariant.total c.block_len-total.ensures refl in
     omega (arith, next.1, c.requires.few)
 
@@ -21,10 +22,12 @@ pub loop-place-preserved : goal.loop-place-preserved
 loop-place-preserved c =
     let n : Numbers = record { tables = c.args.tables.now; answers = c.args.answers } in
     let pushed : c.push.new.self.items ≡ c.loop-place.starts.items ++ c.loop-place.total ∷ [] = search rules in
-    let next = total_more n c.args.blocks.now c.loop-place.place c.loop-place.total c.block_len-total.result _ (Pairs (record { 0 = 0 }) (record { 0 = 0 }))
+    let next = total_more n c.args.blocks.now c.loop-place.place c.loop-place.total c.block_len-total.result _
+    (Pairs (record { 0 = 0 }) (record { 0 = 0 }))
     c.loop-place-test.true c.loop-place.invariant.total c.block_len-total.ensures refl in
     record {
-      items = put_more (statements_before n c.args.blocks.now) c.loop-place.place _ _ _ c.loop-place.invariant.items c.loop-place.invariant.total pushed;
+      items = put_more (statements_before n c.args.blocks.now) c.loop-place.place _ _ _ c.loop-place.invariant.items
+          c.loop-place.invariant.total pushed;
       total = next.0;
     }
 
@@ -33,5 +36,6 @@ returns-in-Ok-push c =
     let n : Numbers = record { tables = c.args.tables.now; answers = c.args.answers } in
     let pushed : c.push-2.new.self.items ≡ c.loop-place.starts.items ++ c.loop-place.total ∷ [] = search rules in
     let all : c.loop-place.place ≡ length c.args.blocks.now = omega arith in
-    let put = put_more (statements_before n c.args.blocks.now) c.loop-place.place _ _ _ c.loop-place.invariant.items c.loop-place.invariant.total pushed in
+    let put = put_more (statements_before n c.args.blocks.now) c.loop-place.place _ _ _ c.loop-place.invariant.items
+    c.loop-place.invariant.total pushed in
     rw all at put

@@ -5,6 +5,7 @@ use Rattle.order_literals.proofs.blocks.all_starts.Given as goal
 
 abbrev pub invariant-loop-place : goal.invariant-loop-place
 invariant-loop-place l = record {
-  items : l.starts.items ≡ map (statements_before (record { tables = l.tables; answers = l.answers }) l.blocks) (range_with_len 0 l.place);
+  items : l.starts.items ≡ map (statements_before (record { tables = l.tables; answers = l.answers }) l.blocks)
+      (range_with_len 0 l.place);
   total : l.total ≡ statements_before (record { tables = l.tables; answers = l.answers }) l.blocks l.place;
 }

@@ -6,7 +6,8 @@ use Rattle.order_literals.proofs.blocks.block_at.Goals as goal
 lies : (c : goal.After-partition_point) → LiesAt c.args.starts.now c.args.var c.partition_point.result
 lies c =
     let key = always_returns_same _ _ _ (λ a r f k. search (rules, of_calls)) in
-    let point = c.partition_point.ensures.partitioned (λ start. nat_le start c.args.var) key (starts_split c.args.starts.now c.args.var c.requires) in
+    let point = c.partition_point.ensures.partitioned (λ start. nat_le start c.args.var) key
+    (starts_split c.args.starts.now c.args.var c.requires) in
     lies_at c.args.starts.now c.args.var c.partition_point.result c.requires c.partition_point.ensures.bound point
 
 pub overflow_sub-result : goal.overflow_sub-result

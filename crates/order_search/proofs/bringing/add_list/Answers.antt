@@ -14,12 +14,14 @@ add_all-requires g c =
 pub returns-in-Ok-clause-added : goal.returns-in-Ok-clause-added
 returns-in-Ok-clause-added g c =
     let cycle = c.args.cycle in
-    has_some c.args.subject.now cycle.rel cycle.attr cycle.ent.0 c.args.solver.now.steps c.in-Ok.axioms c.add_all.new.solver.steps c.add_all.ensures.added
+    has_some c.args.subject.now cycle.rel cycle.attr cycle.ent.0 c.args.solver.now.steps c.in-Ok.axioms
+    c.add_all.new.solver.steps c.add_all.ensures.added
     c.in-Ok.ensures
 
 pub returns-in-Ok-clause-ok : goal.returns-in-Ok-clause-ok
 returns-in-Ok-clause-ok g c =
     let cycle = c.args.cycle in
     on_ok c.add_all.result (λ (is : c.add_all.new.solver.steps ≡ c.args.solver.now.steps ++ c.in-Ok.axioms).
-    have_threes c.args.subject.now cycle.rel cycle.attr cycle.ent.0 c.args.solver.now.steps c.in-Ok.axioms c.add_all.new.solver.steps is c.in-Ok.ensures)
+    have_threes c.args.subject.now cycle.rel cycle.attr cycle.ent.0 c.args.solver.now.steps c.in-Ok.axioms
+    c.add_all.new.solver.steps is c.in-Ok.ensures)
     c.add_all.ensures.ok

@@ -8,5 +8,6 @@ invariant-loop-place g l = record {
   held : IsHeld l.subject l.progress.solver l.progress.brought.items;
   added : HasAdded l.initial.progress.solver l.progress.solver;
   units : counted_steps l.progress.solver.steps ≡ counted_steps l.initial.progress.solver.steps;
-  so_far : AreBroughtIn l.subject l.cycles l.place l.initial.progress.solver.steps l.initial.progress.brought.items l.progress.solver.steps l.progress.brought.items;
+  so_far : AreBroughtIn l.subject l.cycles l.place l.initial.progress.solver.steps l.initial.progress.brought.items
+      l.progress.solver.steps l.progress.brought.items;
 }

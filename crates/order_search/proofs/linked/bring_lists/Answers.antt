@@ -5,7 +5,8 @@ use Rattle.order_search.proofs.linked.bring_lists.Goals as goal
 pub loop-place-preserved : goal.loop-place-preserved
 loop-place-preserved g c = record {
   held = c.bring_list.ensures.held;
-  added = added_then c.args.progress.now.solver c.loop-place.progress.solver c.bring_list.new.progress.solver c.loop-place.invariant.added
+  added = added_then c.args.progress.now.solver c.loop-place.progress.solver c.bring_list.new.progress.solver
+      c.loop-place.invariant.added
       c.bring_list.ensures.added;
   units = c.bring_list.ensures.units ∙ c.loop-place.invariant.units;
 }

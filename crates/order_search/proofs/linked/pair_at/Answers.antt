@@ -4,7 +4,8 @@ use Rattle.order_search.proofs.linked.pair_at.Goals as goal
 
 pub before-requires : goal.before-requires
 before-requires c =
-    pair_read c.args.subject.now c.args.list c.args.rows.now c.requires.rows c.args.first c.args.second (record { 0 = 0 }) c.requires.first c.requires.second
+    pair_read c.args.subject.now c.args.list c.args.rows.now c.requires.rows c.args.first c.args.second
+    (record { 0 = 0 }) c.requires.first c.requires.second
     c.requires.differ
 
 pub returns : goal.returns

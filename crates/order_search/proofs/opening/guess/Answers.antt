@@ -6,5 +6,6 @@ use Rattle.order_search.proofs.opening.guess.Goals as goal
 
 pub start-requires : goal.start-requires
 start-requires g c =
-    ap length c.values.ensures ∙ as_many_values c.trail.result.now ∙ ap (λ (t : Trail). t.vars) c.trail.ensures ∙ c.is_solver.ensures.vars
+    ap length c.values.ensures ∙ as_many_values c.trail.result.now ∙ ap (λ (t : Trail). t.vars) c.trail.ensures
+    ∙ c.is_solver.ensures.vars
     ∙ ap (λ (f : Frame). length f.statements) c.settle.ensures.frame ∙ ap length c.requires

@@ -13,7 +13,8 @@ use Rattle.order_search.proofs.opening.solver_of.Goals as goal
 
 pub new-requires-clause-fit : goal.new-requires-clause-fit
 new-requires-clause-fit c =
-    subst (λ (ss : List Statement). All (λ step. IsFit (length ss) (clause_of step)) c.in-Ok.log.steps) (sym c.in-Ok.ensures.statements)
+    subst (λ (ss : List Statement). All (λ step. IsFit (length ss) (clause_of step)) c.in-Ok.log.steps)
+    (sym c.in-Ok.ensures.statements)
     (clauses_fit c.args.subject.now c.in-Ok.log.steps (asked_axioms c.args.subject.now c.in-Ok.log.steps c.in-Ok.ensures.steps))
 
 pub returns-in-Ok-new-clause-held : goal.returns-in-Ok-new-clause-held

@@ -5,7 +5,8 @@ use Rattle.order_search.proofs.rounds.round.Goals as goal
 
 pub completed-requires-clause-held : goal.completed-requires-clause-held
 completed-requires-clause-held g c =
-    held_grown c.args.subject.now c.args.progress.now.solver c.decide-found.new.self c.args.progress.now.brought.items c.requires.held
+    held_grown c.args.subject.now c.args.progress.now.solver c.decide-found.new.self
+    c.args.progress.now.brought.items c.requires.held
     c.decide-found.ensures.frame c.decide-found.ensures.grown
 
 pub completed-requires-clause-holds : goal.completed-requires-clause-holds
@@ -17,23 +18,28 @@ completed-requires-clause-holds g c =
 pub returns-in-Ok-Some-clause-some : goal.returns-in-Ok-Some-clause-some
 returns-in-Ok-Some-clause-some g c =
     let solver = c.decide-found.new.self in
-    counter_of c.args.subject.now (length solver.frame.statements) solver c.completed.new.progress.solver c.args.goal c.in-Ok-Model.truths
-    c.in-Ok-Some.completion (rw c.in-Ok-Model.field-0-is at c.in-Ok-Model.ensures.found) (rw c.in-Ok-Some.field-0-is at c.in-Ok-Some.ensures.kept)
+    counter_of c.args.subject.now (length solver.frame.statements) solver c.completed.new.progress.solver c.args.goal
+    c.in-Ok-Model.truths
+    c.in-Ok-Some.completion (rw c.in-Ok-Model.field-0-is at c.in-Ok-Model.ensures.found)
+    (rw c.in-Ok-Some.field-0-is at c.in-Ok-Some.ensures.kept)
     (rw c.in-Ok-Some.field-0-is at c.in-Ok-Some.ensures.some)
 
 pub returns-in-Ok-Proved-clause-held : goal.returns-in-Ok-Proved-clause-held
 returns-in-Ok-Proved-clause-held g c =
-    held_grown c.args.subject.now c.args.progress.now.solver c.decide-found.new.self c.args.progress.now.brought.items c.requires.held
+    held_grown c.args.subject.now c.args.progress.now.solver c.decide-found.new.self
+    c.args.progress.now.brought.items c.requires.held
     c.decide-found.ensures.frame c.decide-found.ensures.grown
 
 pub returns-in-Ok-Empty-clause-held : goal.returns-in-Ok-Empty-clause-held
 returns-in-Ok-Empty-clause-held g c =
-    held_grown c.args.subject.now c.args.progress.now.solver c.decide-found.new.self c.args.progress.now.brought.items c.requires.held
+    held_grown c.args.subject.now c.args.progress.now.solver c.decide-found.new.self
+    c.args.progress.now.brought.items c.requires.held
     c.decide-found.ensures.frame c.decide-found.ensures.grown
 
 pub returns-in-Ok-Spent-clause-held : goal.returns-in-Ok-Spent-clause-held
 returns-in-Ok-Spent-clause-held g c =
-    held_grown c.args.subject.now c.args.progress.now.solver c.decide-found.new.self c.args.progress.now.brought.items c.requires.held
+    held_grown c.args.subject.now c.args.progress.now.solver c.decide-found.new.self
+    c.args.progress.now.brought.items c.requires.held
     c.decide-found.ensures.frame c.decide-found.ensures.grown
 
 pub returns-in-Ok-Spent-clause-some : goal.returns-in-Ok-Spent-clause-some
@@ -44,5 +50,6 @@ returns-in-Ok-Spent-clause-some g c =
 
 pub returns-in-Err-clause-held : goal.returns-in-Err-clause-held
 returns-in-Err-clause-held g c =
-    held_grown c.args.subject.now c.args.progress.now.solver c.decide-found.new.self c.args.progress.now.brought.items c.requires.held
+    held_grown c.args.subject.now c.args.progress.now.solver c.decide-found.new.self
+    c.args.progress.now.brought.items c.requires.held
     c.decide-found.ensures.frame c.decide-found.ensures.grown

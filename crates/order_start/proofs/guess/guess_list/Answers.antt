@@ -8,4 +8,5 @@ rank_list-requires c =
 
 pub put_last-requires-clause-row : goal.put_last-requires-clause-row
 put_last-requires-clause-row c = λ r at.
-    row_within r.rows c.list-list.result.rows c.args.ent.0 (slot_of c.list-list.result c.in-Some.last) c.row.result (c.list-list.ensures.rows r at) c.row.ensures
+    row_within r.rows c.list-list.result.rows c.args.ent.0 (slot_of c.list-list.result c.in-Some.last) c.row.result
+    (c.list-list.ensures.rows r at) c.row.ensures

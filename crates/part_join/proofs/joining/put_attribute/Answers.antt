@@ -8,7 +8,8 @@ loop-place-init c = record { put = c.requires.so_far; rest = rest_none c.args.pl
 pub loop-place-preserved : goal.loop-place-preserved
 loop-place-preserved c = record {
   put = c.in_ok-put_list.ensures.put;
-  rest = rest_more c.args.places.now c.args.completion.now c.loop-place.completion c.put_list.new.completion c.loop-place.invariant.rest
+  rest = rest_more c.args.places.now c.args.completion.now c.loop-place.completion c.put_list.new.completion
+      c.loop-place.invariant.rest
       c.put_list.ensures.rest;
 }
 

@@ -5,7 +5,8 @@ use Rattle.part_join.proofs.joining.put_list.Goals as goal
 pub rows_of-requires : goal.rows_of-requires
 rows_of-requires c =
     let rel = c.args.rel.0 in
-    let is = list_read c.args.narrow.now rel c.args.attr.0 c.args.place c.attribute.result.now c.get.result.now c.as_slice-list.result.now
+    let is = list_read c.args.narrow.now rel c.args.attr.0 c.args.place c.attribute.result.now c.get.result.now
+    c.as_slice-list.result.now
     c.attribute.ensures c.get.ensures c.as_slice-list.ensures in
     rw (is, c.rows.ensures) (c.requires.to_put.within rel c.args.attr.0 c.args.place)
 

@@ -7,7 +7,8 @@ loop-rel-init c =
     let n = c.args.places.now in
     let narrow = c.args.narrow.now in
     let old = c.args.completion.now in
-    let room = has_room c.args.spec.now.relations c.requires.places.0 n narrow old c.requires.places.1 c.requires.narrow c.requires.shape in
+    let room = has_room c.args.spec.now.relations c.requires.places.0 n narrow old c.requires.places.1
+    c.requires.narrow c.requires.shape in
     record { put = put_none n narrow old room; rest = rest_none n old }
 
 pub put_relation-requires-clause-to_put : goal.put_relation-requires-clause-to_put
@@ -18,6 +19,7 @@ put_relation-requires-clause-to_put c =
 pub loop-rel-preserved : goal.loop-rel-preserved
 loop-rel-preserved c = record {
   put = c.in_ok-put_relation.ensures.put;
-  rest = rest_more c.args.places.now c.args.completion.now c.loop-rel.completion c.put_relation.new.completion c.loop-rel.invariant.rest
+  rest = rest_more c.args.places.now c.args.completion.now c.loop-rel.completion c.put_relation.new.completion
+      c.loop-rel.invariant.rest
       c.put_relation.ensures.rest;
 }

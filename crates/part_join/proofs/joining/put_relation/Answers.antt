@@ -8,7 +8,8 @@ loop-attr-init c = record { put = c.requires.so_far; rest = rest_none c.args.pla
 pub loop-attr-preserved : goal.loop-attr-preserved
 loop-attr-preserved c = record {
   put = c.in_ok-put_attribute.ensures.put;
-  rest = rest_more c.args.places.now c.args.completion.now c.loop-attr.completion c.put_attribute.new.completion c.loop-attr.invariant.rest
+  rest = rest_more c.args.places.now c.args.completion.now c.loop-attr.completion c.put_attribute.new.completion
+      c.loop-attr.invariant.rest
       c.put_attribute.ensures.rest;
 }
 

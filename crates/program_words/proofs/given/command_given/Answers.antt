@@ -7,14 +7,16 @@ use Rattle.program_words.proofs.given.command_given.Goals as goal
 pub returns-in-Some-clause-taken : goal.returns-in-Some-clause-taken
 returns-in-Some-clause-taken c =
     let m = c.in-Ok-try_get_matches_from in
-    sym (said_by_matches (app_of c.in-Ok.line) (map (λ w. string_bytes w) c.args.words.now) m.matches c.in-Ok.ensures m.ensures.matches m.ensures.kinds)
+    sym (said_by_matches (app_of c.in-Ok.line) (map (λ w. string_bytes w) c.args.words.now) m.matches c.in-Ok.ensures
+    m.ensures.matches m.ensures.kinds)
     ∙ sym c.command_in.ensures ∙ ap (option_map said_of) c.in-Some.is
 
 pub returns-in-Ok-try_get_matches_from-clause-refused :
     goal.returns-in-Ok-try_get_matches_from-clause-refused
 returns-in-Ok-try_get_matches_from-clause-refused c = λ _.
     let m = c.in-Ok-try_get_matches_from in
-    sym (said_by_matches (app_of c.in-Ok.line) (map (λ w. string_bytes w) c.args.words.now) m.matches c.in-Ok.ensures m.ensures.matches m.ensures.kinds)
+    sym (said_by_matches (app_of c.in-Ok.line) (map (λ w. string_bytes w) c.args.words.now) m.matches c.in-Ok.ensures
+    m.ensures.matches m.ensures.kinds)
     ∙ sym c.command_in.ensures ∙ ap (option_map said_of) c.in-None.is
 
 pub returns : goal.returns

@@ -1,5 +1,15 @@
-use Rattle.program_words.proofs.Ranges.{said_in_range, size_in_range}
+use Rattle.program_words.specs.Words.{AskFor, ConflictsIn, ExplainFor, TrialOf}
+use Rattle.program_words.proofs.Ranges.{said_in_range}
 use Rattle.program_words.proofs.laws.numbers_are_in_range.Goals as goal
 
 pub returns : goal.returns
-returns c = record { budget = λ words a said. (said_in_range words a said).budget; guide = λ words a said. (said_in_range words a said).guide; size = size_in_range }
+returns c = record {
+  budget = λ words a is. (said_in_range words (AskFor a) is).budget;
+  guide = λ words a is. (said_in_range words (AskFor a) is).guide;
+  size = λ words n is. said_in_range words (TrialOf n) is;
+  unit = λ words e is. (said_in_range words (ExplainFor e) is).unit;
+  explain_budget = λ words e is. (said_in_range words (ExplainFor e) is).search.budget;
+  explain_guide = λ words e is. (said_in_range words (ExplainFor e) is).search.guide;
+  conflicts_budget = λ words c is. (said_in_range words (ConflictsIn c) is).budget;
+  conflicts_guide = λ words c is. (said_in_range words (ConflictsIn c) is).guide;
+}

@@ -1,16 +1,21 @@
-use Rattle.std.proofs.Common.{◌≡◌, ◌∙◌, ap₂}
+use Rattle.std.proofs.Common.{◌≡◌, ◌∙◌, ap}
 use Rattle.std.proofs.lemmas.Result.{IfOk-weaker}
-use Rattle.clap.specs.Words.{app_of, with_subcommand}
-use Rattle.program_words.specs.Line.{ask_shape, bare_line, forced_shape, line, verify_shape}
+use Rattle.clap.specs.Simple.{Shape}
+use Rattle.clap.specs.Words.{App, with_subcommand}
+use Rattle.program_words.specs.Line.{ask_shape, conflicts_shape, explain_shape, forced_shape, line, trial_shape, verify_shape}
 use Rattle.program_words.proofs.line.line.Goals as goal
+
+-- one more subcommand after those that are known
+then : {a b c : App} (s : Shape) → c ≡ with_subcommand b s → b ≡ a → c ≡ with_subcommand a s
+then s is before = is ∙ ap (λ a. with_subcommand a s) before
 
 pub returns : goal.returns
 unfolding line
 returns c =
-    let with_ask : app_of c.in_ok-with_ask.with_ask ≡ with_subcommand bare_line ask_shape =
-    c.in_ok-with_ask.ensures ∙ ap₂ with_subcommand c.bare_line.ensures c.in_ok-ask.ensures.shape in
-    let with_verify : app_of c.in_ok-with_verify.with_verify ≡ with_subcommand (with_subcommand bare_line ask_shape) verify_shape =
-    c.in_ok-with_verify.ensures ∙ ap₂ with_subcommand with_ask c.in_ok-verify.ensures.shape in
-    let with_forced : app_of c.in_ok-with_forced.with_forced ≡ with_subcommand (with_subcommand (with_subcommand bare_line ask_shape) verify_shape) forced_shape =
-    c.in_ok-with_forced.ensures ∙ ap₂ with_subcommand with_verify c.in_ok-forced.ensures.shape in
-    IfOk-weaker c.with_subcommand-4.result _ _ (λ r h. h ∙ ap₂ with_subcommand with_forced c.in_ok-trial.ensures.shape) c.with_subcommand-4.ensures
+    let asks = then ask_shape (c.in_ok-with_ask.ensures ask_shape c.ask.ensures.shape) c.bare_line.ensures in
+    let verifies = then verify_shape (c.in_ok-with_verify.ensures verify_shape c.verify.ensures.shape) asks in
+    let forces = then forced_shape (c.in_ok-with_forced.ensures forced_shape c.forced.ensures.shape) verifies in
+    let tries = then trial_shape (c.in_ok-with_trial.ensures trial_shape c.trial.ensures.shape) forces in
+    let explains = then explain_shape (c.in_ok-with_explain.ensures explain_shape c.explain.ensures.shape) tries in
+    IfOk-weaker c.with_subcommand-6.result _ _ (λ r h. then conflicts_shape h explains)
+    (c.with_subcommand-6.ensures conflicts_shape c.conflicts.ensures.shape)

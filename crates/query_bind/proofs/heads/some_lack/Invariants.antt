@@ -7,4 +7,5 @@ use Rattle.query_bind.proofs.heads.some_lack.Given as goal
 
 abbrev pub invariant-loop-vars : goal.invariant-loop-vars
 invariant-loop-vars l =
-    list_any (λ vars. not (is_some (place_of vars l.name))) (drop l.vars-index l.each) ≡ list_any (λ vars. not (is_some (place_of vars l.name))) l.each
+    list_any (λ vars. not (is_some (place_of vars l.name))) (drop l.vars-index l.each) ≡ list_any
+    (λ vars. not (is_some (place_of vars l.name))) l.each

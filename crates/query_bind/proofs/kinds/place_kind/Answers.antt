@@ -5,4 +5,5 @@ use Rattle.query_bind.proofs.Walk.{past_first}
 use Rattle.query_bind.proofs.kinds.place_kind.Goals as goal
 
 pub returns : goal.returns
-returns c = past_first Text (kinds_of c.args.relation.now) c.args.place c.attr_kind.result c.if-place-eq0.false c.attr_kind.ensures
+returns c = past_first Text (kinds_of c.args.relation.now) c.args.place c.attr_kind.result c.if-place-eq0.false
+    c.attr_kind.ensures

@@ -6,5 +6,6 @@ use Rattle.query_bind.proofs.mismatches.mismatch_at.Given as goal
 
 abbrev pub invariant-loop-at : goal.invariant-loop-at
 invariant-loop-at l =
-    first_at (place_mismatch (kind_for l.scope.own.now) (kind_among l.scope.head.now l.scope.before.now) l.relation) l.at (drop l.at l.places)
+    first_at (place_mismatch (kind_for l.scope.own.now) (kind_among l.scope.head.now l.scope.before.now) l.relation)
+    l.at (drop l.at l.places)
     ≡ first_at (place_mismatch (kind_for l.scope.own.now) (kind_among l.scope.head.now l.scope.before.now) l.relation) 0 l.places

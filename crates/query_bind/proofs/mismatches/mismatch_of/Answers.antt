@@ -8,4 +8,5 @@ use Rattle.query_bind.proofs.mismatches.mismatch_of.Goals as goal
 pub returns : goal.returns
 returns c =
     c.mismatch_in.ensures
-    ∙ ap (λ own. mismatch_by c.args.names.now c.args.relations.now own (kind_among c.args.head.now c.args.before.now) c.args.disjunct.now) (fun_ext c.in_ok-own.ensures)
+    ∙ ap (λ own. mismatch_by c.args.names.now c.args.relations.now own (kind_among c.args.head.now c.args.before.now)
+    c.args.disjunct.now) (fun_ext c.in_ok-own.ensures)

@@ -7,4 +7,5 @@ use Rattle.query_bind.proofs.resolve.disjuncts_of.Given as goal
 
 abbrev pub invariant-loop-tree : goal.invariant-loop-tree
 invariant-loop-tree l =
-    with_front l.disjuncts (all_of (disjunct_of l.names l.head) (drop l.tree-index l.trees)) ≡ all_of (disjunct_of l.names l.head) l.trees
+    with_front l.disjuncts (all_of (disjunct_of l.names l.head) (drop l.tree-index l.trees)) ≡ all_of
+    (disjunct_of l.names l.head) l.trees

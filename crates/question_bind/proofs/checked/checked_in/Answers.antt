@@ -16,9 +16,12 @@ loop-pairs-preserved c =
       all = append_assoc c.loop-pairs.yielded (c.in-Some.pairs ∷ []) rest ∙ whole;
       count = length_push c.loop-pairs.yielded c.in-Some.pairs ∙ ap (λ n. n + 1) c.loop-pairs.invariant.count
           ∙ sym (length_push c.loop-pairs.checked c.in-Ok.pairs) ∙ ap length (sym c.in-Ok-push.ensures.ok);
-      so_far = rw c.in-Ok-push.ensures.ok (next_more (checked_named c.args.spec.now.relations) c.args.heads.now c.args.trees.now c.args.lists c.loop-pairs.yielded c.loop-pairs.checked _
-          c.index-trees-place.result c.in-Some.pairs c.in-Ok.pairs c.len-place.result (record { trees_many = c.requires.trees; xs_many = c.requires.lists })
-          (record { rest = rest; whole = whole; place_is = c.len-place.ensures ∙ sym c.loop-pairs.invariant.count }) c.index-trees-place.is c.loop-pairs.invariant.so_far c.in-Ok.ensures);
+      so_far = rw c.in-Ok-push.ensures.ok (next_more (checked_named c.args.spec.now.relations) c.args.heads.now
+          c.args.trees.now c.args.lists c.loop-pairs.yielded c.loop-pairs.checked _
+          c.index-trees-place.result c.in-Some.pairs c.in-Ok.pairs c.len-place.result
+          (record { trees_many = c.requires.trees; xs_many = c.requires.lists })
+          (record { rest = rest; whole = whole; place_is = c.len-place.ensures ∙ sym c.loop-pairs.invariant.count })
+          c.index-trees-place.is c.loop-pairs.invariant.so_far c.in-Ok.ensures);
     }
 
 pub returns-in-Err : goal.returns-in-Err
@@ -28,21 +31,28 @@ returns-in-Err c =
     let trees = c.args.trees.now in
     let rest = c.next.new.self.rest.items in
     let whole = ap (λ rs. c.loop-pairs.yielded ++ rs) (sym c.in-Some.ensures.steps.0) ∙ c.loop-pairs.invariant.all in
-    due_through (f (get_or heads c.len-place.result _, c.index-trees-place.result, c.in-Some.pairs)) (all_of f (parts_with heads trees c.args.lists)) c.in-Err.fault c.in-Err.ensures
-    (λ is. next_err f heads trees c.args.lists c.loop-pairs.yielded c.loop-pairs.checked _ c.index-trees-place.result c.in-Some.pairs c.in-Err.fault c.len-place.result
-    (record { trees_many = c.requires.trees; xs_many = c.requires.lists }) (record { rest = rest; whole = whole; place_is = c.len-place.ensures ∙ sym c.loop-pairs.invariant.count })
+    due_through (f (get_or heads c.len-place.result _, c.index-trees-place.result, c.in-Some.pairs))
+    (all_of f (parts_with heads trees c.args.lists)) c.in-Err.fault c.in-Err.ensures
+    (λ is. next_err f heads trees c.args.lists c.loop-pairs.yielded c.loop-pairs.checked _ c.index-trees-place.result
+    c.in-Some.pairs c.in-Err.fault c.len-place.result
+    (record { trees_many = c.requires.trees; xs_many = c.requires.lists })
+    (record { rest = rest; whole = whole; place_is = c.len-place.ensures ∙ sym c.loop-pairs.invariant.count })
     c.index-trees-place.is c.loop-pairs.invariant.so_far is)
 
 pub returns : goal.returns
 returns c =
-    next_all (checked_named c.args.spec.now.relations) c.args.heads.now c.args.trees.now c.args.lists c.loop-pairs.yielded c.loop-pairs.pairs-iterator.rest.items c.loop-pairs.checked
-    (record { trees_many = c.requires.trees; xs_many = c.requires.lists }) c.loop-pairs.invariant.all (sym c.loop-pairs.pairs-iterator.rest.ok.0 ∙ c.in-None.ensures.steps.0) c.loop-pairs.invariant.so_far
+    next_all (checked_named c.args.spec.now.relations) c.args.heads.now c.args.trees.now c.args.lists
+    c.loop-pairs.yielded c.loop-pairs.pairs-iterator.rest.items c.loop-pairs.checked
+    (record { trees_many = c.requires.trees; xs_many = c.requires.lists }) c.loop-pairs.invariant.all
+    (sym c.loop-pairs.pairs-iterator.rest.ok.0 ∙ c.in-None.ensures.steps.0) c.loop-pairs.invariant.so_far
 
 pub checked_part-requires-clause-counts : goal.checked_part-requires-clause-counts
 checked_part-requires-clause-counts c =
     let rest = c.next.new.self.rest.items in
     let whole = ap (λ rs. c.loop-pairs.yielded ++ rs) (sym c.in-Some.ensures.steps.0) ∙ c.loop-pairs.invariant.all in
     let d : Head = record { rel = 0; attr = None } in
-    next_holds HasAsManyPairs c.args.heads.now c.args.trees.now c.args.lists c.loop-pairs.yielded d c.index-trees-place.result c.in-Some.pairs c.len-place.result
-    (record { trees_many = c.requires.trees; xs_many = c.requires.lists }) (record { rest = rest; whole = whole; place_is = c.len-place.ensures ∙ sym c.loop-pairs.invariant.count })
+    next_holds HasAsManyPairs c.args.heads.now c.args.trees.now c.args.lists c.loop-pairs.yielded d
+    c.index-trees-place.result c.in-Some.pairs c.len-place.result
+    (record { trees_many = c.requires.trees; xs_many = c.requires.lists })
+    (record { rest = rest; whole = whole; place_is = c.len-place.ensures ∙ sym c.loop-pairs.invariant.count })
     c.index-trees-place.is c.requires.counts

@@ -8,6 +8,8 @@ use Rattle.question_bind.proofs.checked.checked_part.Goals as goal
 
 pub returns-in-Table : goal.returns-in-Table
 returns-in-Table c =
-    let rows = rows_read c.args.spec.now.relations c.relations.result.now c.args.head.now.rel c.index-relations-head.result c.as_slice-rows.result.now
+    let rows = rows_read c.args.spec.now.relations c.relations.result.now c.args.head.now.rel
+    c.index-relations-head.result c.as_slice-rows.result.now
     c.relations.ensures.value c.requires.head c.index-relations-head.is c.as_slice-rows.ensures in
-    rw c.in-Table.is (subst (λ (rs : List Row). IsDue (table.checked c.in-Table.document.name rs c.args.pairs) c.checked-in-Table.result) rows c.checked-in-Table.ensures)
+    rw c.in-Table.is (subst (λ (rs : List Row). IsDue (table.checked c.in-Table.document.name rs c.args.pairs)
+    c.checked-in-Table.result) rows c.checked-in-Table.ensures)

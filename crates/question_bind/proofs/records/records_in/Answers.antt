@@ -15,9 +15,12 @@ loop-tuples-preserved c =
       all = append_assoc c.loop-tuples.yielded (c.in-Some.tuples ∷ []) rest ∙ whole;
       count = length_push c.loop-tuples.yielded c.in-Some.tuples ∙ ap (λ n. n + 1) c.loop-tuples.invariant.count
           ∙ sym (length_push c.loop-tuples.lists c.in-Ok.records) ∙ ap length (sym c.in-Ok-push.ensures.ok);
-      so_far = rw c.in-Ok-push.ensures.ok (next_more (records_named c.args.names.now) c.args.heads.now c.args.trees.now c.args.tables c.loop-tuples.yielded c.loop-tuples.lists _
-          c.index-trees-place.result c.in-Some.tuples c.in-Ok.records c.len-place.result (record { trees_many = c.requires.trees; xs_many = c.requires.tables })
-          (record { rest = rest; whole = whole; place_is = c.len-place.ensures ∙ sym c.loop-tuples.invariant.count }) c.index-trees-place.is c.loop-tuples.invariant.so_far c.in-Ok.ensures);
+      so_far = rw c.in-Ok-push.ensures.ok (next_more (records_named c.args.names.now) c.args.heads.now
+          c.args.trees.now c.args.tables c.loop-tuples.yielded c.loop-tuples.lists _
+          c.index-trees-place.result c.in-Some.tuples c.in-Ok.records c.len-place.result
+          (record { trees_many = c.requires.trees; xs_many = c.requires.tables })
+          (record { rest = rest; whole = whole; place_is = c.len-place.ensures ∙ sym c.loop-tuples.invariant.count })
+          c.index-trees-place.is c.loop-tuples.invariant.so_far c.in-Ok.ensures);
     }
 
 pub returns-in-Err : goal.returns-in-Err
@@ -27,12 +30,17 @@ returns-in-Err c =
     let trees = c.args.trees.now in
     let rest = c.next.new.self.rest.items in
     let whole = ap (λ rs. c.loop-tuples.yielded ++ rs) (sym c.in-Some.ensures.steps.0) ∙ c.loop-tuples.invariant.all in
-    due_through (f (get_or heads c.len-place.result _, c.index-trees-place.result, c.in-Some.tuples)) (all_of f (parts_with heads trees c.args.tables)) c.in-Err.fault c.in-Err.ensures
-    (λ is. next_err f heads trees c.args.tables c.loop-tuples.yielded c.loop-tuples.lists _ c.index-trees-place.result c.in-Some.tuples c.in-Err.fault c.len-place.result
-    (record { trees_many = c.requires.trees; xs_many = c.requires.tables }) (record { rest = rest; whole = whole; place_is = c.len-place.ensures ∙ sym c.loop-tuples.invariant.count })
+    due_through (f (get_or heads c.len-place.result _, c.index-trees-place.result, c.in-Some.tuples))
+    (all_of f (parts_with heads trees c.args.tables)) c.in-Err.fault c.in-Err.ensures
+    (λ is. next_err f heads trees c.args.tables c.loop-tuples.yielded c.loop-tuples.lists _
+    c.index-trees-place.result c.in-Some.tuples c.in-Err.fault c.len-place.result
+    (record { trees_many = c.requires.trees; xs_many = c.requires.tables })
+    (record { rest = rest; whole = whole; place_is = c.len-place.ensures ∙ sym c.loop-tuples.invariant.count })
     c.index-trees-place.is c.loop-tuples.invariant.so_far is)
 
 pub returns : goal.returns
 returns c =
-    next_all (records_named c.args.names.now) c.args.heads.now c.args.trees.now c.args.tables c.loop-tuples.yielded c.loop-tuples.tuples-iterator.rest.items c.loop-tuples.lists
-    (record { trees_many = c.requires.trees; xs_many = c.requires.tables }) c.loop-tuples.invariant.all (sym c.loop-tuples.tuples-iterator.rest.ok.0 ∙ c.in-None.ensures.steps.0) c.loop-tuples.invariant.so_far
+    next_all (records_named c.args.names.now) c.args.heads.now c.args.trees.now c.args.tables c.loop-tuples.yielded
+    c.loop-tuples.tuples-iterator.rest.items c.loop-tuples.lists
+    (record { trees_many = c.requires.trees; xs_many = c.requires.tables }) c.loop-tuples.invariant.all
+    (sym c.loop-tuples.tuples-iterator.rest.ok.0 ∙ c.in-None.ensures.steps.0) c.loop-tuples.invariant.so_far

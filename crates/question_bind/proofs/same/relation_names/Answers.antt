@@ -6,4 +6,5 @@ use Rattle.question_bind.proofs.same.relation_names.Goals as goal
 
 pub add_copy-requires : goal.add_copy-requires
 add_copy-requires c =
-    rw c.loop-relation.invariant (none_before (λ (r : Relation). r.name) c.args.relations.now c.loop-relation.relation-index c.relation-item.result c.requires c.loop-relation-test.true (sym c.relation-item.is))
+    rw c.loop-relation.invariant (none_before (λ (r : Relation). r.name) c.args.relations.now
+    c.loop-relation.relation-index c.relation-item.result c.requires c.loop-relation-test.true (sym c.relation-item.is))

@@ -9,18 +9,21 @@ use Rattle.relation_bind.proofs.relation.bind_relation.Goals as goal
 pub returns-in_err-names-clause-declared : goal.returns-in_err-names-clause-declared
 returns-in_err-names-clause-declared g c =
     let p = err_from_is_err_and c.from_residual.result c.from_residual.ensures.1 in
-    λ settled. head_refused (g.S.Shelf.texts c.args.shelf.now) c.args.taken.now c.args.declaration.now c.in_err-names.field-0.0 c.from_residual.result
+    λ settled. head_refused (g.S.Shelf.texts c.args.shelf.now) c.args.taken.now c.args.declaration.now
+    c.in_err-names.field-0.0 c.from_residual.result
     c.in_err-names.ensures (p.1 ∙ ap Err p.2) settled
 
 pub returns-in_err-rows-clause-declared : goal.returns-in_err-rows-clause-declared
 returns-in_err-rows-clause-declared g c =
     let p = err_from_is_err_and c.from_residual-in_err-rows.result c.from_residual-in_err-rows.ensures.1 in
-    λ settled. table_refused (g.S.Shelf.texts c.args.shelf.now) c.args.taken.now c.args.declaration.now c.in_ok-names.names c.in_err-rows.field-0.0 c.from_residual-in_err-rows.result
+    λ settled. table_refused (g.S.Shelf.texts c.args.shelf.now) c.args.taken.now c.args.declaration.now
+    c.in_ok-names.names c.in_err-rows.field-0.0 c.from_residual-in_err-rows.result
     c.in_ok-names.ensures c.in_err-rows.ensures.table (p.1 ∙ ap Err p.2) settled
 
 pub returns-in-Ok-clause-declared : goal.returns-in-Ok-clause-declared
 returns-in-Ok-clause-declared g c =
-    λ settled. relation_read (g.S.Shelf.texts c.args.shelf.now) c.args.taken.now c.args.declaration.now c.in_ok-names.names c.in_ok-rows.rows c.in-Ok.relation
+    λ settled. relation_read (g.S.Shelf.texts c.args.shelf.now) c.args.taken.now c.args.declaration.now
+    c.in_ok-names.names c.in_ok-rows.rows c.in-Ok.relation
     c.in_ok-names.ensures (c.in_ok-rows.ensures.table tt) c.in-Ok.ensures
 
 pub returns-in_err-names-clause-read_fault : goal.returns-in_err-names-clause-read_fault
@@ -38,5 +41,6 @@ returns-in_err-names-clause-table g c =
 pub returns-in_err-rows-clause-table : goal.returns-in_err-rows-clause-table
 returns-in_err-rows-clause-table g c =
     let p = err_from_is_err_and c.from_residual-in_err-rows.result c.from_residual-in_err-rows.ensures.1 in
-    table_not_given c.args.taken.now c.args.declaration.now c.in_ok-names.names c.in_err-rows.field-0.0 c.from_residual-in_err-rows.result
+    table_not_given c.args.taken.now c.args.declaration.now c.in_ok-names.names c.in_err-rows.field-0.0
+    c.from_residual-in_err-rows.result
     c.in_ok-names.ensures c.in_err-rows.ensures.names_it (p.1 ∙ ap Err p.2)

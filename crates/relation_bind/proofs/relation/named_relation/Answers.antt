@@ -14,7 +14,8 @@ new-requires-clause-facts c =
     let t = c.args.table in
     let is_declared : c.in_ok-relation.relation ≡ relation_of d t =
     c.in_ok-relation.ensures
-    ∙ ap (λ es. record { name = d.name.name; attrs = map attr_of d.attrs; rows = t.rows; entities = es; given = [] }) c.names-2.ensures.value in
+    ∙ ap (λ es. record { name = d.name.name; attrs = map attr_of d.attrs; rows = t.rows; entities = es; given = [] })
+    c.names-2.ensures.value in
     let once : OnlyOnce (names_of_attrs d.attrs) = subst OnlyOnce c.requires.attrs c.names.ensures.distinct in
     let as_many : length c.names.result.now ≡ length d.attrs =
     ap length (c.names.ensures.value ∙ c.requires.attrs) ∙ length-map d.attrs (λ a. a.name.name) in
@@ -27,5 +28,6 @@ new-requires-clause-names c =
     let t = c.args.table in
     let is_declared : c.in_ok-relation.relation ≡ relation_of d t =
     c.in_ok-relation.ensures
-    ∙ ap (λ es. record { name = d.name.name; attrs = map attr_of d.attrs; rows = t.rows; entities = es; given = [] }) c.names-2.ensures.value in
+    ∙ ap (λ es. record { name = d.name.name; attrs = map attr_of d.attrs; rows = t.rows; entities = es; given = [] })
+    c.names-2.ensures.value in
     declared_names d t c.args.attrs c.requires.rows c.requires.attrs ∙ ap names_of (sym is_declared)

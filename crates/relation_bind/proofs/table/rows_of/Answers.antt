@@ -20,10 +20,12 @@ returns-in-Err-Repeated-clause-exact c =
     let number = c.in-Err-Repeated.number in
     let named : c.is_some.result ≡ is_some d.row = c.is_some.ensures ∙ ap (λ x. is_some x.row) c.declaration.view_is in
     let at_fault = subst (λ (f : RowFault). (◌≡◌ {A = Result TableRows RowFault} (Err f) (Err NoMemory))
-    ⊎ (◌≡◌ {A = Result TableRows RowFault} (Err f) (rows_from c.is_some.result c.args.tuples))) c.in-Err-Repeated.field-0-is c.in-Err-Repeated.ensures.exact in
+    ⊎ (◌≡◌ {A = Result TableRows RowFault} (Err f) (rows_from c.is_some.result c.args.tuples)))
+    c.in-Err-Repeated.field-0-is c.in-Err-Repeated.ensures.exact in
     let exact = subst (λ (b : Bool). (◌≡◌ {A = Result TableRows RowFault} (Err (Repeated number)) (Err NoMemory))
     ⊎ (◌≡◌ {A = Result TableRows RowFault} (Err (Repeated number)) (rows_from b c.args.tuples))) named at_fault in
-    due_refusal d (rows_from (is_some d.row) c.args.tuples) number c.refused_in.result exact (rw (ap (λ x. x.document.name) c.declaration.view_is) at c.refused_in.ensures)
+    due_refusal d (rows_from (is_some d.row) c.args.tuples) number c.refused_in.result exact
+    (rw (ap (λ x. x.document.name) c.declaration.view_is) at c.refused_in.ensures)
 
 pub returns-in-Ok-clause-values : goal.returns-in-Ok-clause-values
 returns-in-Ok-clause-values c =

@@ -11,6 +11,9 @@ pub returns-else-is_fixed-2 : goal.returns-else-is_fixed-2
 unfolding claim_at
 returns-else-is_fixed-2 c =
     subst (λ (o : Outcome ClaimTree). Gives (λ x. (x.0, map lexeme_of x.1.now)) c.further_claim-else-is_fixed-2.result o)
-    (sym (passed_over (is_word (codes "inconsistent")) inconsistent_at (choose (is_word (codes "consistent")) consistent_at further_claim_at) c.args.tokens.now _ _ c.in-len1-up.len_at_least c.is_fixed.ensures c.if-is_fixed.false
-    ∙ passed_over (is_word (codes "consistent")) consistent_at further_claim_at c.args.tokens.now _ _ c.in-len1-up.len_at_least c.is_fixed-else-is_fixed.ensures c.if-is_fixed-2.false))
+    (sym (passed_over (is_word (codes "inconsistent")) inconsistent_at
+    (choose (is_word (codes "consistent")) consistent_at further_claim_at) c.args.tokens.now _ _
+    c.in-len1-up.len_at_least c.is_fixed.ensures c.if-is_fixed.false
+    ∙ passed_over (is_word (codes "consistent")) consistent_at further_claim_at c.args.tokens.now _ _
+    c.in-len1-up.len_at_least c.is_fixed-else-is_fixed.ensures c.if-is_fixed-2.false))
     c.further_claim-else-is_fixed-2.ensures

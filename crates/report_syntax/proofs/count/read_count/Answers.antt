@@ -19,7 +19,8 @@ returns-in-Ok c =
     let no_plus : get_or c.args.bytes.now 0 0 ≡ 43 → ⊥ =
     elim c.else-not-is_empty.branch [
       | else-not-is_empty-via-then-not-is_empty+else-bytes-eq43 w ↦ w.if-bytes-eq43.false
-      | else-not-is_empty-via-else-not-is_empty w ↦ λ plus. nothing_first c.args.bytes.now 42 (eqb-true _ 0 (sym c.is_empty.ensures ∙ w.if-not-is_empty.false)) plus
+      | else-not-is_empty-via-else-not-is_empty w ↦ λ plus. nothing_first c.args.bytes.now 42
+          (eqb-true _ 0 (sym c.is_empty.ensures ∙ w.if-not-is_empty.false)) plus
     ] in
     c.ok.ensures.value ∙ parses_count c.args.bytes.now c.parse.result parsed no_plus
 

@@ -8,7 +8,8 @@ returns-clause-read c = read_by reads_report c.args.source.now c.read_text.resul
 
 pub returns-clause-short : goal.returns-clause-short
 returns-clause-short c =
-    read_short c.args.source.now c.read_text.result (read_by reads_report c.args.source.now c.read_text.result c.read_text.ensures.read)
+    read_short c.args.source.now c.read_text.result (read_by reads_report c.args.source.now c.read_text.result
+    c.read_text.ensures.read)
 
 pub returns-clause-refused : goal.returns-clause-refused
 returns-clause-refused c =

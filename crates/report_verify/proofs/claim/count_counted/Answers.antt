@@ -17,5 +17,6 @@ loop-place-preserved c =
 
 pub returns : goal.returns
 returns c =
-    let past : length c.args.steps.now ≤ c.loop-place.place = (let at_end = c.loop-place-test.false in let all = c.len-place-end.ensures in omega (arith, at_end, all)) in
+    let past : length c.args.steps.now ≤ c.loop-place.place = (let at_end = c.loop-place-test.false in let all =
+    c.len-place-end.ensures in omega (arith, at_end, all)) in
     c.loop-place.invariant.same ∙ ap counted_steps (take_all c.loop-place.place c.args.steps.now past)

@@ -10,12 +10,14 @@ use Rattle.report_verify.proofs.completions.check_all.Goals as goal
 one_more : (s : Spec) (cs : List Rankings) (i : ℕ) (c : Rankings) → i < length cs → c ≡ get_or cs i c
     → All (IsConsistent s) (take i cs) → IsConsistent s c → All (IsConsistent s) (take (i + 1) cs)
 one_more s cs i c below is all consistent =
-    let longer : take (i + 1) cs ≡ take i cs ++ c ∷ [] = subst (λ (x : Rankings). take (i + 1) cs ≡ take i cs ++ x ∷ []) (sym is) (take_more cs i c below) in
+    let longer : take (i + 1) cs ≡ take i cs ++ c ∷ [] = subst (λ (x : Rankings). take (i + 1) cs ≡ take i cs ++ x
+    ∷ []) (sym is) (take_more cs i c below) in
     subst (All (IsConsistent s)) (sym longer) (All-push (IsConsistent s) (take i cs) c all consistent)
 
 pub loop-place-preserved : goal.loop-place-preserved
 loop-place-preserved c =
-    let below : c.loop-place.place < length c.args.completions.now = rw (← c.as_slice-completion-items.ensures) c.loop-place-test.true in
+    let below : c.loop-place.place < length c.args.completions.now = rw (← c.as_slice-completion-items.ensures)
+    c.loop-place-test.true in
     let here : c.completion-item.result ≡ get_or c.args.completions.now c.loop-place.place c.completion-item.result =
     rw (← c.as_slice-completion-items.ensures) c.completion-item.is in
     record {
@@ -26,5 +28,7 @@ loop-place-preserved c =
 
 pub returns-clause-consistent : goal.returns-clause-consistent
 returns-clause-consistent c =
-    let past : length c.args.completions.now ≤ c.loop-place.place = rw (← c.as_slice-completion-items.ensures) c.loop-place-test.false in
-    subst (All (IsConsistent c.args.spec.now)) (take_all c.loop-place.place c.args.completions.now past) c.loop-place.invariant.consistent
+    let past : length c.args.completions.now ≤ c.loop-place.place = rw (← c.as_slice-completion-items.ensures)
+    c.loop-place-test.false in
+    subst (All (IsConsistent c.args.spec.now)) (take_all c.loop-place.place c.args.completions.now past)
+    c.loop-place.invariant.consistent

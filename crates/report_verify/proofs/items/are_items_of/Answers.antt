@@ -12,7 +12,8 @@ loop-rel-preserved c =
     let items = c.args.items.now in
     let rel = c.loop-rel.rel in
     let within : rel < length relations =
-    (let test = c.loop-rel-test.true in let count = c.as_slice-asked-items.ensures.len in let all = c.in_ok-marks.ensures.len in omega (arith, test, count, all)) in
+    (let test = c.loop-rel-test.true in let count = c.as_slice-asked-items.ensures.len in let all =
+    c.in_ok-marks.ensures.len in omega (arith, test, count, all)) in
     let mark : get_or c.as_slice-asked-items.result.now rel false ≡ is_asked rels rel =
     ap (λ marks. get_or marks rel false) c.as_slice-asked-items.ensures.value ∙ c.in_ok-marks.ensures.marks rel within in
     elim c.if-asked.branch [
@@ -27,13 +28,17 @@ loop-rel-preserved c =
 pub returns-clause-are : goal.returns-clause-are
 returns-clause-are c = λ e.
     let all : c.loop-rel.rel ≡ length c.args.relations.now =
-    (let test = c.loop-rel-test.false in let most = c.loop-rel.auto.rel-end in let count = c.as_slice-asked-items.ensures.len in let whole = c.in_ok-marks.ensures.len in omega (arith, test, most, count, whole)) in
-    met_all c.args.relations.now c.args.rels.now c.args.items.now c.loop-rel.at (eqb-true c.loop-rel.at (length c.args.items.now) e)
+    (let test = c.loop-rel-test.false in let most = c.loop-rel.auto.rel-end in let count =
+    c.as_slice-asked-items.ensures.len in let whole = c.in_ok-marks.ensures.len in omega (arith, test, most, count, whole)) in
+    met_all c.args.relations.now c.args.rels.now c.args.items.now c.loop-rel.at
+    (eqb-true c.loop-rel.at (length c.args.items.now) e)
     (subst (λ n. AreMet c.args.relations.now c.args.rels.now c.args.items.now n 0 c.loop-rel.at) all c.loop-rel.invariant)
 
 pub returns-clause-others : goal.returns-clause-others
 returns-clause-others c = λ e.
     let all : c.loop-rel.rel ≡ length c.args.relations.now =
-    (let test = c.loop-rel-test.false in let most = c.loop-rel.auto.rel-end in let count = c.as_slice-asked-items.ensures.len in let whole = c.in_ok-marks.ensures.len in omega (arith, test, most, count, whole)) in
-    met_fewer c.args.relations.now c.args.rels.now c.args.items.now c.loop-rel.at (eqb-false c.loop-rel.at (length c.args.items.now) e)
+    (let test = c.loop-rel-test.false in let most = c.loop-rel.auto.rel-end in let count =
+    c.as_slice-asked-items.ensures.len in let whole = c.in_ok-marks.ensures.len in omega (arith, test, most, count, whole)) in
+    met_fewer c.args.relations.now c.args.rels.now c.args.items.now c.loop-rel.at
+    (eqb-false c.loop-rel.at (length c.args.items.now) e)
     (subst (λ n. AreMet c.args.relations.now c.args.rels.now c.args.items.now n 0 c.loop-rel.at) all c.loop-rel.invariant)

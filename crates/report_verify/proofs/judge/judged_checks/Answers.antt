@@ -9,7 +9,8 @@ returns-in-Err-check_units-clause-refused c =
       consistent = c.in_default.ensures.consistent;
       accepted = c.in-Ok.ensures.accepted;
     } in
-    unmet_refused c.args.spec.now c.args.question.now c.args.report.now sound c.in-Err-check_units.fault c.in_default-lacking.ensures.nothing c.in-Err-check_units.ensures.unmet
+    unmet_refused c.args.spec.now c.args.question.now c.args.report.now sound c.in-Err-check_units.fault
+    c.in_default-lacking.ensures.nothing c.in-Err-check_units.ensures.unmet
 
 pub returns-clause-shown : goal.returns-clause-shown
 returns-clause-shown c =
@@ -18,11 +19,13 @@ returns-clause-shown c =
       consistent = c.in_default.ensures.consistent;
       accepted = c.in-Ok.ensures.accepted;
     } in
-    on_ok c.check_common.result _ (ShowsVerdict c.args.spec.now c.args.question.now c.args.report.now) c.check_common.ensures.common
+    on_ok c.check_common.result _ (ShowsVerdict c.args.spec.now c.args.question.now c.args.report.now)
+    c.check_common.ensures.common
     (λ common. record {
       sound = sound;
       supported = supported c.args.spec.now c.args.question.now c.args.report.now.verdict c.args.report.now.completions
-          c.args.report.now.log c.requires.one_of c.in_default-lacking.ensures.nothing c.in_default-check_units.ensures.derived common;
+          c.args.report.now.log c.requires.one_of c.in_default-lacking.ensures.nothing
+          c.in_default-check_units.ensures.derived common;
     })
 
 pub returns-clause-refused : goal.returns-clause-refused

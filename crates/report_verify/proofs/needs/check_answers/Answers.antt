@@ -9,7 +9,8 @@ pub returns-then-not-has_answer-clause-unmet : goal.returns-then-not-has_answer-
 returns-then-not-has_answer-clause-unmet c =
     let tuples = c.args.tuples.now in
     let place = c.loop-place.place in
-    let here = slice_get_read tuples (length tuples) place c.index-tuples-place.result refl c.loop-place-test.true c.index-tuples-place.is in
+    let here = slice_get_read tuples (length tuples) place c.index-tuples-place.result refl c.loop-place-test.true
+    c.index-tuples-place.is in
     let relations = c.args.units.now.relations in
     let log = c.args.units.now.log in
     c.unmet_item.ensures 0 place relations log (answer_needs 0 tuples) (plain place)
@@ -24,14 +25,17 @@ pub loop-place-preserved : goal.loop-place-preserved
 loop-place-preserved c =
     let tuples = c.args.tuples.now in
     let place = c.loop-place.place in
-    let here = slice_get_read tuples (length tuples) place c.index-tuples-place.result refl c.loop-place-test.true c.index-tuples-place.is in
+    let here = slice_get_read tuples (length tuples) place c.index-tuples-place.result refl c.loop-place-test.true
+    c.index-tuples-place.is in
     all_more (IsDerived c.args.units.now.relations c.args.units.now.log) (answer_needs 0 tuples) place
-    (answer_need place c.index-tuples-place.result) (answer_at tuples place c.index-tuples-place.result here) c.loop-place.invariant
+    (answer_need place c.index-tuples-place.result) (answer_at tuples place c.index-tuples-place.result here)
+    c.loop-place.invariant
     (c.has_answer.ensures.there c.if-not-has_answer.false)
 
 pub returns-clause-derived : goal.returns-clause-derived
 returns-clause-derived c =
     let past : length (answer_needs 0 c.args.tuples.now) ≤ c.loop-place.place =
     (let test = c.loop-place-test.false in let count = length_answers 0 c.args.tuples.now in omega (arith, test, count)) in
-    all_taken (IsDerived c.args.units.now.relations c.args.units.now.log) (answer_needs 0 c.args.tuples.now) c.loop-place.place past
+    all_taken (IsDerived c.args.units.now.relations c.args.units.now.log) (answer_needs 0 c.args.tuples.now)
+    c.loop-place.place past
     c.loop-place.invariant

@@ -9,7 +9,15 @@ use Rattle.spec_model.specs.declared.question.Asked.{Asked}
 
 -- what is read past the end
 abbrev blank : Asked
-blank = record { rel = record { 0 = 0 }; pair = record { attr = record { 0 = 0 }; earlier = record { 0 = 0 }; later = record { 0 = 0 } } }
+blank = record {
+  rel = record { 0 = 0 };
+  pair = record {
+    attr = record { 0 = 0 };
+    earlier = record { 0 = 0 };
+    later =
+        record { 0 = 0 };
+  };
+}
 
 pub returns-then-not-has_before-clause-unmet : goal.returns-then-not-has_before-clause-unmet
 returns-then-not-has_before-clause-unmet c =
@@ -39,4 +47,5 @@ pub returns-clause-derived : goal.returns-clause-derived
 returns-clause-derived c =
     let past : length (pair_needs c.args.pairs.now) ≤ c.loop-place.place =
     (let test = c.loop-place-test.false in omega (arith, test, length-map c.args.pairs.now pair_need)) in
-    all_taken (IsDerived c.args.units.now.relations c.args.units.now.log) (pair_needs c.args.pairs.now) c.loop-place.place past c.loop-place.invariant
+    all_taken (IsDerived c.args.units.now.relations c.args.units.now.log) (pair_needs c.args.pairs.now)
+    c.loop-place.place past c.loop-place.invariant

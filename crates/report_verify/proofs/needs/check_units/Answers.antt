@@ -9,11 +9,13 @@ returns-in-Same-clause-unmet c =
     let question = c.args.question.now in
     let needs : item_needs 0 c.in-Same.items ≡ needs_of question c.args.report.now.verdict =
     sym (same_needs question c.in-Same.items) ∙ ap (needs_of question) (sym c.in-Same.is) in
-    subst (λ ns. IfErr c.check_claimed_items.result (IsUnmet c.args.spec.now.relations c.args.report.now.log ns)) needs c.check_claimed_items.ensures.unmet
+    subst (λ ns. IfErr c.check_claimed_items.result (IsUnmet c.args.spec.now.relations c.args.report.now.log ns))
+    needs c.check_claimed_items.ensures.unmet
 
 pub returns-in-Answers-clause-unmet : goal.returns-in-Answers-clause-unmet
 returns-in-Answers-clause-unmet c =
     let question = c.args.question.now in
     let needs : answer_needs 0 c.in-Answers.tuples ≡ needs_of question c.args.report.now.verdict =
     sym (same_answers question c.in-Answers.tuples) ∙ ap (needs_of question) (sym c.in-Answers.is) in
-    subst (λ ns. IfErr c.check_claimed_answers.result (IsUnmet c.args.spec.now.relations c.args.report.now.log ns)) needs c.check_claimed_answers.ensures.unmet
+    subst (λ ns. IfErr c.check_claimed_answers.result (IsUnmet c.args.spec.now.relations c.args.report.now.log ns))
+    needs c.check_claimed_answers.ensures.unmet

@@ -11,8 +11,10 @@ returns-then-not-has_last-clause-unmet c =
     let needs = value_needs c.args.at item.rel item.ent 0 item.values in
     let here : slice_get item.values c.loop-attr.attr ≡ Some c.value-item.result =
     rw (← c.as_slice-value-items.ensures)
-    (slice_get_read c.as_slice-value-items.result.now (length c.as_slice-value-items.result.now) c.loop-attr.attr c.value-item.result refl c.loop-attr-test.true c.value-item.is) in
-    c.unmet_item.ensures c.args.from c.loop-attr.attr c.args.units.now.relations c.args.units.now.log needs c.loop-attr.invariant.count
+    (slice_get_read c.as_slice-value-items.result.now (length c.as_slice-value-items.result.now) c.loop-attr.attr
+    c.value-item.result refl c.loop-attr-test.true c.value-item.is) in
+    c.unmet_item.ensures c.args.from c.loop-attr.attr c.args.units.now.relations c.args.units.now.log needs
+    c.loop-attr.invariant.count
     (first_unmet c.args.units.now.relations c.args.units.now.log needs c.loop-attr.attr
     (value_need c.args.at item.rel c.loop-attr.attr item.ent c.value-item.result)
     (value_at c.args.at item.rel item.ent item.values c.loop-attr.attr c.value-item.result here)
@@ -24,11 +26,13 @@ loop-attr-preserved c =
     let needs = value_needs c.args.at item.rel item.ent 0 item.values in
     let here : slice_get item.values c.loop-attr.attr ≡ Some c.value-item.result =
     rw (← c.as_slice-value-items.ensures)
-    (slice_get_read c.as_slice-value-items.result.now (length c.as_slice-value-items.result.now) c.loop-attr.attr c.value-item.result refl c.loop-attr-test.true c.value-item.is) in
+    (slice_get_read c.as_slice-value-items.result.now (length c.as_slice-value-items.result.now) c.loop-attr.attr
+    c.value-item.result refl c.loop-attr-test.true c.value-item.is) in
     record {
       derived = all_more (IsDerived c.args.units.now.relations c.args.units.now.log) needs c.loop-attr.attr
           (value_need c.args.at item.rel c.loop-attr.attr item.ent c.value-item.result)
-          (value_at c.args.at item.rel item.ent item.values c.loop-attr.attr c.value-item.result here) c.loop-attr.invariant.derived
+          (value_at c.args.at item.rel item.ent item.values c.loop-attr.attr c.value-item.result here)
+          c.loop-attr.invariant.derived
           (c.has_last.ensures.there c.if-not-has_last.false);
       count = (let was = c.loop-attr.invariant.count in omega (arith, was));
     }
@@ -39,4 +43,5 @@ returns-clause-derived c =
     let needs = value_needs c.args.at item.rel item.ent 0 item.values in
     let count = length_values c.args.at item.rel item.ent 0 item.values in
     let test : length item.values ≤ c.loop-attr.attr = rw (← c.as_slice-value-items.ensures) c.loop-attr-test.false in
-    all_taken (IsDerived c.args.units.now.relations c.args.units.now.log) needs c.loop-attr.attr (omega (arith, count, test)) c.loop-attr.invariant.derived
+    all_taken (IsDerived c.args.units.now.relations c.args.units.now.log) needs c.loop-attr.attr
+    (omega (arith, count, test)) c.loop-attr.invariant.derived

@@ -7,8 +7,10 @@ pub loop-place-preserved : goal.loop-place-preserved
 loop-place-preserved c =
     let xs = c.args.tuples.now in
     let place = c.loop-place.place in
-    let before = slice_get_read xs (length xs) (place - 1) c.index-tuples-before.result refl (omega (arith, c.loop-place-test.true)) c.index-tuples-before.is in
-    let here = slice_get_read xs (length xs) place c.index-tuples-place.result refl c.loop-place-test.true c.index-tuples-place.is in
+    let before = slice_get_read xs (length xs) (place - 1) c.index-tuples-before.result refl
+    (omega (arith, c.loop-place-test.true)) c.index-tuples-before.is in
+    let here = slice_get_read xs (length xs) place c.index-tuples-place.result refl c.loop-place-test.true
+    c.index-tuples-place.is in
     record {
       some = omega arith;
       rise = rise_more xs place c.index-tuples-before.result c.index-tuples-place.result c.loop-place.invariant.some before here
@@ -19,10 +21,13 @@ pub returns-then-not-is_below-clause-other : goal.returns-then-not-is_below-clau
 returns-then-not-is_below-clause-other c = λ e ascending.
     let xs = c.args.tuples.now in
     let place = c.loop-place.place in
-    let before = slice_get_read xs (length xs) (place - 1) c.index-tuples-before.result refl (omega (arith, c.loop-place-test.true)) c.index-tuples-before.is in
-    let here = slice_get_read xs (length xs) place c.index-tuples-place.result refl c.loop-place-test.true c.index-tuples-place.is in
+    let before = slice_get_read xs (length xs) (place - 1) c.index-tuples-before.result refl
+    (omega (arith, c.loop-place-test.true)) c.index-tuples-before.is in
+    let here = slice_get_read xs (length xs) place c.index-tuples-place.result refl c.loop-place-test.true
+    c.index-tuples-place.is in
     c.is_below.ensures.apart c.if-not-is_below.true
-    (ascending (place - 1) place c.index-tuples-before.result c.index-tuples-place.result (omega (arith, c.loop-place.invariant.some)) before here)
+    (ascending (place - 1) place c.index-tuples-before.result c.index-tuples-place.result
+    (omega (arith, c.loop-place.invariant.some)) before here)
 
 pub returns-clause-are : goal.returns-clause-are
 returns-clause-are c = λ e.

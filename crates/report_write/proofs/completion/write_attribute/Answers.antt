@@ -11,8 +11,10 @@ loop-ent-preserved c =
     let relations = c.relations-relations.result.now in
     let lists = lists_of c.args.shown.now c.args.rel.0 c.args.attr.0 in
     let inside : c.loop-ent.ent < length lists = search rules in
-    item_more (entity_rankings relations c.args.rel.0 c.args.attr.0) (ranking_pieces relations c.args.rel.0 c.args.attr.0) (λ i x xs. refl) lists
+    item_more (entity_rankings relations c.args.rel.0 c.args.attr.0)
+    (ranking_pieces relations c.args.rel.0 c.args.attr.0) (λ i x xs. refl) lists
     c.loop-ent.ent [] _ _ inside
     (c.in_ok-write_ranking.ensures
-    ∙ ap (λ (list : List RowId). writes_all c.loop-ent.into (ranking_pieces relations c.args.rel.0 c.args.attr.0 c.loop-ent.ent list)) c.ranking-list.ensures)
+    ∙ ap (λ (list : List RowId). writes_all c.loop-ent.into (ranking_pieces relations c.args.rel.0 c.args.attr.0
+    c.loop-ent.ent list)) c.ranking-list.ensures)
     ∙ c.loop-ent.invariant

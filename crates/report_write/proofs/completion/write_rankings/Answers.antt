@@ -7,6 +7,7 @@ pub loop-rel-preserved : goal.loop-rel-preserved
 loop-rel-preserved c =
     let relations = c.args.spec.now.relations in
     let inside : c.loop-rel.rel < length c.args.shown.now = search rules in
-    item_more (rankings_pieces relations) (λ rel. attr_rankings relations rel 0) (λ i x xs. refl) c.args.shown.now c.loop-rel.rel [] _ _ inside
+    item_more (rankings_pieces relations) (λ rel. attr_rankings relations rel 0) (λ i x xs. refl) c.args.shown.now
+    c.loop-rel.rel [] _ _ inside
     c.in_ok-write_relation.ensures
     ∙ c.loop-rel.invariant

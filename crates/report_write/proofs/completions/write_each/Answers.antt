@@ -5,6 +5,7 @@ use Rattle.report_write.proofs.completions.write_each.Goals as goal
 
 pub loop-completion-preserved : goal.loop-completion-preserved
 loop-completion-preserved c =
-    list_more (λ c'. completion_pieces c.args.spec.now.relations (differing c.args.first.now c')) c.args.later.now c.loop-completion.completion-index
+    list_more (λ c'. completion_pieces c.args.spec.now.relations (differing c.args.first.now c')) c.args.later.now
+    c.loop-completion.completion-index
     c.completion-item.result _ _ c.loop-completion-test.true c.completion-item.is c.in_ok-write_later.ensures
     ∙ c.loop-completion.invariant

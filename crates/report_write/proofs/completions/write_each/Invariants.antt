@@ -6,5 +6,6 @@ use Rattle.report_write.proofs.completions.write_each.Given as goal
 
 abbrev pub invariant-loop-completion : goal.invariant-loop-completion
 invariant-loop-completion l =
-    writes_all l.into (many_pieces (λ c. completion_pieces l.spec.relations (differing l.first c)) (drop l.completion-index l.later))
+    writes_all l.into (many_pieces (λ c. completion_pieces l.spec.relations (differing l.first c))
+    (drop l.completion-index l.later))
     ≡ writes_all l.fn.into (completions_pieces l.spec.relations (l.first ∷ l.later))

@@ -5,7 +5,11 @@ use Rattle.report_write.proofs.Differing.{left_out, same_attrs, same_entities, s
 use Rattle.report_write.proofs.shown.differing_list.Goals as goal
 
 pub ranking-rows-requires-clause-attr : goal.ranking-rows-requires-clause-attr
-ranking-rows-requires-clause-attr c = omega (arith, same_attrs c.args.first.now c.args.completion.now c.args.rel.0 c.requires.alike)
+ranking-rows-requires-clause-attr c = omega (
+  arith,
+  same_attrs c.args.first.now c.args.completion.now c.args.rel.0
+      c.requires.alike,
+)
 
 pub ranking-rows-requires-clause-ent : goal.ranking-rows-requires-clause-ent
 ranking-rows-requires-clause-ent c =
@@ -13,12 +17,19 @@ ranking-rows-requires-clause-ent c =
 
 pub ranking-requires-clause-attr : goal.ranking-requires-clause-attr
 ranking-requires-clause-attr c =
-    omega (arith, same_attrs c.args.first.now c.args.completion.now c.args.rel.0 c.requires.alike, c.requires.alike.per_attr c.args.rel.0)
+    omega (
+      arith,
+      same_attrs c.args.first.now c.args.completion.now c.args.rel.0 c.requires.alike,
+      c.requires.alike.per_attr c.args.rel.0,
+    )
 
 pub ranking-requires-clause-ent : goal.ranking-requires-clause-ent
 ranking-requires-clause-ent c =
-    omega
-    (arith, same_entities c.args.first.now c.args.completion.now c.args.rel.0 c.args.attr.0 c.requires.alike, c.requires.alike.per_entity c.args.rel.0 c.args.attr.0)
+    omega (
+      arith,
+      same_entities c.args.first.now c.args.completion.now c.args.rel.0 c.args.attr.0 c.requires.alike,
+      c.requires.alike.per_entity c.args.rel.0 c.args.attr.0,
+    )
 
 pub returns-then-are_same : goal.returns-then-are_same
 returns-then-are_same c =

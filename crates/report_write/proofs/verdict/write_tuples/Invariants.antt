@@ -6,4 +6,5 @@ use Rattle.report_write.proofs.verdict.write_tuples.Given as goal
 
 abbrev pub invariant-loop-tuple : goal.invariant-loop-tuple
 invariant-loop-tuple l =
-    writes_all l.into (many_pieces answer_pieces (drop l.tuple-index l.tuples)) ≡ writes_all l.initial.into (many_pieces answer_pieces l.tuples)
+    writes_all l.into (many_pieces answer_pieces (drop l.tuple-index l.tuples)) ≡ writes_all l.initial.into
+    (many_pieces answer_pieces l.tuples)

@@ -8,5 +8,6 @@ pub returns : goal.returns
 returns c =
     let pieces = brief_pieces c.args.spec.now.relations c.args.report.now in
     let written : c.write_without_log.new.into ≡ writes_all start pieces =
-    subst (λ (w : Writing). c.write_without_log.new.into ≡ writes_all w pieces) c.new-into.ensures c.in_ok-write_without_log.ensures in
+    subst (λ (w : Writing). c.write_without_log.new.into ≡ writes_all w pieces) c.new-into.ensures
+    c.in_ok-write_without_log.ensures in
     c.into_text.ensures ∙ ap (λ (w : Writing). w.text) written ∙ text_written pieces

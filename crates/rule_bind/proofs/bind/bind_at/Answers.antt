@@ -12,7 +12,8 @@ pub predicates_of-requires-clause-vars : goal.predicates_of-requires-clause-vars
 predicates_of-requires-clause-vars c =
     omega (
       arith,
-      few_names c.in_ok-names.field-0.names c.as_slice.result.now c.args.tree.now.vars c.in_ok-names.ensures.names c.as_slice.ensures,
+      few_names c.in_ok-names.field-0.names c.as_slice.result.now c.args.tree.now.vars c.in_ok-names.ensures.names
+          c.as_slice.ensures,
       c.if-len.false,
       c.len-else-len-eq0.ensures,
     )
@@ -21,15 +22,22 @@ pub returns-in_err-predicates-clause-due : goal.returns-in_err-predicates-clause
 returns-in_err-predicates-clause-due c =
     let p = err_from_is_err_and c.from_residual-in_err-predicates.result c.from_residual-in_err-predicates.ensures.1 in
     rw (p.1, p.2) (predicates_fault c.args.rules.now c.args.place.now.rel.0 c.args.place.now.relation.now c.args.tree.now
-    c.in_ok-names.field-0.names c.args.place.now.attrs.now c.as_slice.result.now c.as_slice-2.result.now c.in_err-predicates.field-0.0
-    (record { is_names = c.in_ok-names.ensures.names; is_vars = c.as_slice.ensures; is_attrs = c.requires.attrs; is_trees = c.as_slice-2.ensures })
+    c.in_ok-names.field-0.names c.args.place.now.attrs.now c.as_slice.result.now c.as_slice-2.result.now
+    c.in_err-predicates.field-0.0
+    (record {
+      is_names = c.in_ok-names.ensures.names;
+      is_vars = c.as_slice.ensures;
+      is_attrs = c.requires.attrs;
+      is_trees = c.as_slice-2.ensures;
+    })
     c.in_err-predicates.ensures)
 
 pub conclusion_of-requires-clause-vars : goal.conclusion_of-requires-clause-vars
 conclusion_of-requires-clause-vars c =
     omega (
       arith,
-      few_names c.in_ok-names.field-0.names c.as_slice.result.now c.args.tree.now.vars c.in_ok-names.ensures.names c.as_slice.ensures,
+      few_names c.in_ok-names.field-0.names c.as_slice.result.now c.args.tree.now.vars c.in_ok-names.ensures.names
+          c.as_slice.ensures,
       c.if-len.false,
       c.len-else-len-eq0.ensures,
     )
@@ -37,19 +45,32 @@ conclusion_of-requires-clause-vars c =
 pub returns-in_err-conclusion-clause-due : goal.returns-in_err-conclusion-clause-due
 returns-in_err-conclusion-clause-due c =
     let p = err_from_is_err_and c.from_residual-in_err-conclusion.result c.from_residual-in_err-conclusion.ensures.1 in
-    rw (p.1, p.2) (due_same _ _ (conclusion_fault c.args.rules.now c.args.place.now.rel.0 c.args.place.now.relation.now c.args.tree.now
-    c.in_ok-names.field-0.names c.args.place.now.attrs.now c.as_slice.result.now c.as_slice-2.result.now c.in_ok-predicates.predicates
+    rw (p.1, p.2) (due_same _ _ (conclusion_fault c.args.rules.now c.args.place.now.rel.0
+    c.args.place.now.relation.now c.args.tree.now
+    c.in_ok-names.field-0.names c.args.place.now.attrs.now c.as_slice.result.now c.as_slice-2.result.now
+    c.in_ok-predicates.predicates
     c.in_err-conclusion.field-0.0
-    (record { is_names = c.in_ok-names.ensures.names; is_vars = c.as_slice.ensures; is_attrs = c.requires.attrs; is_trees = c.as_slice-2.ensures })
+    (record {
+      is_names = c.in_ok-names.ensures.names;
+      is_vars = c.as_slice.ensures;
+      is_attrs = c.requires.attrs;
+      is_trees = c.as_slice-2.ensures;
+    })
     c.in_ok-predicates.ensures c.in_err-conclusion.ensures))
 
 pub returns-in-Some-clause-due : goal.returns-in-Some-clause-due
 returns-in-Some-clause-due c =
     let rule = rule_of c.args.tree.now c.args.place.now.rel.0 c.in_ok-predicates.predicates c.in_ok-conclusion.conclusion in
     due_same _ _ (parts_there c.args.rules.now c.args.place.now.rel.0 c.args.place.now.relation.now c.args.tree.now
-    c.in_ok-names.field-0.names c.args.place.now.attrs.now c.as_slice.result.now c.as_slice-2.result.now c.in_ok-predicates.predicates
+    c.in_ok-names.field-0.names c.args.place.now.attrs.now c.as_slice.result.now c.as_slice-2.result.now
+    c.in_ok-predicates.predicates
     c.in_ok-conclusion.conclusion
-    (record { is_names = c.in_ok-names.ensures.names; is_vars = c.as_slice.ensures; is_attrs = c.requires.attrs; is_trees = c.as_slice-2.ensures })
+    (record {
+      is_names = c.in_ok-names.ensures.names;
+      is_vars = c.as_slice.ensures;
+      is_attrs = c.requires.attrs;
+      is_trees = c.as_slice-2.ensures;
+    })
     c.in_ok-predicates.ensures c.in_ok-conclusion.ensures
     ∙ ap (λ fault. unless fault (Ok rule)) (sym c.in-Some.ensures))
 
@@ -58,9 +79,15 @@ returns-clause-due c =
     let tree = c.args.tree.now in
     let rule = rule_of tree c.args.place.now.rel.0 c.in_ok-predicates.predicates c.in_ok-conclusion.conclusion in
     parts_there c.args.rules.now c.args.place.now.rel.0 c.args.place.now.relation.now tree
-    c.in_ok-names.field-0.names c.args.place.now.attrs.now c.as_slice.result.now c.as_slice-2.result.now c.in_ok-predicates.predicates
+    c.in_ok-names.field-0.names c.args.place.now.attrs.now c.as_slice.result.now c.as_slice-2.result.now
+    c.in_ok-predicates.predicates
     c.in_ok-conclusion.conclusion
-    (record { is_names = c.in_ok-names.ensures.names; is_vars = c.as_slice.ensures; is_attrs = c.requires.attrs; is_trees = c.as_slice-2.ensures })
+    (record {
+      is_names = c.in_ok-names.ensures.names;
+      is_vars = c.as_slice.ensures;
+      is_attrs = c.requires.attrs;
+      is_trees = c.as_slice-2.ensures;
+    })
     c.in_ok-predicates.ensures c.in_ok-conclusion.ensures
     ∙ ap (λ fault. unless fault (Ok rule)) (sym c.in-None.ensures)
     ∙ ap (λ name. Ok (record rule { name = name })) (sym c.in_ok-duplicate-in-None.ensures)
@@ -68,7 +95,8 @@ returns-clause-due c =
 
 pub returns-clause-fits : goal.returns-clause-fits
 returns-clause-fits c = λ few_vars few_predicates.
-    rule_fits c.args.rules.now c.args.place.now.relation.now c.args.tree.now c.in_ok-names.field-0.names c.args.place.now.attrs.now
+    rule_fits c.args.rules.now c.args.place.now.relation.now c.args.tree.now c.in_ok-names.field-0.names
+    c.args.place.now.attrs.now
     c.as_slice.result.now c.as_slice-2.result.now
     (record {
       name = c.in_ok-duplicate-in-None.field-0;
@@ -77,10 +105,16 @@ returns-clause-fits c = λ few_vars few_predicates.
       predicates = c.in_ok-predicates.predicates;
       conclusion = c.in_ok-conclusion.conclusion;
     })
-    (record { is_names = c.in_ok-names.ensures.names; is_vars = c.as_slice.ensures; is_attrs = c.requires.attrs; is_trees = c.as_slice-2.ensures })
+    (record {
+      is_names = c.in_ok-names.ensures.names;
+      is_vars = c.as_slice.ensures;
+      is_attrs = c.requires.attrs;
+      is_trees = c.as_slice-2.ensures;
+    })
     c.in_ok-predicates.ensures c.in_ok-conclusion.ensures c.in-None.ensures
     (omega (arith, c.if-len-eq0.false, c.len.ensures)) c.len-in-None.ensures few_vars few_predicates
 
 pub returns-clause-fresh : goal.returns-clause-fresh
 returns-clause-fresh c =
-    is_fresh c.args.rules.now c.args.place.now.relation.now c.args.tree.now c.in_ok-duplicate-in-None.field-0 c.in_ok-duplicate-in-None.ensures c.in-None.ensures
+    is_fresh c.args.rules.now c.args.place.now.relation.now c.args.tree.now c.in_ok-duplicate-in-None.field-0
+    c.in_ok-duplicate-in-None.ensures c.in-None.ensures

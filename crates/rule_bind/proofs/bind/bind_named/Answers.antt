@@ -8,7 +8,8 @@ use Rattle.bind_faults.proofs.Outcomes.{due_same}
 use Rattle.rule_bind.proofs.AtPlace.{IsPlace, place_fits, relation_at, attrs_at, few_attrs, unknown_relation, due_at, fits_at, fresh_at}
 use Rattle.rule_bind.proofs.bind.bind_named.Goals as goal
 
-place : (c : goal.After-rules) → IsPlace c.args.names.now c.args.spec.now c.relations.result.now c.in_ok-rel.rel c.relations-2.result.now c.index-relations-rel.result c.relation.result.now
+place : (c : goal.After-rules) → IsPlace c.args.names.now c.args.spec.now c.relations.result.now c.in_ok-rel.rel
+    c.relations-2.result.now c.index-relations-rel.result c.relation.result.now
 place c = record {
   all = c.requires;
   listed = c.relations.ensures;
@@ -18,7 +19,8 @@ place c = record {
   has_names = c.relation.ensures;
 }
 
-placed : (c : goal.After-bind_at) → IsPlace c.args.names.now c.args.spec.now c.relations.result.now c.in_ok-rel.rel c.relations-2.result.now c.index-relations-rel.result c.relation.result.now
+placed : (c : goal.After-bind_at) → IsPlace c.args.names.now c.args.spec.now c.relations.result.now c.in_ok-rel.rel
+    c.relations-2.result.now c.index-relations-rel.result c.relation.result.now
 placed c = record {
   all = c.requires;
   listed = c.relations.ensures;
@@ -51,7 +53,8 @@ bind_at-requires-clause-few c = few_attrs _ _ _ _ _ _ _ (place c) c.relations-2.
 pub returns-clause-due : goal.returns-clause-due
 returns-clause-due c =
     subst (λ (due : Result Rule BindFault). IsDue due c.bind_at.result)
-    (sym (due_at _ _ _ _ _ _ _ c.args.tree.now c.rules.result.now (placed c) c.in_ok-rel.ensures.value c.rules.ensures)) c.bind_at.ensures.due
+    (sym (due_at _ _ _ _ _ _ _ c.args.tree.now c.rules.result.now (placed c) c.in_ok-rel.ensures.value
+    c.rules.ensures)) c.bind_at.ensures.due
 
 pub returns-clause-fits : goal.returns-clause-fits
 returns-clause-fits c =
@@ -60,4 +63,5 @@ returns-clause-fits c =
 
 pub returns-clause-fresh : goal.returns-clause-fresh
 returns-clause-fresh c =
-    fresh_at c.args.names.now c.args.spec.now c.rules.result.now c.bind_at.result c.requires c.rules.ensures c.bind_at.ensures.fresh
+    fresh_at c.args.names.now c.args.spec.now c.rules.result.now c.bind_at.result c.requires c.rules.ensures
+    c.bind_at.ensures.fresh

@@ -7,4 +7,5 @@ use Rattle.rule_bind.proofs.kinds.first_mismatch.Given as goal
 
 abbrev pub invariant-loop-tree : goal.invariant-loop-tree
 invariant-loop-tree l =
-    first_of (mismatch l.attrs (kinds_of l.relation)) (drop l.tree-index l.trees) ≡ first_of (mismatch l.attrs (kinds_of l.relation)) l.trees
+    first_of (mismatch l.attrs (kinds_of l.relation)) (drop l.tree-index l.trees) ≡ first_of
+    (mismatch l.attrs (kinds_of l.relation)) l.trees

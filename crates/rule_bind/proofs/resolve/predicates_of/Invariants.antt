@@ -7,4 +7,5 @@ use Rattle.rule_bind.proofs.resolve.predicates_of.Given as goal
 
 abbrev pub invariant-loop-tree : goal.invariant-loop-tree
 invariant-loop-tree l =
-    with_front l.predicates (all_of (predicate_of l.vars l.attrs) (drop l.tree-index l.trees)) ≡ all_of (predicate_of l.vars l.attrs) l.trees
+    with_front l.predicates (all_of (predicate_of l.vars l.attrs) (drop l.tree-index l.trees)) ≡ all_of
+    (predicate_of l.vars l.attrs) l.trees

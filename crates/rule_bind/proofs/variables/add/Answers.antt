@@ -6,11 +6,13 @@ use Rattle.rule_bind.proofs.variables.add.Goals as goal
 
 missing : (c : goal.Then-added) → Contains c.args.names.now c.args.named.now.name → ⊥
 missing c =
-    subst (λ (n : List ℕ). Contains c.args.names.now n → ⊥) c.in_ok-duplicate.ensures (OnTrue_at c.if-added.true c.in_ok-added.ensures.was_new)
+    subst (λ (n : List ℕ). Contains c.args.names.now n → ⊥) c.in_ok-duplicate.ensures
+    (OnTrue_at c.if-added.true c.in_ok-added.ensures.was_new)
 
 there : (c : goal.After-at) → slice_get c.args.names.now c.in_ok-added.added.place ≡ Some c.args.named.now.name
 there c =
-    ap (λ (ns : List (List ℕ)). slice_get ns c.in_ok-added.added.place) (sym (OnFalse_at c.if-added.false c.in_ok-added.ensures.known))
+    ap (λ (ns : List (List ℕ)). slice_get ns c.in_ok-added.added.place)
+    (sym (OnFalse_at c.if-added.false c.in_ok-added.ensures.known))
     ∙ c.in_ok-added.ensures.place ∙ ap Some c.in_ok-duplicate.ensures
 
 pub returns-then-added-clause-fault : goal.returns-then-added-clause-fault

@@ -9,7 +9,8 @@ use Rattle.search_state.proofs.orders.arrange.Goals as goal
 pub returns-in_default-first_open-2-clause-implies : goal.returns-in_default-first_open-2-clause-implies
 returns-in_default-first_open-2-clause-implies c =
     let truths = lits_of c.args.trail.now in
-    let within = subst (λ (xs : List Lit). c.in-Some-first_open.place < length xs) c.deref-2.ensures.value c.in-Some-first_open.ensures.within in
+    let within = subst (λ (xs : List Lit). c.in-Some-first_open.place < length xs) c.deref-2.ensures.value
+    c.in-Some-first_open.ensures.within in
     let is_open = subst (OpenAt truths c.in-Some-first_open.place) c.deref-2.ensures.value c.in-Some-first_open.ensures.found in
     let none = subst (NoneTrue truths) c.deref.ensures.value c.in_default.ensures.none in
     let known = subst (KnownFrom truths 1) c.deref-3.ensures.value c.in_default-first_open-2.ensures.none in
@@ -28,4 +29,5 @@ returns-clause-rests c =
     let is_open = subst (OpenAt truths place) c.deref-2.ensures.value c.in-Some-first_open.ensures.found in
     let within' = subst (λ (xs : List Lit). other < length xs) c.deref-3.ensures.value c.in-Some-first_open-2.ensures.within in
     let is_open' = subst (OpenAt truths other) c.deref-3.ensures.value c.in-Some-first_open-2.ensures.found in
-    λ e. inr (begins_open truths _ _ _ _ _ c.change-2.ensures c.change-3.ensures within within' c.in-Some-first_open-2.ensures.later is_open is_open')
+    λ e. inr (begins_open truths _ _ _ _ _ c.change-2.ensures c.change-3.ensures within within'
+    c.in-Some-first_open-2.ensures.later is_open is_open')

@@ -6,7 +6,8 @@ use Rattle.solver_guides.proofs.activity.greatest_free.Given as goal
 abbrev pub invariant-loop-var : goal.invariant-loop-var
 invariant-loop-var l = record {
   counts : l.tree.counts ≡ l.initial.tree.counts;
-  same : greatest_from l.tree.counts 0 l.tree.present l.values None ≡ greatest_from l.initial.tree.counts 0 l.initial.tree.present l.values None;
+  same : greatest_from l.tree.counts 0 l.tree.present l.values None ≡ greatest_from l.initial.tree.counts 0
+      l.initial.tree.present l.values None;
 }
 
 abbrev pub decreases-loop-var : goal.decreases-loop-var

@@ -4,8 +4,10 @@ use Rattle.spec_bind.proofs.bind.bind_spec.Goals as goal
 
 pub returns-in-Err-clause-bound : goal.returns-in-Err-clause-bound
 returns-in-Err-clause-bound g c =
-    λ settled. tree_refused (g.S.Shelf.texts c.args.shelf.now) (g.S.Shelf.texts c.loop-statement.shelf) c.loop-statement.bound c.args.tree.now
-    c.as_slice-statement-items.result.now c.loop-statement.statement-index c.statement-item.result c.in-Err.fault c.loop-statement.invariant.kept
+    λ settled. tree_refused (g.S.Shelf.texts c.args.shelf.now) (g.S.Shelf.texts c.loop-statement.shelf)
+    c.loop-statement.bound c.args.tree.now
+    c.as_slice-statement-items.result.now c.loop-statement.statement-index c.statement-item.result c.in-Err.fault
+    c.loop-statement.invariant.kept
     c.loop-statement-test.true c.statement-item.is c.loop-statement.invariant.so_far c.in-Err.ensures.step settled
 
 pub returns-in-Err-clause-table_due : goal.returns-in-Err-clause-table_due
@@ -19,17 +21,23 @@ loop-statement-preserved g c = record {
   kept = c.in-Ok.ensures.kept ∙ c.loop-statement.invariant.kept;
   later = omega (arith, c.in-Ok.ensures.later, c.loop-statement.invariant.later);
   so_far =
-      bound_more (g.S.Shelf.texts c.args.shelf.now) (g.S.Shelf.texts c.loop-statement.shelf) c.loop-statement.bound c.in-Ok.next c.args.tree.now.statements
-      c.as_slice-statement-items.result.now c.loop-statement.statement-index c.statement-item.result c.loop-statement.invariant.kept
+      bound_more (g.S.Shelf.texts c.args.shelf.now) (g.S.Shelf.texts c.loop-statement.shelf) c.loop-statement.bound
+      c.in-Ok.next c.args.tree.now.statements
+      c.as_slice-statement-items.result.now c.loop-statement.statement-index c.statement-item.result
+      c.loop-statement.invariant.kept
       c.loop-statement-test.true c.statement-item.is (c.in-Ok.ensures.step tt) c.loop-statement.invariant.so_far;
   tables =
-      tables_more (g.S.Shelf.texts c.args.shelf.now) (g.S.Shelf.texts c.loop-statement.shelf) c.loop-statement.bound c.in-Ok.next c.args.tree.now.statements
-      c.as_slice-statement-items.result.now c.loop-statement.statement-index c.statement-item.result c.loop-statement.invariant.kept
+      tables_more (g.S.Shelf.texts c.args.shelf.now) (g.S.Shelf.texts c.loop-statement.shelf) c.loop-statement.bound
+      c.in-Ok.next c.args.tree.now.statements
+      c.as_slice-statement-items.result.now c.loop-statement.statement-index c.statement-item.result
+      c.loop-statement.invariant.kept
       c.loop-statement-test.true c.statement-item.is (c.in-Ok.ensures.step tt) c.loop-statement.invariant.tables;
 }
 
 pub returns-clause-bound : goal.returns-clause-bound
 returns-clause-bound g c =
-    λ settled. tree_bound (g.S.Shelf.texts c.args.shelf.now) c.loop-statement.bound c.args.tree.now c.as_slice-statement-items.result.now
-    c.loop-statement.statement-index c.within_limits.result (omega (arith, c.loop-statement-test.false)) c.loop-statement.invariant.so_far
+    λ settled. tree_bound (g.S.Shelf.texts c.args.shelf.now) c.loop-statement.bound c.args.tree.now
+    c.as_slice-statement-items.result.now
+    c.loop-statement.statement-index c.within_limits.result (omega (arith, c.loop-statement-test.false))
+    c.loop-statement.invariant.so_far
     c.within_limits.ensures.due settled

@@ -10,7 +10,9 @@ invariant-loop-statement g l = record {
   kept : g.S.Shelf.texts l.shelf ≡ g.S.Shelf.texts l.fn.shelf;
   later : g.S.Shelf.faults l.fn.shelf ≤ g.S.Shelf.faults l.shelf;
   so_far : IfSome (g.S.Shelf.texts l.fn.shelf) (λ told. (outcome : Result Spec BindFault)
-      → IsBound told l.bound (drop l.statement-index l.statement-items) outcome → IsBound told nothing l.fn.tree.statements outcome);
+      → IsBound told l.bound (drop l.statement-index l.statement-items) outcome → IsBound told nothing
+      l.fn.tree.statements outcome);
   tables : IfSome (g.S.Shelf.texts l.fn.shelf) (λ told. (table : List ℕ)
-      → TableDue told l.bound (drop l.statement-index l.statement-items) table → TableDue told nothing l.fn.tree.statements table);
+      → TableDue told l.bound (drop l.statement-index l.statement-items) table → TableDue told nothing
+      l.fn.tree.statements table);
 }

@@ -12,18 +12,23 @@ pub returns-in-Ok-clause-step : goal.returns-in-Ok-clause-step
 returns-in-Ok-clause-step g c =
     let texts = g.S.Shelf.texts c.args.shelf.now in
     let tree = c.args.tree.now in
-    part_step texts (λ (told : Docs) (r : Result CopyFunction BindFault). IsCopyMade told c.args.bound tree r) (with_copy c.args.bound) c.in-Ok.copy c.add_copy.result
-    (subst (λ (s : Spec). IfSome texts (λ told. IsCopyMade told s tree (Ok c.in-Ok.copy))) c.bound.view_is (c.in-Ok.ensures.made tt))
+    part_step texts (λ (told : Docs) (r : Result CopyFunction BindFault). IsCopyMade told c.args.bound tree r)
+    (with_copy c.args.bound) c.in-Ok.copy c.add_copy.result
+    (subst (λ (s : Spec). IfSome texts (λ told. IsCopyMade told s tree (Ok c.in-Ok.copy))) c.bound.view_is
+    (c.in-Ok.ensures.made tt))
     c.add_copy.ensures.due
 
 pub returns-in-Err-clause-step : goal.returns-in-Err-clause-step
 returns-in-Err-clause-step g c =
     let texts = g.S.Shelf.texts c.args.shelf.now in
     let tree = c.args.tree.now in
-    part_refused texts (λ (told : Docs) (r : Result CopyFunction BindFault). IsCopyMade told c.args.bound tree r) (with_copy c.args.bound) c.in-Err.fault
-    (λ settled. subst (λ (s : Spec). IfSome texts (λ told. IsCopyMade told s tree (Err c.in-Err.fault))) c.bound.view_is (c.in-Err.ensures.made settled))
+    part_refused texts (λ (told : Docs) (r : Result CopyFunction BindFault). IsCopyMade told c.args.bound tree r)
+    (with_copy c.args.bound) c.in-Err.fault
+    (λ settled. subst (λ (s : Spec). IfSome texts (λ told. IsCopyMade told s tree (Err c.in-Err.fault)))
+    c.bound.view_is (c.in-Err.ensures.made settled))
 
 pub returns-in-Err-clause-table : goal.returns-in-Err-clause-table
 returns-in-Err-clause-table g c =
-    subst (λ (s : Spec). (name : List ℕ) → IsReadFaultOf {A = Spec} (Err c.in-Err.fault) name → IsCopyTable s c.args.tree.now name) c.bound.view_is
+    subst (λ (s : Spec). (name : List ℕ) → IsReadFaultOf {A = Spec} (Err c.in-Err.fault) name
+    → IsCopyTable s c.args.tree.now name) c.bound.view_is
     (λ name. part_table CopyFunction (IsCopyTable c.bound.inside.spec c.args.tree.now) c.in-Err.fault name c.in-Err.ensures.table)

@@ -16,7 +16,9 @@ invariant_of-result g c =
 pub returns-in-Ok-clause-step : goal.returns-in-Ok-clause-step
 returns-in-Ok-clause-step g c =
     let texts = g.S.Shelf.texts c.args.shelf.now in
-    λ settled. subst (λ (s : Spec). IfSome texts (λ told. IsLimited (IsTableMade told s c.args.relation.now c.args.document.now) (Ok c.bind_orders.new.spec))) c.bound.view_is
+    λ settled. subst (λ (s : Spec). IfSome texts
+    (λ told. IsLimited (IsTableMade told s c.args.relation.now c.args.document.now) (Ok c.bind_orders.new.spec)))
+    c.bound.view_is
     (table_step texts c.bound.inside.spec c.bind_orders.new.spec c.args.relation.now c.args.document.now (c.in-Ok.ensures.step tt)
     (table_gives c.bound.inside.spec c.bind_orders.new.spec c.in-Ok.ensures.given c.in-Ok.ensures.rules c.in-Ok.ensures.copies)
     c.bound.invariant.within)
@@ -24,10 +26,14 @@ returns-in-Ok-clause-step g c =
 pub returns-in-Err-clause-step : goal.returns-in-Err-clause-step
 returns-in-Err-clause-step g c =
     let texts = g.S.Shelf.texts c.args.shelf.now in
-    λ settled. subst (λ (s : Spec). IfSome texts (λ told. IsLimited (IsTableMade told s c.args.relation.now c.args.document.now) (Err c.in-Err.fault))) c.bound.view_is
-    (table_refused texts c.bound.inside.spec c.bind_orders.new.spec c.args.relation.now c.args.document.now c.in-Err.fault c.in-Err.ensures.step settled)
+    λ settled. subst (λ (s : Spec). IfSome texts
+    (λ told. IsLimited (IsTableMade told s c.args.relation.now c.args.document.now) (Err c.in-Err.fault))) c.bound.view_is
+    (table_refused texts c.bound.inside.spec c.bind_orders.new.spec c.args.relation.now c.args.document.now
+    c.in-Err.fault c.in-Err.ensures.step settled)
 
 pub returns-in-Err-clause-table : goal.returns-in-Err-clause-table
 returns-in-Err-clause-table g c =
-    subst (λ (s : Spec). (name : List ℕ) → IsReadFaultOf {A = Spec} (Err c.in-Err.fault) name → IsOrdersTable s.relations c.args.relation.now c.args.document.now name) c.bound.view_is
-    (λ name. part_table (Unit {0}) (IsOrdersTable c.bound.inside.spec.relations c.args.relation.now c.args.document.now) c.in-Err.fault name c.in-Err.ensures.table)
+    subst (λ (s : Spec). (name : List ℕ) → IsReadFaultOf {A = Spec} (Err c.in-Err.fault) name
+    → IsOrdersTable s.relations c.args.relation.now c.args.document.now name) c.bound.view_is
+    (λ name. part_table (Unit {0}) (IsOrdersTable c.bound.inside.spec.relations c.args.relation.now
+    c.args.document.now) c.in-Err.fault name c.in-Err.ensures.table)

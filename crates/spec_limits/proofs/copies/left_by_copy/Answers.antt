@@ -21,7 +21,8 @@ returns-in_default c =
     let here = c.left_by_first.ensures ∙ ap (λ n. left_of c.loop-at.left (length copy.places * n)) partners in
     let at = place (length target) first c.loop-at-test.true in
     sym (ap (left_of c.args.left) (sym (pairs_sum copy target source))
-    ∙ stops term (range_with_len 0 (length target)) first first c.args.left c.loop-at.left at.0 at.1 c.loop-at.invariant (sym here ∙ c.in_default.is))
+    ∙ stops term (range_with_len 0 (length target)) first first c.args.left c.loop-at.left at.0 at.1
+    c.loop-at.invariant (sym here ∙ c.in_default.is))
 
 pub loop-at-preserved : goal.loop-at-preserved
 loop-at-preserved c =
@@ -36,7 +37,8 @@ loop-at-preserved c =
     (read_at target first first row refl c.loop-at-test.true c.index-target-at.is) c.get.ensures in
     let here = c.left_by_first.ensures ∙ ap (λ n. left_of c.loop-at.left (length copy.places * n)) partners in
     let at = place (length target) first c.loop-at-test.true in
-    goes_on term (range_with_len 0 (length target)) first first c.args.left c.loop-at.left c.in-Some.rest at.0 at.1 c.loop-at.invariant (sym here ∙ c.in-Some.is)
+    goes_on term (range_with_len 0 (length target)) first first c.args.left c.loop-at.left c.in-Some.rest at.0 at.1
+    c.loop-at.invariant (sym here ∙ c.in-Some.is)
 
 pub returns : goal.returns
 returns c =
@@ -45,5 +47,6 @@ returns c =
     let source = c.args.source.now in
     let all : length (range_with_len 0 (length target)) ≤ c.loop-at.at = omega (arith, length-range_with_len 0 (length target)) in
     sym (ap (left_of c.args.left) (sym (pairs_sum copy target source))
-    ∙ ends (λ first. length copy.places * copy_partners copy target source first) (range_with_len 0 (length target)) c.loop-at.at c.args.left c.loop-at.left all
+    ∙ ends (λ first. length copy.places * copy_partners copy target source first) (range_with_len 0 (length target))
+    c.loop-at.at c.args.left c.loop-at.left all
     c.loop-at.invariant)

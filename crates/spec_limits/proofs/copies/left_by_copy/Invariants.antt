@@ -5,4 +5,5 @@ use Rattle.spec_limits.proofs.copies.left_by_copy.Given as goal
 
 abbrev pub invariant-loop-at : goal.invariant-loop-at
 invariant-loop-at l =
-    l.left + sum_by (λ first. length l.copy.places * copy_partners l.copy l.target l.source first) (take l.at (range_with_len 0 (length l.target))) ≡ l.fn.left
+    l.left + sum_by (λ first. length l.copy.places * copy_partners l.copy l.target l.source first)
+    (take l.at (range_with_len 0 (length l.target))) ≡ l.fn.left

@@ -14,11 +14,14 @@ returns-in_default c =
     let r = c.relation-item.result in
     let within : rel < length s.relations = rw c.relations-relation-items.ensures.value at c.loop-rel-test.true in
     let read : r ≡ get_or s.relations rel r = rw c.relations-relation-items.ensures.value at c.relation-item.is in
-    let here = order_sum s.relations c.args.lists.now rel r c.get-entities.result.now c.requires (read_at s.relations rel rel r refl within read) c.get-entities.ensures in
+    let here = order_sum s.relations c.args.lists.now rel r c.get-entities.result.now c.requires
+    (read_at s.relations rel rel r refl within read) c.get-entities.ensures in
     let left = c.left_by_relation.ensures
-    ∙ ap (λ n. left_of c.loop-rel.left (sum_by (λ (rows : List RowId). n * two_for_each_three (length rows)) c.as_slice.result.now)) c.len-attrs.ensures
+    ∙ ap (λ n. left_of c.loop-rel.left (sum_by (λ (rows : List RowId). n * two_for_each_three (length rows))
+    c.as_slice.result.now)) c.len-attrs.ensures
     ∙ ap (left_of c.loop-rel.left) (rw (← c.as_slice.ensures) at here) in
-    sym (stops order_instances s.relations rel r c.args.left c.loop-rel.left within read c.loop-rel.invariant (sym left ∙ c.in_default.is))
+    sym (stops order_instances s.relations rel r c.args.left c.loop-rel.left within read c.loop-rel.invariant
+    (sym left ∙ c.in_default.is))
 
 pub loop-rel-preserved : goal.loop-rel-preserved
 loop-rel-preserved c =
@@ -27,11 +30,14 @@ loop-rel-preserved c =
     let r = c.relation-item.result in
     let within : rel < length s.relations = rw c.relations-relation-items.ensures.value at c.loop-rel-test.true in
     let read : r ≡ get_or s.relations rel r = rw c.relations-relation-items.ensures.value at c.relation-item.is in
-    let here = order_sum s.relations c.args.lists.now rel r c.get-entities.result.now c.requires (read_at s.relations rel rel r refl within read) c.get-entities.ensures in
+    let here = order_sum s.relations c.args.lists.now rel r c.get-entities.result.now c.requires
+    (read_at s.relations rel rel r refl within read) c.get-entities.ensures in
     let left = c.left_by_relation.ensures
-    ∙ ap (λ n. left_of c.loop-rel.left (sum_by (λ (rows : List RowId). n * two_for_each_three (length rows)) c.as_slice.result.now)) c.len-attrs.ensures
+    ∙ ap (λ n. left_of c.loop-rel.left (sum_by (λ (rows : List RowId). n * two_for_each_three (length rows))
+    c.as_slice.result.now)) c.len-attrs.ensures
     ∙ ap (left_of c.loop-rel.left) (rw (← c.as_slice.ensures) at here) in
-    goes_on order_instances s.relations rel r c.args.left c.loop-rel.left c.in-Some.rest within read c.loop-rel.invariant (sym left ∙ c.in-Some.is)
+    goes_on order_instances s.relations rel r c.args.left c.loop-rel.left c.in-Some.rest within read
+    c.loop-rel.invariant (sym left ∙ c.in-Some.is)
 
 pub returns : goal.returns
 returns c =

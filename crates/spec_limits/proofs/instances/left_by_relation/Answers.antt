@@ -15,7 +15,8 @@ returns-in_default c =
     (multiple (two_for_each_three c.len.result) c.two_for_each_three.result c.args.attrs c.saturating_mul-of_entity.result
     c.two_for_each_three.ensures c.saturating_mul-of_entity.ensures) c.left_after.ensures
     ∙ ap (λ n. left_of c.loop-rows.left (c.args.attrs * two_for_each_three n)) c.len.ensures in
-    sym (stops (λ (rows : List RowId). c.args.attrs * two_for_each_three (length rows)) c.args.entities.now c.loop-rows.rows-index rows c.args.left c.loop-rows.left
+    sym (stops (λ (rows : List RowId). c.args.attrs * two_for_each_three (length rows)) c.args.entities.now
+    c.loop-rows.rows-index rows c.args.left c.loop-rows.left
     c.loop-rows-test.true c.rows-item.is c.loop-rows.invariant (sym here ∙ c.in_default.is))
 
 pub loop-rows-preserved : goal.loop-rows-preserved
@@ -27,10 +28,12 @@ loop-rows-preserved c =
     (multiple (two_for_each_three c.len.result) c.two_for_each_three.result c.args.attrs c.saturating_mul-of_entity.result
     c.two_for_each_three.ensures c.saturating_mul-of_entity.ensures) c.left_after.ensures
     ∙ ap (λ n. left_of c.loop-rows.left (c.args.attrs * two_for_each_three n)) c.len.ensures in
-    goes_on (λ (rows : List RowId). c.args.attrs * two_for_each_three (length rows)) c.args.entities.now c.loop-rows.rows-index rows c.args.left c.loop-rows.left
+    goes_on (λ (rows : List RowId). c.args.attrs * two_for_each_three (length rows)) c.args.entities.now
+    c.loop-rows.rows-index rows c.args.left c.loop-rows.left
     c.in-Some.rest c.loop-rows-test.true c.rows-item.is c.loop-rows.invariant (sym here ∙ c.in-Some.is)
 
 pub returns : goal.returns
 returns c =
-    sym (ends (λ (rows : List RowId). c.args.attrs * two_for_each_three (length rows)) c.args.entities.now c.loop-rows.rows-index c.args.left c.loop-rows.left
+    sym (ends (λ (rows : List RowId). c.args.attrs * two_for_each_three (length rows)) c.args.entities.now
+    c.loop-rows.rows-index c.args.left c.loop-rows.left
     c.loop-rows-test.false c.loop-rows.invariant)

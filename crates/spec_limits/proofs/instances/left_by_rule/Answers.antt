@@ -9,9 +9,11 @@ returns-in_default c =
     let rows = c.rows-item.result in
     let few : c.loop-rows.left < 2 ^ 32 = omega arith in
     let power = c.saturating_pow-choices.ensures ∙ ap (λ n. min (n ^ c.args.vars) (2 ^ 64 - 1)) c.len.ensures in
-    let here = left_after_capped c.loop-rows.left (length rows ^ c.args.vars) c.saturating_pow-choices.result c.left_after.result few
+    let here = left_after_capped c.loop-rows.left (length rows ^ c.args.vars) c.saturating_pow-choices.result
+    c.left_after.result few
     (saturated (length rows ^ c.args.vars) c.saturating_pow-choices.result power) c.left_after.ensures in
-    sym (stops (λ (rows : List RowId). length rows ^ c.args.vars) c.args.entities.now c.loop-rows.rows-index rows c.args.left c.loop-rows.left
+    sym (stops (λ (rows : List RowId). length rows ^ c.args.vars) c.args.entities.now c.loop-rows.rows-index rows
+    c.args.left c.loop-rows.left
     c.loop-rows-test.true c.rows-item.is c.loop-rows.invariant (sym here ∙ c.in_default.is))
 
 pub loop-rows-preserved : goal.loop-rows-preserved
@@ -19,12 +21,15 @@ loop-rows-preserved c =
     let rows = c.rows-item.result in
     let few : c.loop-rows.left < 2 ^ 32 = omega arith in
     let power = c.saturating_pow-choices.ensures ∙ ap (λ n. min (n ^ c.args.vars) (2 ^ 64 - 1)) c.len.ensures in
-    let here = left_after_capped c.loop-rows.left (length rows ^ c.args.vars) c.saturating_pow-choices.result c.left_after.result few
+    let here = left_after_capped c.loop-rows.left (length rows ^ c.args.vars) c.saturating_pow-choices.result
+    c.left_after.result few
     (saturated (length rows ^ c.args.vars) c.saturating_pow-choices.result power) c.left_after.ensures in
-    goes_on (λ (rows : List RowId). length rows ^ c.args.vars) c.args.entities.now c.loop-rows.rows-index rows c.args.left c.loop-rows.left
+    goes_on (λ (rows : List RowId). length rows ^ c.args.vars) c.args.entities.now c.loop-rows.rows-index rows
+    c.args.left c.loop-rows.left
     c.in-Some.rest c.loop-rows-test.true c.rows-item.is c.loop-rows.invariant (sym here ∙ c.in-Some.is)
 
 pub returns : goal.returns
 returns c =
-    sym (ends (λ (rows : List RowId). length rows ^ c.args.vars) c.args.entities.now c.loop-rows.rows-index c.args.left c.loop-rows.left
+    sym (ends (λ (rows : List RowId). length rows ^ c.args.vars) c.args.entities.now c.loop-rows.rows-index
+    c.args.left c.loop-rows.left
     c.loop-rows-test.false c.loop-rows.invariant)

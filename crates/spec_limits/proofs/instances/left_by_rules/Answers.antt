@@ -14,7 +14,8 @@ returns-in_default c =
     let of = rule_at s.relations s.rules c.loop-rule.rule-index rule c.rules-rule-items.ensures.facts within read in
     let here = rule_sum s.relations c.args.lists.now rule c.get-entities.result.now c.requires of c.get-entities.ensures in
     let left = c.left_by_rule.ensures ∙ ap (left_of c.loop-rule.left) (rw (← c.as_slice.ensures) at here) in
-    sym (stops (rule_instances s.relations) s.rules c.loop-rule.rule-index rule c.args.left c.loop-rule.left within read c.loop-rule.invariant
+    sym (stops (rule_instances s.relations) s.rules c.loop-rule.rule-index rule c.args.left c.loop-rule.left within
+    read c.loop-rule.invariant
     (sym left ∙ c.in_default.is))
 
 pub loop-rule-preserved : goal.loop-rule-preserved
@@ -26,7 +27,8 @@ loop-rule-preserved c =
     let of = rule_at s.relations s.rules c.loop-rule.rule-index rule c.rules-rule-items.ensures.facts within read in
     let here = rule_sum s.relations c.args.lists.now rule c.get-entities.result.now c.requires of c.get-entities.ensures in
     let left = c.left_by_rule.ensures ∙ ap (left_of c.loop-rule.left) (rw (← c.as_slice.ensures) at here) in
-    goes_on (rule_instances s.relations) s.rules c.loop-rule.rule-index rule c.args.left c.loop-rule.left c.in-Some.rest within read c.loop-rule.invariant
+    goes_on (rule_instances s.relations) s.rules c.loop-rule.rule-index rule c.args.left c.loop-rule.left
+    c.in-Some.rest within read c.loop-rule.invariant
     (sym left ∙ c.in-Some.is)
 
 pub returns : goal.returns

@@ -11,9 +11,11 @@ returns-then-rules-ge-MOST_RULES c =
 pub returns-then-is_long : goal.returns-then-is_long
 returns-then-is_long c =
     sym (too_long_rule c.args.spec.now c.args.rule.now c.requires
-    (omega (arith, c.if-rules-ge-MOST_RULES.false, ap (length {A = Rule}) c.rules.ensures.value)) (sym c.is_long.ensures ∙ c.if-is_long.true))
+    (omega (arith, c.if-rules-ge-MOST_RULES.false, ap (length {A = Rule}) c.rules.ensures.value))
+    (sym c.is_long.ensures ∙ c.if-is_long.true))
 
 pub returns : goal.returns
 returns c =
     sym (rule_within c.args.spec.now c.args.rule.now c.requires
-    (omega (arith, c.if-rules-ge-MOST_RULES.false, ap (length {A = Rule}) c.rules.ensures.value)) (sym c.is_long.ensures ∙ c.if-is_long.false))
+    (omega (arith, c.if-rules-ge-MOST_RULES.false, ap (length {A = Rule}) c.rules.ensures.value))
+    (sym c.is_long.ensures ∙ c.if-is_long.false))

@@ -12,7 +12,8 @@ returns-then-variables-left c =
     let relations = c.args.relations.now in
     let i = c.loop-relation.relation-index in
     let r = c.relation-item.result in
-    let here = product r c.in_ok-pairs.pairs c.len-in-loop-relation.result c.as_slice-rows.result.now c.as_slice-rows.ensures c.in_ok-pairs.ensures c.len-in-loop-relation.ensures in
+    let here = product r c.in_ok-pairs.pairs c.len-in-loop-relation.result c.as_slice-rows.result.now
+    c.as_slice-rows.ensures c.in_ok-pairs.ensures c.len-in-loop-relation.ensures in
     let more = relation_more relations i r c.loop-relation-test.true c.relation-item.is in
     let most = some_of_all relations (i + 1) in
     sym (lt-ltb 4000000 (order_variables relations)
@@ -23,6 +24,7 @@ loop-relation-preserved c =
     let relations = c.args.relations.now in
     let i = c.loop-relation.relation-index in
     let r = c.relation-item.result in
-    let here = product r c.in_ok-pairs.pairs c.len-in-loop-relation.result c.as_slice-rows.result.now c.as_slice-rows.ensures c.in_ok-pairs.ensures c.len-in-loop-relation.ensures in
+    let here = product r c.in_ok-pairs.pairs c.len-in-loop-relation.result c.as_slice-rows.result.now
+    c.as_slice-rows.ensures c.in_ok-pairs.ensures c.len-in-loop-relation.ensures in
     let more = relation_more relations i r c.loop-relation-test.true c.relation-item.is in
     omega (arith, here, more, c.loop-relation.invariant, c.if-variables-left.false, c.saturating_mul-variables.ensures)

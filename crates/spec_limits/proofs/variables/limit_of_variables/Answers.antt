@@ -5,8 +5,10 @@ use Rattle.spec_limits.proofs.variables.limit_of_variables.Goals as goal
 
 pub returns-then-branch : goal.returns-then-branch
 returns-then-branch c =
-    sym (many c.args.spec.now (sym (ap (λ r. ltb 4000000 (order_variables r)) c.relations.ensures.value) ∙ sym c.in_ok-has_too_many.ensures ∙ c.if-branch.true))
+    sym (many c.args.spec.now (sym (ap (λ r. ltb 4000000 (order_variables r)) c.relations.ensures.value)
+    ∙ sym c.in_ok-has_too_many.ensures ∙ c.if-branch.true))
 
 pub returns : goal.returns
 returns c =
-    sym (not_many c.args.spec.now (sym (ap (λ r. ltb 4000000 (order_variables r)) c.relations.ensures.value) ∙ sym c.in_ok-has_too_many.ensures ∙ c.if-branch.false))
+    sym (not_many c.args.spec.now (sym (ap (λ r. ltb 4000000 (order_variables r)) c.relations.ensures.value)
+    ∙ sym c.in_ok-has_too_many.ensures ∙ c.if-branch.false))

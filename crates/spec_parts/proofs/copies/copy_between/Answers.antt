@@ -21,5 +21,6 @@ returns-clause-copied c =
     (omega (arith, same, s_id, s_in))
     c.index-relations-source.is in
     copied_in relations copy c.rows.result.now c.rows-2.result.now c.index-relations-target.result c.index-relations-source.result
-    (ap (slice_get relations) (sym t_id) ∙ t) (ap (slice_get relations) (sym s_id) ∙ s) c.copy_part.result c.copy_part.ensures.part
+    (ap (slice_get relations) (sym t_id) ∙ t) (ap (slice_get relations) (sym s_id) ∙ s) c.copy_part.result
+    c.copy_part.ensures.part
     c.copy_part.ensures.copied

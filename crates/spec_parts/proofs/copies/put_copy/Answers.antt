@@ -24,7 +24,8 @@ add_copy-requires c =
     let at = read_item whole.copies c.copies.result.now c.args.at c.index-copies-at.result c.copies.ensures.value
     (omega (arith, same, c.requires.within))
     c.index-copies-at.is in
-    copy_fits whole.relations whole.copies c.args.places.now c.args.part.now.relations c.requires.cut c.requires.relations c.requires.facts
+    copy_fits whole.relations whole.copies c.args.places.now c.args.part.now.relations c.requires.cut
+    c.requires.relations c.requires.facts
     c.args.at c.index-copies-at.result c.in_ok-copy.copy c.args.part.now.copies at c.requires.so_far c.in_ok-copy.ensures.part
     c.is_specification.ensures.copies c.in_ok-copy.ensures.copied
 
@@ -35,8 +36,10 @@ returns-clause-so_far c =
     let at = read_item whole.copies c.copies.result.now c.args.at c.index-copies-at.result c.copies.ensures.value
     (omega (arith, same, c.requires.within))
     c.index-copies-at.is in
-    let next = copies_next whole.relations whole.copies c.args.places.now c.args.part.now.relations c.requires.cut c.requires.relations
+    let next = copies_next whole.relations whole.copies c.args.places.now c.args.part.now.relations c.requires.cut
+    c.requires.relations
     c.requires.facts
     c.args.at c.index-copies-at.result c.in_ok-copy.copy c.args.part.now.copies at c.requires.so_far c.in_ok-copy.ensures.part in
     on_ok_weaker c.add_copy.result
-    (λ e. subst (λ (s : Spec). AreCopiesSoFar c.args.places.now whole.copies (c.args.at + 1) s.copies) (sym e) next) c.add_copy.ensures.ok
+    (λ e. subst (λ (s : Spec). AreCopiesSoFar c.args.places.now whole.copies (c.args.at + 1) s.copies) (sym e) next)
+    c.add_copy.ensures.ok

@@ -15,8 +15,10 @@ loop-rel-preserved c =
     let places = c.args.places.now in
     let put = c.in_ok-put_given_of.ensures in
     record {
-      grows = grows_also whole places c.args.part.now c.loop-rel.part c.put_given_of.new.part c.loop-rel.invariant.grows put.grows;
-      added = given_more whole places c.loop-rel.part c.put_given_of.new.part c.loop-rel.rel put.grows c.loop-rel.invariant.added put.given;
+      grows = grows_also whole places c.args.part.now c.loop-rel.part c.put_given_of.new.part
+          c.loop-rel.invariant.grows put.grows;
+      added = given_more whole places c.loop-rel.part c.put_given_of.new.part c.loop-rel.rel put.grows
+          c.loop-rel.invariant.added put.given;
     }
 
 pub returns-clause-given : goal.returns-clause-given

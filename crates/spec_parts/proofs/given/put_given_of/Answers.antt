@@ -45,8 +45,10 @@ loop-entity-preserved c =
     let put = c.in_ok-put_pairs.ensures in
     let has = subst (HasPairs c.put_pairs.new.part.relations c.args.rel.0 (rows_in places c.args.rel.0)) c.of.ensures put.added in
     record {
-      grows = grows_also whole places c.args.part.now c.loop-entity.part c.put_pairs.new.part c.loop-entity.invariant.grows put.grows;
-      added = done_more whole places c.args.index.now c.args.rel.0 c.requires.cut c.requires.index c.loop-entity.part c.put_pairs.new.part
+      grows = grows_also whole places c.args.part.now c.loop-entity.part c.put_pairs.new.part
+          c.loop-entity.invariant.grows put.grows;
+      added = done_more whole places c.args.index.now c.args.rel.0 c.requires.cut c.requires.index c.loop-entity.part
+          c.put_pairs.new.part
           items.result.now
           c.loop-entity.entity-index none items.ensures c.loop-entity-test.true put.grows c.loop-entity.invariant.added has;
     }
@@ -56,6 +58,7 @@ returns-clause-given c =
     let same = ap length c.entities-entity-items.ensures in
     let end : length (entities_in c.args.places.now c.args.rel.0) ≤ c.loop-entity.entity-index = omega
     (arith, same, c.loop-entity-test.false) in
-    all_done c.args.whole.now c.args.places.now c.args.index.now c.args.rel.0 c.requires.cut c.requires.index c.loop-entity.part.relations
+    all_done c.args.whole.now c.args.places.now c.args.index.now c.args.rel.0 c.requires.cut c.requires.index
+    c.loop-entity.part.relations
     c.loop-entity.entity-index
     end c.loop-entity.invariant.added

@@ -8,5 +8,6 @@ abbrev pub invariant-loop-entity : goal.invariant-loop-entity
 invariant-loop-entity l = record {
   grows : Grows l.whole l.places l.initial.part l.part;
   added : (k : ℕ) (ent : EntId) → k < l.entity-index → slice_get (entities_in l.places l.rel.0) k ≡ Some ent
-      → HasPairs l.part.relations l.rel.0 (rows_in l.places l.rel.0) (slice_index_or (slice_index_or l.index l.rel.0 []) ent.0 []);
+      → HasPairs l.part.relations l.rel.0 (rows_in l.places l.rel.0)
+      (slice_index_or (slice_index_or l.index l.rel.0 []) ent.0 []);
 }

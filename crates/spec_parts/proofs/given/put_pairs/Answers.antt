@@ -36,14 +36,16 @@ loop-pair-preserved c =
     let whole = c.args.whole.now in
     let places = c.args.places.now in
     let add = c.in_ok-add_given.ensures in
-    let grows = next_grows whole places c.args.rel.0 c.requires.cut c.requires.within c.rows.result.now c.rows.ensures c.args.pairs.now
+    let grows = next_grows whole places c.args.rel.0 c.requires.cut c.requires.within c.rows.result.now
+    c.rows.ensures c.args.pairs.now
     c.loop-pair.pair-index
     none c.requires.pairs c.loop-pair-test.true c.loop-pair.part c.pair_of_part.result c.loop-pair.invariant.grows.so_far
     c.pair_of_part.ensures
     c.add_given.new.self add.ok add.rules add.copies in
     record {
       grows = grows_also whole places c.args.part.now c.loop-pair.part c.add_given.new.self c.loop-pair.invariant.grows grows;
-      added = next_added whole places c.args.rel.0 c.requires.cut c.requires.within c.rows.result.now c.rows.ensures c.args.pairs.now
+      added = next_added whole places c.args.rel.0 c.requires.cut c.requires.within c.rows.result.now c.rows.ensures
+          c.args.pairs.now
           c.loop-pair.pair-index
           none c.requires.pairs c.loop-pair-test.true c.loop-pair.part c.pair_of_part.result c.loop-pair.invariant.grows.so_far
           c.pair_of_part.ensures
@@ -52,6 +54,7 @@ loop-pair-preserved c =
 
 pub returns-clause-added : goal.returns-clause-added
 returns-clause-added c =
-    pairs_end c.loop-pair.part.relations c.args.rel.0 (rows_in c.args.places.now c.args.rel.0) c.args.pairs.now c.loop-pair.pair-index
+    pairs_end c.loop-pair.part.relations c.args.rel.0 (rows_in c.args.places.now c.args.rel.0) c.args.pairs.now
+    c.loop-pair.pair-index
     c.loop-pair-test.false
     c.loop-pair.invariant.added

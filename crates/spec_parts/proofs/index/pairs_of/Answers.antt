@@ -9,9 +9,11 @@ use Rattle.spec_parts.proofs.index.pairs_of.Goals as goal
 pub row-requires : goal.row-requires
 row-requires c =
     let given = c.args.relation.now.given in
-    let turn = iter_turn deref given c.loop-pair.yielded c.into_iter-pair-iterator.result c.loop-pair.pair-iterator c.next.new.self
+    let turn = iter_turn deref given c.loop-pair.yielded c.into_iter-pair-iterator.result c.loop-pair.pair-iterator
+    c.next.new.self
     c.next.result
-    (c.into_iter-pair-iterator.ensures.into_iter_gives ∙ c.iter-pair-items.ensures.all) c.loop-pair.yielded_by c.in-Some.pair c.in-Some.is
+    (c.into_iter-pair-iterator.ensures.into_iter_gives ∙ c.iter-pair-items.ensures.all) c.loop-pair.yielded_by
+    c.in-Some.pair c.in-Some.is
     c.next.ensures.steps in
     let is = given_pair c.args.relation.now (length c.loop-pair.yielded) c.in-Some.pair.now c.requires turn.1 in
     is.earlier
@@ -30,7 +32,8 @@ loop-pair-preserved c =
     let r = c.args.relation.now in
     let pair = c.in-Some.pair.now in
     let within = entity_within r pair.earlier.0 c.row.result.now c.requires c.row.ensures in
-    let in_lists : c.row.result.now.entity.0 < length c.loop-pair.lists = omega (arith, within, c.loop-pair.invariant.per_entity) in
+    let in_lists : c.row.result.now.entity.0 < length c.loop-pair.lists =
+    omega (arith, within, c.loop-pair.invariant.per_entity) in
     rw (map_push deref c.loop-pair.yielded c.in-Some.pair)
     (indexed_more r (map deref c.loop-pair.yielded) c.loop-pair.lists c.put_pair.new.lists pair c.row.result.now.entity.0
     c.loop-pair.invariant

@@ -2,7 +2,8 @@ use Rattle.spec_parts.proofs.PartWhole.{cuttable_places, rules_of_part, closed_c
 use Rattle.spec_parts.proofs.parts.fill.Goals as goal
 
 pub put_relations-requires-clause-cut : goal.put_relations-requires-clause-cut
-put_relations-requires-clause-cut c = cuttable_places c.args.whole.now c.args.places.now c.is_specification.ensures c.requires.places
+put_relations-requires-clause-cut c = cuttable_places c.args.whole.now c.args.places.now c.is_specification.ensures
+    c.requires.places
 
 pub put_given-requires-clause-cut : goal.put_given-requires-clause-cut
 put_given-requires-clause-cut c = cuttable_places c.args.whole.now c.args.places.now c.is_specification.ensures c.requires.places
@@ -16,7 +17,8 @@ pub put_copies-requires-clause-cut : goal.put_copies-requires-clause-cut
 put_copies-requires-clause-cut c = cuttable_places c.args.whole.now c.args.places.now c.is_specification.ensures c.requires.places
 
 pub put_copies-requires-clause-closed : goal.put_copies-requires-clause-closed
-put_copies-requires-clause-closed c = closed_copies c.args.whole.now c.args.places.now c.is_specification.ensures c.requires.places
+put_copies-requires-clause-closed c = closed_copies c.args.whole.now c.args.places.now c.is_specification.ensures
+    c.requires.places
 
 pub returns : goal.returns
 returns c =

@@ -13,9 +13,11 @@ add_relation-requires c =
     let same = ap length c.relations.ensures.value in
     let at = read_item relations c.relations.result.now c.args.rel.0 index.result c.relations.ensures.value
     (omega (arith, same, c.requires.within)) index.is in
-    let next = parts_put relations c.args.places.now c.args.rel.0 c.args.part.now.relations c.requires.so_far index.result c.in_ok-cut.cut
+    let next = parts_put relations c.args.places.now c.args.rel.0 c.args.part.now.relations c.requires.so_far
+    index.result c.in_ok-cut.cut
     c.rows.result.now c.entities.result.now at c.rows.ensures c.entities.ensures c.in_ok-cut.ensures in
-    parts_are_relations relations c.args.places.now (c.args.rel.0 + 1) (c.args.part.now.relations ++ c.in_ok-cut.cut ∷ []) c.requires.cut
+    parts_are_relations relations c.args.places.now (c.args.rel.0 + 1) (c.args.part.now.relations ++ c.in_ok-cut.cut
+    ∷ []) c.requires.cut
     next
     (omega (arith, c.requires.within))
 
@@ -26,7 +28,8 @@ returns-clause-so_far c =
     let same = ap length c.relations.ensures.value in
     let at = read_item relations c.relations.result.now c.args.rel.0 index.result c.relations.ensures.value
     (omega (arith, same, c.requires.within)) index.is in
-    let next = parts_put relations c.args.places.now c.args.rel.0 c.args.part.now.relations c.requires.so_far index.result c.in_ok-cut.cut
+    let next = parts_put relations c.args.places.now c.args.rel.0 c.args.part.now.relations c.requires.so_far
+    index.result c.in_ok-cut.cut
     c.rows.result.now c.entities.result.now at c.rows.ensures c.entities.ensures c.in_ok-cut.ensures in
     on_ok_weaker c.add_relation.result
     (λ e. subst (λ (s : Spec). ArePartsSoFar relations c.args.places.now (c.args.rel.0 + 1) s.relations) (sym e) next)

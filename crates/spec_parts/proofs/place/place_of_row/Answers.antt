@@ -3,7 +3,8 @@ use Rattle.spec_parts.proofs.place.place_of_row.Goals as goal
 
 pub unreachable-requires : goal.unreachable-requires
 unreachable-requires c =
-    missed (λ x. x.0) c.args.rows.now c.args.row c.in-Err.field-0 (rows_rise c.args.rows.now c.requires.ascend) c.in-Err.ensures.position
+    missed (λ x. x.0) c.args.rows.now c.args.row c.in-Err.field-0 (rows_rise c.args.rows.now c.requires.ascend)
+    c.in-Err.ensures.position
     c.requires.listed
 
 pub returns : goal.returns

@@ -8,7 +8,8 @@ add_rule-requires c =
     let items = c.rules-rule-items in
     let at = read_item rules items.result.now c.loop-rule.rule-index c.rule-item.result items.ensures.value c.loop-rule-test.true
     c.rule-item.is in
-    rule_fits c.args.part.now c.loop-rule.part rules c.loop-rule.rule-index c.rule-item.result c.in_ok-copied_rule.field-0 c.requires.rules
+    rule_fits c.args.part.now c.loop-rule.part rules c.loop-rule.rule-index c.rule-item.result
+    c.in_ok-copied_rule.field-0 c.requires.rules
     at
     c.in_ok-copied_rule.ensures c.loop-rule.invariant
 

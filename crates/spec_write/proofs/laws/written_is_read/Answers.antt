@@ -16,7 +16,8 @@ read_again : Laws → (source : List ℕ) (tree : SpecTree) → ReadsSpec source
     → (read : SpecTree) × ReadsSpec (text_of (spec_pieces tree)) read × (unlined_spec read ≡ unlined_spec tree)
 read_again laws source tree h =
     let r : IsRewritten SpellsSpec spec_pieces unlined_spec = rewritten_spec laws in
-    let t : HasTokens (spec_pieces tree) = laws.tokens (spec_pieces tree) (r.whole tree h.lexemes (tokens_of_text source h.lexemes h.tokens) h.spelled) in
+    let t : HasTokens (spec_pieces tree) = laws.tokens (spec_pieces tree)
+    (r.whole tree h.lexemes (tokens_of_text source h.lexemes h.tokens) h.spelled) in
     let s : Respelled SpellsSpec unlined_spec tree t.lexemes = r.again tree h.lexemes t.lexemes h.spelled t.same in
     (s.tree, record { utf8 = t.utf8; lexemes = t.lexemes; tokens = t.tokens; spelled = s.spelled }, s.same)
 

@@ -7,6 +7,8 @@ pub loop-item-preserved : goal.loop-item-preserved
 loop-item-preserved g c =
     let separator = separator_pieces c.args.separator in
     let item = c.item-item.result in
-    let one = both_written c.loop-item.into _ _ separator (g.W.Written.pieces item) c.in_ok-write_separator.ensures c.in_ok-write.ensures in
-    many_more (λ y. separator ++ g.W.Written.pieces y) c.args.items.now c.loop-item.item-index item _ _ c.loop-item-test.true c.item-item.is one
+    let one = both_written c.loop-item.into _ _ separator (g.W.Written.pieces item) c.in_ok-write_separator.ensures
+    c.in_ok-write.ensures in
+    many_more (λ y. separator ++ g.W.Written.pieces y) c.args.items.now c.loop-item.item-index item _ _
+    c.loop-item-test.true c.item-item.is one
     ∙ c.loop-item.invariant

@@ -6,4 +6,5 @@ returns-in-Ok-clause-reads c = of_table c.args.name.now c.args.columns.now c.arg
 
 pub returns-in-Err-clause-reads : goal.returns-in-Err-clause-reads
 returns-in-Err-clause-reads c =
-    of_fault c.args.name.now c.args.columns.now c.args.bytes.now c.in-Err.fault c.table_refusal.result c.in-Err.ensures.exact c.table_refusal.ensures
+    of_fault c.args.name.now c.args.columns.now c.args.bytes.now c.in-Err.fault c.table_refusal.result
+    c.in-Err.ensures.exact c.table_refusal.ensures

@@ -7,4 +7,5 @@ use Rattle.text_grammar.proofs.read.listed.Given as goal
 abbrev pub invariant-loop : goal.invariant-loop
 invariant-loop g l =
     listed (Words.is_fixed l.kind l.text) g.R.Rule.reader (map lexeme_of l.tokens)
-    ≡ prepend l.items (many_within (l.end - l.counter) (Words.is_fixed l.kind l.text) (after (Words.is_fixed l.kind l.text) g.R.Rule.reader) (map lexeme_of l.rest))
+    ≡ prepend l.items (many_within (l.end - l.counter) (Words.is_fixed l.kind l.text)
+    (after (Words.is_fixed l.kind l.text) g.R.Rule.reader) (map lexeme_of l.rest))

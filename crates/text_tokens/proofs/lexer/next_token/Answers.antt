@@ -16,7 +16,8 @@ returns c =
     let inside : start < length source = omega (arith, within, length-drop at source) in
     let e : c.gap_len.result ≡ start - at = omega arith in
     let lines : c.line_past.result ≡ line_after (take start source) =
-    c.line_past.ensures ∙ ap (λ n. min (n + count_by (λ c. c == 10) (take (start - at) (drop at source))) 4294967295) c.requires.line ∙ line_to source at start behind in
+    c.line_past.ensures ∙ ap (λ n. min (n + count_by (λ c. c == 10) (take (start - at) (drop at source))) 4294967295)
+    c.requires.line ∙ line_to source at start behind in
     token_found source at start c.kind_and_len-kind.result.1 _ behind inside
     (simp take_rest at c.kind_and_len-kind.ensures.within)
     (sym gap ∙ drop-drop c.gap_len.result at source)

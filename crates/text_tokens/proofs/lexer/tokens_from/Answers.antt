@@ -13,7 +13,8 @@ loop-token-preserved c =
     record {
       within = c.in-Some.ensures.within;
       line = c.line_past-line-in-Some.ensures ∙ next_line source at (lexeme_of t) c.in-Some.ensures;
-      rest = λ ts rest. subst P (sym (found_more c.loop-token.found t ts) ∙ ap (λ xs. map lexeme_of xs ++ ts) (sym c.in_ok-push.ensures.ok))
+      rest = λ ts rest. subst P (sym (found_more c.loop-token.found t ts) ∙ ap (λ xs. map lexeme_of xs ++ ts)
+          (sym c.in_ok-push.ensures.ok))
           (c.loop-token.invariant.rest (lexeme_of t ∷ ts) (token_more source at (lexeme_of t) c.in-Some.ensures ts rest));
     }
 

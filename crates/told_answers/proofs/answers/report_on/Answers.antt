@@ -16,4 +16,5 @@ returns-in-Ok-clause-answer g c =
 
 pub returns-in-Err-clause-too_many : goal.returns-in-Err-clause-too_many
 returns-in-Err-clause-too_many g c =
-    too_many_told c.args.spec.now c.args.question.now c.in-Err.fault c.of_ask.result c.in-Err.ensures.too_many c.of_ask.ensures.due
+    too_many_told c.args.spec.now c.args.question.now c.in-Err.fault c.of_ask.result c.in-Err.ensures.too_many
+    c.of_ask.ensures.due

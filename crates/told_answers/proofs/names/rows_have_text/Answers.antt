@@ -6,7 +6,8 @@ use Rattle.told_answers.proofs.names.rows_have_text.Goals as goal
 
 pub loop-place-preserved : goal.loop-place-preserved
 loop-place-preserved c = record {
-  texts = All-more (λ (n : Row). IsUtf8 n.name) c.args.rows.now c.loop-place.place c.index-rows-place.result c.loop-place-test.true
+  texts = All-more (λ (n : Row). IsUtf8 n.name) c.args.rows.now c.loop-place.place c.index-rows-place.result
+      c.loop-place-test.true
       c.loop-place.invariant.texts (subst IsUtf8 c.bytes.ensures.value c.bytes.ensures.utf8);
 }
 

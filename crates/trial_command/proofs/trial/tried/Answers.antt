@@ -11,14 +11,17 @@ loop-place-init g c = none_so_far c.args.size c.args.spec.now c.args.questions.n
 pub returns-in-Err-clause-job : goal.returns-in-Err-clause-job
 returns-in-Err-clause-job g c =
     past_limit c.args.size c.args.spec.now c.args.questions.now c.loop-place.place c.index-questions-place.result c.in-Err.trouble
-    (slice_get_read c.args.questions.now (length c.args.questions.now) c.loop-place.place c.index-questions-place.result refl c.loop-place-test.true c.index-questions-place.is)
+    (slice_get_read c.args.questions.now (length c.args.questions.now) c.loop-place.place
+    c.index-questions-place.result refl c.loop-place-test.true c.index-questions-place.is)
     c.in-Err.ensures.too_many
 
 pub returns-then-not-is_decided-clause-job : goal.returns-then-not-is_decided-clause-job
 returns-then-not-is_decided-clause-job g c =
-    spent_told c.args.size c.args.spec.now c.args.questions.now c.loop-place.place (string_bytes c.loop-place.summary) c.index-questions-place.result
+    spent_told c.args.size c.args.spec.now c.args.questions.now c.loop-place.place
+    (string_bytes c.loop-place.summary) c.index-questions-place.result
     c.in-Ok-report_on.report c.told_report.result c.loop-place.invariant
-    (slice_get_read c.args.questions.now (length c.args.questions.now) c.loop-place.place c.index-questions-place.result refl c.loop-place-test.true c.index-questions-place.is)
+    (slice_get_read c.args.questions.now (length c.args.questions.now) c.loop-place.place
+    c.index-questions-place.result refl c.loop-place-test.true c.index-questions-place.is)
     c.in-Ok-report_on.ensures.answer (ap is_decided (sym c.kind.ensures) ∙ sym c.is_decided.ensures ∙ c.if-not-is_decided.true)
     c.told_report.ensures.told c.told_report.ensures.memory
 
@@ -30,12 +33,16 @@ returns-then-not-is_decided-clause-not_words g c = not_the_words c.told_report.r
 
 pub loop-place-preserved : goal.loop-place-preserved
 loop-place-preserved g c =
-    one_more c.args.size c.args.spec.now c.args.questions.now c.loop-place.place c.index-questions-place.result c.in-Ok-report_on.report
+    one_more c.args.size c.args.spec.now c.args.questions.now c.loop-place.place c.index-questions-place.result
+    c.in-Ok-report_on.report
     (string_bytes c.loop-place.summary) (string_bytes c.note.new.summary) c.loop-place.invariant
-    (slice_get_read c.args.questions.now (length c.args.questions.now) c.loop-place.place c.index-questions-place.result refl c.loop-place-test.true c.index-questions-place.is)
-    c.in-Ok-report_on.ensures.answer (ap is_decided (sym c.kind.ensures) ∙ sym c.is_decided.ensures ∙ c.if-not-is_decided.false) c.in-Ok-note.ensures
+    (slice_get_read c.args.questions.now (length c.args.questions.now) c.loop-place.place
+    c.index-questions-place.result refl c.loop-place-test.true c.index-questions-place.is)
+    c.in-Ok-report_on.ensures.answer (ap is_decided (sym c.kind.ensures) ∙ sym c.is_decided.ensures
+    ∙ c.if-not-is_decided.false) c.in-Ok-note.ensures
 
 pub returns-clause-job : goal.returns-clause-job
 returns-clause-job g c settled =
-    all_summed c.args.size c.args.spec.now c.args.questions.now c.loop-place.place (string_bytes c.loop-place.summary) c.bytes_of.result
+    all_summed c.args.size c.args.spec.now c.args.questions.now c.loop-place.place
+    (string_bytes c.loop-place.summary) c.bytes_of.result
     c.loop-place.invariant c.loop-place-test.false c.bytes_of.ensures

@@ -7,4 +7,5 @@ pub returns : goal.returns
 unfolding questions
 returns c =
     on_ok_weaker c.put-4.result
-    (λ put. four_more _ _ _ _ _ _ _ _ _ c.in_ok-put.ensures.ok c.in_ok-put-2.ensures.ok c.in_ok-put-3.ensures.ok put) c.put-4.ensures.ok
+    (λ put. four_more _ _ _ _ _ _ _ _ _ c.in_ok-put.ensures.ok c.in_ok-put-2.ensures.ok c.in_ok-put-3.ensures.ok put)
+    c.put-4.ensures.ok

@@ -7,5 +7,6 @@ pub returns : goal.returns
 unfolding tables
 returns c =
     on_ok_weaker c.put_table-5.result
-    (λ put. five_more _ _ _ _ _ _ _ _ _ _ _ c.in_ok-put_table.ensures c.in_ok-put_table-2.ensures c.in_ok-put_table-3.ensures c.in_ok-put_table-4.ensures put)
+    (λ put. five_more _ _ _ _ _ _ _ _ _ _ _ c.in_ok-put_table.ensures c.in_ok-put_table-2.ensures
+    c.in_ok-put_table-3.ensures c.in_ok-put_table-4.ensures put)
     c.put_table-5.ensures

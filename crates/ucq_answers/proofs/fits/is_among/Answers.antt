@@ -11,7 +11,8 @@ pub loop-term-preserved : goal.loop-term-preserved
 loop-term-preserved c =
     let P : Term → Type 0 = λ term. term ≡ Var c.args.var → ⊥ in
     let here : P c.term-item.result = λ is. false≢true (c.if-is_variable.ensures.1 is) in
-    All-more P c.args.terms.now c.loop-term.term-index c.term-item.result c.loop-term-test.true c.loop-term.invariant (subst P c.term-item.is here)
+    All-more P c.args.terms.now c.loop-term.term-index c.term-item.result c.loop-term-test.true c.loop-term.invariant
+    (subst P c.term-item.is here)
 
 pub returns : goal.returns
 returns c =

@@ -11,10 +11,12 @@ on_true false P from = tt
 
 pub returns-clause-fits : goal.returns-clause-fits
 returns-clause-fits c =
-    let told = subst (λ (l : List Disjunct). IsTrue c.are_disjuncts.result ↔ All IsDisjunct l) c.as_slice.ensures c.are_disjuncts.ensures in
+    let told = subst (λ (l : List Disjunct). IsTrue c.are_disjuncts.result ↔ All IsDisjunct l) c.as_slice.ensures
+    c.are_disjuncts.ensures in
     on_true c.are_disjuncts.result (IsQuery c.args.query.now) told.0
 
 pub returns-clause-all : goal.returns-clause-all
 returns-clause-all c = λ all.
-    let told = subst (λ (l : List Disjunct). IsTrue c.are_disjuncts.result ↔ All IsDisjunct l) c.as_slice.ensures c.are_disjuncts.ensures in
+    let told = subst (λ (l : List Disjunct). IsTrue c.are_disjuncts.result ↔ All IsDisjunct l) c.as_slice.ensures
+    c.are_disjuncts.ensures in
     told.1 all

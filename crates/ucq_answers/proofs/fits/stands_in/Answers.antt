@@ -11,7 +11,8 @@ pub loop-atom-preserved : goal.loop-atom-preserved
 loop-atom-preserved c =
     let P : Atom → Type 0 = λ atom. Contains atom.terms (Var c.args.var) → ⊥ in
     let here : P c.atom-item.result = λ is. false≢true (c.if-stands_at.ensures.1 is) in
-    All-more P c.args.atoms.now c.loop-atom.atom-index c.atom-item.result c.loop-atom-test.true c.loop-atom.invariant (subst P c.atom-item.is here)
+    All-more P c.args.atoms.now c.loop-atom.atom-index c.atom-item.result c.loop-atom-test.true c.loop-atom.invariant
+    (subst P c.atom-item.is here)
 
 pub returns : goal.returns
 returns c =

@@ -9,4 +9,11 @@ pub returns-clause-matched : goal.returns-clause-matched
 returns-clause-matched c = λ q instance tuple m is.
     let inside = slice_get_within q.disjuncts m.disjunct is.disjunct is.is_disjunct in
     let there = get_or_from_slice_get q.disjuncts m.disjunct is.disjunct is.disjunct is.is_disjunct in
-    record { disjunct = is.disjunct; is_disjunct = (m.disjunct, inside, there); values = m.values; meets = is.meets; is_head = is.is_head }
+    record {
+      disjunct = is.disjunct;
+      is_disjunct = (m.disjunct, inside, there);
+      values = m.values;
+      meets =
+          is.meets;
+      is_head = is.is_head;
+    }

@@ -6,23 +6,33 @@ use Rattle.ucq_answers.proofs.Matches.{is_match, no_head, none_unfit}
 use Rattle.ucq_answers.proofs.matching.disjunct_match.Goals as goal
 
 pub returns-in_default : goal.returns-in_default
-returns-in_default c = no_head c.args.relations.now c.args.planned.now c.args.tuple.now (sym c.in_default.is ∙ c.in_ok-values.ensures)
+returns-in_default c = no_head c.args.relations.now c.args.planned.now c.args.tuple.now
+    (sym c.in_default.is ∙ c.in_ok-values.ensures)
 
 pub returns-in_default-3 : goal.returns-in_default-3
 returns-in_default-3 c = λ _.
     let instance = c.args.relations.now in
     let d = c.args.planned.now in
     let tuple = c.args.tuple.now in
-    let met = subst (IsMetFound instance d tuple) c.in-Some-2.is (c.in_ok-values-2.ensures tuple (sym c.in_ok-values.ensures ∙ c.in-Some.is)) in
+    let met = subst (IsMetFound instance d tuple) c.in-Some-2.is
+    (c.in_ok-values-2.ensures tuple (sym c.in_ok-values.ensures ∙ c.in-Some.is)) in
     let told = subst (AreEntities instance c.in-Some-2.values c.atoms.result.now) c.in_default-3.is c.in_ok-entities.ensures in
-    none_unfit instance d tuple c.in-Some-2.values met (subst (λ (l : List Atom). HasUnfit instance c.in-Some-2.values l) c.atoms.ensures told)
+    none_unfit instance d tuple c.in-Some-2.values met
+    (subst (λ (l : List Atom). HasUnfit instance c.in-Some-2.values l) c.atoms.ensures told)
 
 pub returns : goal.returns
 returns c =
     let instance = c.args.relations.now in
     let d = c.args.planned.now in
     let tuple = c.args.tuple.now in
-    let met = subst (IsMetFound instance d tuple) c.in-Some-2.is (c.in_ok-values-2.ensures tuple (sym c.in_ok-values.ensures ∙ c.in-Some.is)) in
+    let met = subst (IsMetFound instance d tuple) c.in-Some-2.is
+    (c.in_ok-values-2.ensures tuple (sym c.in_ok-values.ensures ∙ c.in-Some.is)) in
     let told = subst (AreEntities instance c.in-Some-2.values c.atoms.result.now) c.in-Some-3.is c.in_ok-entities.ensures in
-    is_match instance d c.args.number tuple c.in-Some-2.values record { disjunct = c.args.number; entities = c.in-Some-3.entities; values = c.in_ok-values-3.values } refl
-    c.in_ok-values-3.ensures met (subst (λ (l : List Atom). AllZip (FitsAt instance c.in-Some-2.values) l c.in-Some-3.entities) c.atoms.ensures told)
+    is_match instance d c.args.number tuple c.in-Some-2.values record {
+      disjunct = c.args.number;
+      entities =
+          c.in-Some-3.entities;
+      values = c.in_ok-values-3.values;
+    } refl
+    c.in_ok-values-3.ensures met (subst (λ (l : List Atom). AllZip (FitsAt instance c.in-Some-2.values) l
+    c.in-Some-3.entities) c.atoms.ensures told)

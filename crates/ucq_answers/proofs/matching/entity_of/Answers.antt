@@ -10,5 +10,6 @@ returns c = λ d is.
     let atom = c.args.atom.now in
     let b = c.args.values.now in
     let ents = c.candidates-ent-items.result.now in
-    let none = subst (All (NoFit instance atom b)) (take_all c.loop-ent.ent-index ents c.loop-ent-test.false) c.loop-ent.invariant in
+    let none = subst (All (NoFit instance atom b)) (take_all c.loop-ent.ent-index ents c.loop-ent-test.false)
+    c.loop-ent.invariant in
     fits_none instance atom b ents c.candidates-ent-items.ensures none d is

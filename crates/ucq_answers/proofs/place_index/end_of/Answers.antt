@@ -9,4 +9,5 @@ returns-clause-at c =
     let rank = rank_to c.args.tuples.now c.args.place c.args.value.now in
     let ents = c.args.by_value.now in
     IsPartitionPoint-from_clause (λ y. leb (rank y) 1) ents c.partition_point.result c.partition_point.ensures.partitioned
-    (IsPartitionedBy-leb rank ents 1 (ranks_rise c.args.tuples.now c.args.place ents c.args.value.now c.requires)) (λ a r q k. search rules)
+    (IsPartitionedBy-leb rank ents 1 (ranks_rise c.args.tuples.now c.args.place ents c.args.value.now c.requires))
+    (λ a r q k. search rules)

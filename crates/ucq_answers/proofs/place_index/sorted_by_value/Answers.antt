@@ -11,9 +11,11 @@ pub returns : goal.returns
 returns c =
     let tuples = c.args.tuples.now in
     let place = c.args.place in
-    let given = c.in_ok-extend_from_slice.ensures.items ∙ ap (λ (l : List EntId). l ++ c.args.all.now) c.in_ok-ents.ensures.items in
+    let given = c.in_ok-extend_from_slice.ensures.items ∙ ap (λ (l : List EntId). l ++ c.args.all.now)
+    c.in_ok-ents.ensures.items in
     let answers = always_returns_same _ (λ a r. is_lt r ≡ is_lower tuples place a.0.now a.1.0.now) _ (λ a r q k. search rules) in
     record {
       sorted = c.in_ok-sort_by.ensures.sorted (is_lower tuples place) (lower_orders tuples place) answers;
-      all = λ at tuple is. Contains-permutation c.args.all.now _ _ (rw given at c.in_ok-sort_by.ensures.permutation) (c.requires at tuple is);
+      all = λ at tuple is. Contains-permutation c.args.all.now _ _ (rw given at c.in_ok-sort_by.ensures.permutation)
+          (c.requires at tuple is);
     }

@@ -3,10 +3,12 @@ use Rattle.ucq_answers.proofs.place_index.span_of.Goals as goal
 
 pub returns-clause-order : goal.returns-clause-order
 returns-clause-order c =
-    in_order c.args.tuples.now c.args.place c.args.value.now c.args.by_value.now c.start_of-start.result c.end_of.result c.start_of-start.ensures.bound
+    in_order c.args.tuples.now c.args.place c.args.value.now c.args.by_value.now c.start_of-start.result
+    c.end_of.result c.start_of-start.ensures.bound
     c.start_of-start.ensures.at c.end_of.ensures.at
 
 pub returns-clause-alike : goal.returns-clause-alike
 returns-clause-alike c =
-    alike_tuples c.args.tuples.now c.args.place c.args.by_value.now c.args.value.now c.start_of-start.result c.end_of.result c.requires
+    alike_tuples c.args.tuples.now c.args.place c.args.by_value.now c.args.value.now c.start_of-start.result
+    c.end_of.result c.requires
     c.start_of-start.ensures.bound c.end_of.ensures.bound c.start_of-start.ensures.at c.end_of.ensures.at

@@ -6,4 +6,5 @@ use Rattle.ucq_answers.proofs.relation_index.shorter.Goals as goal
 pub returns-then-found-best : goal.returns-then-found-best
 returns-then-found-best c at tuple next is_tuple fits =
     let asked = sym (c.in-Some.ensures ∙ ap (asked_at c.args.values.now c.args.terms.now) c.place.ensures) in
-    c.alike-found.ensures at tuple is_tuple (asked_has c.args.values.now next c.args.terms.now tuple c.args.index.now.place c.in-Some.value.now asked fits)
+    c.alike-found.ensures at tuple is_tuple (asked_has c.args.values.now next c.args.terms.now tuple
+    c.args.index.now.place c.in-Some.value.now asked fits)

@@ -8,4 +8,5 @@ decreases-collect l = length l.steps.now
 
 abbrev pub invariant-loop-ent : goal.invariant-loop-ent
 invariant-loop-ent l =
-    Adds (IsHeadBelow l.relations l.tests l.head l.atom l.rest l.values (take l.ent-index l.ent-items)) l.initial.answers l.answers false
+    Adds (IsHeadBelow l.relations l.tests l.head l.atom l.rest l.values (take l.ent-index l.ent-items))
+    l.initial.answers l.answers false

@@ -13,7 +13,14 @@ returns c = λ head is.
     let steps = c.args.steps.now in
     let b = c.args.values.now in
     let found : List (Option Value) = c.in-Some.field-0 in
-    let solution : IsSolution instance tests steps b found = subst (IsFound instance tests steps b) c.in-Some.is c.in_ok-find.ensures in
-    adds_one (IsHeadOfSome instance tests head steps b) c.args.answers.now c.add.new.self c.args.tuple c.in_ok-add.field-0 c.in_ok-add.ensures.bound c.in_ok-add.ensures.tuples
-    c.in_ok-add.ensures.full record { values = found; solution = solution; is_head = head_of_each instance tests head steps b found c.args.tuple is solution }
+    let solution : IsSolution instance tests steps b found = subst (IsFound instance tests steps b) c.in-Some.is
+    c.in_ok-find.ensures in
+    adds_one (IsHeadOfSome instance tests head steps b) c.args.answers.now c.add.new.self c.args.tuple
+    c.in_ok-add.field-0 c.in_ok-add.ensures.bound c.in_ok-add.ensures.tuples
+    c.in_ok-add.ensures.full record {
+      values = found;
+      solution = solution;
+      is_head = head_of_each instance tests head
+          steps b found c.args.tuple is solution;
+    }
     (λ other some. head_is instance tests head steps b c.args.tuple other is some)

@@ -15,12 +15,14 @@ returns-then-not-look_at-clause-goes c = goes_on _ _ _ _ _ _ c.loop-at.invariant
 
 pub loop-at-smaller : goal.loop-at-smaller
 loop-at-smaller c =
-    going_falls _ _ _ _ _ _ c.loop-at.invariant _ (ap (option_map (λ no. no.0)) c.in-Some.is) (c.are_watchers.ensures.once c.args.lit) _ c.next_watcher-at.ensures
+    going_falls _ _ _ _ _ _ c.loop-at.invariant _ (ap (option_map (λ no. no.0)) c.in-Some.is)
+    (c.are_watchers.ensures.once c.args.lit) _ c.next_watcher-at.ensures
     _ _ (c.look_at.ensures.sees_to c.if-not-look_at.false)
 
 pub loop-at-preserved : goal.loop-at-preserved
 loop-at-preserved c =
-    going_on _ _ _ _ _ _ c.loop-at.invariant _ (ap (option_map (λ no. no.0)) c.in-Some.is) (c.are_watchers.ensures.once c.args.lit) _ c.next_watcher-at.ensures
+    going_on _ _ _ _ _ _ c.loop-at.invariant _ (ap (option_map (λ no. no.0)) c.in-Some.is)
+    (c.are_watchers.ensures.once c.args.lit) _ c.next_watcher-at.ensures
     _ _ c.look_at.ensures.goes c.look_at.ensures.others (c.look_at.ensures.sees_to c.if-not-look_at.false)
 
 pub returns-clause-all : goal.returns-clause-all

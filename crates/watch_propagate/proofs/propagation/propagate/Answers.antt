@@ -6,14 +6,20 @@ use Rattle.watch_propagate.proofs.propagation.propagate.Goals as goal
 
 pub loop-lit-init : goal.loop-lit-init
 loop-lit-init c =
-    record { rewatched = rewatched_same c.args.arena.now; implies = implies_same c.args.arena.now c.args.trail.now; rule = c.requires.rule }
+    record {
+      rewatched = rewatched_same c.args.arena.now;
+      implies = implies_same c.args.arena.now c.args.trail.now;
+      rule = c.requires.rule;
+    }
 
 pub go_through-requires-clause-within : goal.go_through-requires-clause-within
 go_through-requires-clause-within c =
-    pending_var c.loop-lit.trail c.in-Some.lit c.negated.result c.are_entries.ensures c.negated.ensures (sym c.pending.ensures ∙ c.in-Some.is)
+    pending_var c.loop-lit.trail c.in-Some.lit c.negated.result c.are_entries.ensures c.negated.ensures
+    (sym c.pending.ensures ∙ c.in-Some.is)
 
 pub returns-in-Some-go_through-clause-rewatched : goal.returns-in-Some-go_through-clause-rewatched
-returns-in-Some-go_through-clause-rewatched c = rewatched_on _ _ _ c.loop-lit.invariant.rewatched c.go_through.ensures.goes.rewatched
+returns-in-Some-go_through-clause-rewatched c = rewatched_on _ _ _ c.loop-lit.invariant.rewatched
+    c.go_through.ensures.goes.rewatched
 
 pub returns-in-Some-go_through-clause-implies : goal.returns-in-Some-go_through-clause-implies
 returns-in-Some-go_through-clause-implies c =
@@ -22,17 +28,21 @@ returns-in-Some-go_through-clause-implies c =
 pub pass-requires : goal.pass-requires
 pass-requires c =
     let goes = c.go_through.ensures.goes in
-    let pending = is_pending c.loop-lit.trail c.in-Some.lit c.negated.result c.negated.ensures (sym c.pending.ensures ∙ c.in-Some.is) in
-    pending_within c.go_through.new.trail c.go_through.new.trail.gone _ (still_pending _ _ c.loop-lit.trail c.go_through.new.trail c.negated.result goes pending)
+    let pending = is_pending c.loop-lit.trail c.in-Some.lit c.negated.result c.negated.ensures
+    (sym c.pending.ensures ∙ c.in-Some.is) in
+    pending_within c.go_through.new.trail c.go_through.new.trail.gone _
+    (still_pending _ _ c.loop-lit.trail c.go_through.new.trail c.negated.result goes pending)
 
 pub loop-lit-smaller : goal.loop-lit-smaller
 loop-lit-smaller c =
-    fewer_left _ _ c.loop-lit.trail _ _ c.in-Some.lit c.are_entries.ensures c.go_through.ensures.goes c.pass.ensures (sym c.pending.ensures ∙ c.in-Some.is)
+    fewer_left _ _ c.loop-lit.trail _ _ c.in-Some.lit c.are_entries.ensures c.go_through.ensures.goes c.pass.ensures
+    (sym c.pending.ensures ∙ c.in-Some.is)
 
 pub loop-lit-preserved : goal.loop-lit-preserved
 loop-lit-preserved c =
     let goes = c.go_through.ensures.goes in
-    let pending = is_pending c.loop-lit.trail c.in-Some.lit c.negated.result c.negated.ensures (sym c.pending.ensures ∙ c.in-Some.is) in
+    let pending = is_pending c.loop-lit.trail c.in-Some.lit c.negated.result c.negated.ensures
+    (sym c.pending.ensures ∙ c.in-Some.is) in
     let later = still_pending _ _ c.loop-lit.trail c.go_through.new.trail c.negated.result goes pending in
     rw c.pass.ensures
     (record {

@@ -10,10 +10,12 @@ use Rattle.watch_propagate.proofs.WalkLits.{negation_var, value_true, value_fals
 use Rattle.watch_propagate.proofs.truths.truth.Goals as goal
 
 -- the value that was read is the one that the trail's literals give
-value_read : (t : Trail) (lit : Lit) (values : List (Option Bool)) (var : ℕ) (r : Option Bool) → values ≡ values_of t → var ≡ var_of lit
+value_read : (t : Trail) (lit : Lit) (values : List (Option Bool)) (var : ℕ) (r : Option Bool) → values ≡ values_of t
+    → var ≡ var_of lit
     → slice_get values var ≡ Some r → value_in (lits_of t) (var_of lit) ≡ r
 value_read t lit values var r all of read =
-    is_value t (var_of lit) r (ap (slice_get (values_of t)) (sym of) ∙ ap (λ (vs : List (Option Bool)). slice_get vs var) (sym all) ∙ read)
+    is_value t (var_of lit) r (ap (slice_get (values_of t)) (sym of)
+    ∙ ap (λ (vs : List (Option Bool)). slice_get vs var) (sym all) ∙ read)
 
 differ : (b negative : Bool) → not (beq b negative) ≡ true → not negative ≡ b
 differ true true e = absurd (false≢true e)
@@ -29,7 +31,8 @@ agree false false e = refl
 
 pub value-requires : goal.value-requires
 value-requires c =
-    let many : length c.values.result.now ≡ c.args.trail.now.vars = ap length c.values.ensures ∙ as_many_values c.args.trail.now in
+    let many : length c.values.result.now ≡ c.args.trail.now.vars = ap length c.values.ensures
+    ∙ as_many_values c.args.trail.now in
     omega (arith, c.requires, c.var.ensures.value, many)
 
 pub returns-in_err-value-clause-open : goal.returns-in_err-value-clause-open
@@ -48,12 +51,14 @@ returns-in_err-value-clause-free c =
 
 pub returns-clause-holds : goal.returns-clause-holds
 returns-clause-holds c =
-    let some = value_read c.args.trail.now c.args.lit _ _ _ c.values.ensures c.var.ensures.value c.value.ensures ∙ c.in_ok-value.was in
+    let some = value_read c.args.trail.now c.args.lit _ _ _ c.values.ensures c.var.ensures.value c.value.ensures
+    ∙ c.in_ok-value.was in
     λ e. value_true (lits_of c.args.trail.now) c.args.lit c.in_ok-value.value some
     (ap not (sym c.negative.ensures) ∙ differ c.in_ok-value.value c.negative.result (same_Some _ true e))
 
 pub returns-clause-fails : goal.returns-clause-fails
 returns-clause-fails c =
-    let some = value_read c.args.trail.now c.args.lit _ _ _ c.values.ensures c.var.ensures.value c.value.ensures ∙ c.in_ok-value.was in
+    let some = value_read c.args.trail.now c.args.lit _ _ _ c.values.ensures c.var.ensures.value c.value.ensures
+    ∙ c.in_ok-value.was in
     λ e. value_false (lits_of c.args.trail.now) c.args.lit c.in_ok-value.value some
     (sym c.negative.ensures ∙ agree c.in_ok-value.value c.negative.result (same_Some _ false e))

@@ -18,7 +18,8 @@ loop-found-init g c =
 pub loop-found-preserved : goal.loop-found-preserved
 loop-found-preserved g c = record {
   frame = c.turn.ensures.frame ∙ c.loop-found.invariant.frame;
-  counted = counted_across c.args.state.now c.loop-found.state _ c.turn.new.state.steps c.loop-found.invariant.frame c.loop-found.invariant.counted
+  counted = counted_across c.args.state.now c.loop-found.state _ c.turn.new.state.steps c.loop-found.invariant.frame
+      c.loop-found.invariant.counted
       (rw c.in-Ok-None.field-0-is at c.in-Ok-None.ensures.counted);
   units = c.turn.ensures.units ∙ c.loop-found.invariant.units;
   kept = rw c.in-Ok-None.field-0-is at c.in-Ok-None.ensures.kept;
@@ -26,8 +27,10 @@ loop-found-preserved g c = record {
 
 pub returns-in-Ok-Some-clause-grown : goal.returns-in-Ok-Some-clause-grown
 returns-in-Ok-Some-clause-grown g c =
-    grown_across c.args.state.now c.loop-found.state _ c.turn.new.state.steps c.loop-found.invariant.frame c.loop-found.invariant.counted c.turn.ensures.grown
+    grown_across c.args.state.now c.loop-found.state _ c.turn.new.state.steps c.loop-found.invariant.frame
+    c.loop-found.invariant.counted c.turn.ensures.grown
 
 pub returns-in-Err-clause-grown : goal.returns-in-Err-clause-grown
 returns-in-Err-clause-grown g c =
-    grown_across c.args.state.now c.loop-found.state _ c.turn.new.state.steps c.loop-found.invariant.frame c.loop-found.invariant.counted c.turn.ensures.grown
+    grown_across c.args.state.now c.loop-found.state _ c.turn.new.state.steps c.loop-found.invariant.frame
+    c.loop-found.invariant.counted c.turn.ensures.grown

@@ -8,7 +8,8 @@ returns-in-Ok-clause-grown c = grown_concluded c.args.state.now c.derive.new.sel
 
 pub returns-in-Ok-clause-found : goal.returns-in-Ok-clause-found
 returns-in-Ok-clause-found c = λ (left : ℕ).
-    answer_derived c.args.state.now c.derive.new.self c.args.goal c.args.lit c.in-Ok.place left c.in-Ok.ensures.ok c.in-Ok.ensures.place c.requires.is_goal
+    answer_derived c.args.state.now c.derive.new.self c.args.goal c.args.lit c.in-Ok.place left c.in-Ok.ensures.ok
+    c.in-Ok.ensures.place c.requires.is_goal
 
 pub returns-in-Err-clause-grown : goal.returns-in-Err-clause-grown
 returns-in-Err-clause-grown c = grown_none _ _ _ c.in-Err.ensures.err

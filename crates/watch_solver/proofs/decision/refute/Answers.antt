@@ -11,7 +11,8 @@ returns-then-is_empty-clause-grown g c = grown_none _ _ _ refl
 pub returns-then-is_empty-clause-found : goal.returns-then-is_empty-clause-found
 returns-then-is_empty-clause-found g c = λ (left : ℕ).
     answer_empty c.args.state.now c.args.goal c.args.conflict left
-    (subst (λ (steps : List Step). IsStepOf steps c.args.conflict []) c.log.ensures.steps (c.is_empty.ensures.empty c.if-is_empty.true))
+    (subst (λ (steps : List Step). IsStepOf steps c.args.conflict []) c.log.ensures.steps
+    (c.is_empty.ensures.empty c.if-is_empty.true))
 
 pub returns-in-Err-clause-grown : goal.returns-in-Err-clause-grown
 returns-in-Err-clause-grown g c = grown_none _ _ _ c.in-Err.ensures.err
@@ -24,5 +25,7 @@ returns-else-is_empty-2-clause-grown g c = grown_concluded c.args.state.now c.re
 
 pub returns-else-is_empty-2-clause-found : goal.returns-else-is_empty-2-clause-found
 returns-else-is_empty-2-clause-found g c = λ (left : ℕ).
-    answer_refuted c.args.state.now c.refute.new.self c.args.goal c.in-Ok.place left c.in-Ok.ensures.ok c.in-Ok.ensures.place c.requires.last
-    (λ empty. c.is_empty-2.ensures.other c.if-is_empty-2.false (subst (λ (steps : List Step). IsStepOf steps c.in-Ok.place []) (sym c.log-2.ensures.steps) empty))
+    answer_refuted c.args.state.now c.refute.new.self c.args.goal c.in-Ok.place left c.in-Ok.ensures.ok
+    c.in-Ok.ensures.place c.requires.last
+    (λ empty. c.is_empty-2.ensures.other c.if-is_empty-2.false
+    (subst (λ (steps : List Step). IsStepOf steps c.in-Ok.place []) (sym c.log-2.ensures.steps) empty))

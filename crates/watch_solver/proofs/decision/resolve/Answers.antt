@@ -16,7 +16,13 @@ returns-then-is_spent-clause-found g c =
     let few = ap (λ (t : Trail). length t.starts) c.trail.ensures in
     let few-2 = ap (λ (t : Trail). length t.starts) c.trail-2.ensures in
     let deep : 0 < length c.args.state.now.trail.starts = omega (arith, few, c.depth.ensures, c.if-depth-goal_level.false) in
-    let above : c.goal_level.result < length c.trail-2.result.now.starts = omega (arith, few, few-2, c.depth.ensures, c.if-depth-goal_level.false) in
+    let above : c.goal_level.result < length c.trail-2.result.now.starts = omega (
+      arith,
+      few,
+      few-2,
+      c.depth.ensures,
+      c.if-depth-goal_level.false,
+    ) in
     answer_spent c.args.state.now c.args.goal c.args.budget.now (c.is_spent.ensures.spent c.if-is_spent.true)
     (is_due c.args.state.now c.args.goal c.args.conflict c.is_state.ensures c.requires.conflict deep
     (subst (λ (t : Trail). IsGoalBelow t c.args.goal) c.trail-2.ensures (c.goal_level.ensures.below above)))

@@ -4,5 +4,6 @@ use Rattle.watch_solver.proofs.model.truths_of.Given as goal
 abbrev pub invariant-loop-var : goal.invariant-loop-var
 invariant-loop-var l = record {
   as_many : length l.truths ≡ length l.values;
-  given : (var : ℕ) (value : Bool) → var < l.var → slice_get l.values var ≡ Some (Some value) → slice_index_or l.truths var false ≡ value;
+  given : (var : ℕ) (value : Bool) → var < l.var → slice_get l.values var ≡ Some (Some value)
+      → slice_index_or l.truths var false ≡ value;
 }

@@ -8,7 +8,8 @@ use Rattle.watch_solver.proofs.search.next_free.Goals as goal
 pub returns-in-Some : goal.returns-in-Some
 returns-in-Some g c =
     let t = c.args.trail.now in
-    let none : slice_get (values_of t) (var_of c.pick.result) ≡ Some None = ap (λ vs. slice_get vs (var_of c.pick.result)) (sym c.values-values.ensures) ∙ c.pick.ensures.free in
+    let none : slice_get (values_of t) (var_of c.pick.result) ≡ Some None =
+    ap (λ vs. slice_get vs (var_of c.pick.result)) (sym c.values-values.ensures) ∙ c.pick.ensures.free in
     record {
       within = is_variable t (var_of c.pick.result) None none;
       free = is_free t (var_of c.pick.result) none;

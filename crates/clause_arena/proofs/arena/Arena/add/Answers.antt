@@ -13,10 +13,17 @@ invariant_of-self-2 c =
     let within = seen_within _ _ _ was.are_slots _ _ _ c.self.view_is c.args.lits.now c.requires.within in
     let long = added_length _ _ _ was.are_slots c.args.lits.now in
     record {
-      are_slots = rw (c.push.ensures.lists, room.lists, links.slots, links.lists) (added _ _ _ was.are_slots c.args.lits.now c.requires.distinct within);
+      are_slots = rw (c.push.ensures.lists, room.lists, links.slots, links.lists)
+          (added _ _ _ was.are_slots c.args.lits.now c.requires.distinct within);
       few_lists = rw links.lists (omega (arith, long, was.few_lists));
       few_slots = c.are_whole.ensures.few;
-      clauses_room = omega (arith, was.clauses_room, room.stays_lists, c.push.ensures.lists_left, c.saturating_sub-self-inside.ensures);
+      clauses_room = omega (
+        arith,
+        was.clauses_room,
+        room.stays_lists,
+        c.push.ensures.lists_left,
+        c.saturating_sub-self-inside.ensures,
+      );
       links_room = omega (arith, was.links_room, links.left, c.saturating_sub-self-inside.ensures);
       lits_room = omega (arith, was.lits_room, room.stays_lits, c.push.ensures.lits_left, c.saturating_sub-self-inside-2.ensures);
     }

@@ -12,8 +12,14 @@ invariant_of-self c =
     let was = c.self.invariant in
     let links = c.drop_slots.ensures in
     record {
-      are_slots = rw (links.slots, links.lists) (dropped _ _ _ was.are_slots (is_left c.args.truths.now c.self.inside.clauses.lists));
-      few_lists = rw links.lists (omega (arith, was.few_lists, length-map c.self.inside.links.lists (filter (stays c.args.truths.now c.self.inside.clauses.lists))));
+      are_slots = rw (links.slots, links.lists)
+          (dropped _ _ _ was.are_slots (is_left c.args.truths.now c.self.inside.clauses.lists));
+      few_lists = rw links.lists (omega (
+        arith,
+        was.few_lists,
+        length-map c.self.inside.links.lists
+            (filter (stays c.args.truths.now c.self.inside.clauses.lists)),
+      ));
       few_slots = rw links.slots was.few_slots;
       clauses_room = was.clauses_room;
       links_room = omega (arith, was.links_room, links.room);

@@ -10,7 +10,8 @@ use Rattle.clause_arena.proofs.arena.Arena.move_watch.Goals as goal
 pub detach-requires : goal.detach-requires
 detach-requires c =
     let some : Lit = record { 0 = 0 } in
-    let can = can_move _ _ _ _ _ _ _ _ _ _ some c.self.invariant.are_slots c.self.view_is c.requires.watched c.get-lits.ensures c.requires.from c.requires.to c.requires.within in
+    let can = can_move _ _ _ _ _ _ _ _ _ _ some c.self.invariant.are_slots c.self.view_is c.requires.watched
+    c.get-lits.ensures c.requires.from c.requires.to c.requires.within in
     rw c.owner_of-left.ensures (stands_left _ _ _ _ _ _ _ _ _ can)
 
 pub exchange-requires-clause-clause : goal.exchange-requires-clause-clause
@@ -24,7 +25,8 @@ attach-requires-clause-below c =
 pub attach-requires-clause-inside : goal.attach-requires-clause-inside
 attach-requires-clause-inside c =
     let some : Lit = record { 0 = 0 } in
-    let can = can_move _ _ _ _ _ _ _ _ _ _ some c.self.invariant.are_slots c.self.view_is c.requires.watched c.get-lits.ensures c.requires.from c.requires.to c.requires.within in
+    let can = can_move _ _ _ _ _ _ _ _ _ _ some c.self.invariant.are_slots c.self.view_is c.requires.watched
+    c.get-lits.ensures c.requires.from c.requires.to c.requires.within in
     rw (c.owner_of-taken.ensures, c.detach.ensures.lists, c.owner_of-left.ensures) (taken_inside _ _ _ _ _ _ _ _ _ can)
 
 pub invariant_of-self : goal.invariant_of-self
@@ -33,12 +35,14 @@ invariant_of-self c =
     let lits = c.get-lits.result.now in
     let slot = 2 * c.args.clause.0 + c.args.from in
     let some : Lit = record { 0 = 0 } in
-    let can = can_move _ _ _ _ _ _ _ _ _ _ some was.are_slots c.self.view_is c.requires.watched c.get-lits.ensures c.requires.from c.requires.to c.requires.within in
+    let can = can_move _ _ _ _ _ _ _ _ _ _ some was.are_slots c.self.view_is c.requires.watched c.get-lits.ensures
+    c.requires.from c.requires.to c.requires.within in
     let left = get_or lits c.args.from some in
     let taken = get_or lits c.args.to some in
     let off : c.detach.new.self.lists ≡ lists_without c.self.inside.links.lists (place_of left) slot =
     c.detach.ensures.lists ∙ ap (λ owner. lists_without c.self.inside.links.lists owner slot) c.owner_of-left.ensures in
-    let on : c.attach.new.self.lists ≡ lists_with (lists_without c.self.inside.links.lists (place_of left) slot) (place_of taken) slot =
+    let on : c.attach.new.self.lists ≡ lists_with (lists_without c.self.inside.links.lists (place_of left) slot)
+    (place_of taken) slot =
     c.attach.ensures.lists ∙ ap (λ owner. lists_with c.detach.new.self.lists owner slot) c.owner_of-taken.ensures
     ∙ ap (λ lists. lists_with lists (place_of taken) slot) off in
     let clauses = c.exchange.ensures.lists lits left taken c.get-lits.ensures can.is_left can.is_taken in
@@ -59,12 +63,14 @@ returns-clause-moved c =
     let lits = c.get-lits.result.now in
     let slot = 2 * c.args.clause.0 + c.args.from in
     let some : Lit = record { 0 = 0 } in
-    let can = can_move _ _ _ _ _ _ _ _ _ _ some was.are_slots c.self.view_is c.requires.watched c.get-lits.ensures c.requires.from c.requires.to c.requires.within in
+    let can = can_move _ _ _ _ _ _ _ _ _ _ some was.are_slots c.self.view_is c.requires.watched c.get-lits.ensures
+    c.requires.from c.requires.to c.requires.within in
     let left = get_or lits c.args.from some in
     let taken = get_or lits c.args.to some in
     let off : c.detach.new.self.lists ≡ lists_without c.self.inside.links.lists (place_of left) slot =
     c.detach.ensures.lists ∙ ap (λ owner. lists_without c.self.inside.links.lists owner slot) c.owner_of-left.ensures in
-    let on : c.attach.new.self.lists ≡ lists_with (lists_without c.self.inside.links.lists (place_of left) slot) (place_of taken) slot =
+    let on : c.attach.new.self.lists ≡ lists_with (lists_without c.self.inside.links.lists (place_of left) slot)
+    (place_of taken) slot =
     c.attach.ensures.lists ∙ ap (λ owner. lists_with c.detach.new.self.lists owner slot) c.owner_of-taken.ensures
     ∙ ap (λ lists. lists_with lists (place_of taken) slot) off in
     let clauses = c.exchange.ensures.lists lits left taken c.get-lits.ensures can.is_left can.is_taken in
@@ -75,7 +81,9 @@ returns-clause-moved c =
       taken = taken;
       is_left = can.is_left;
       is_taken = can.is_taken;
-      clauses = clauses ∙ ap (λ (a : Arena). slice_set a.clauses c.args.clause.0 (slice_set (slice_set lits c.args.from taken) c.args.to left)) c.self.view_is;
+      clauses = clauses ∙ ap (λ (a : Arena). slice_set a.clauses c.args.clause.0
+          (slice_set (slice_set lits c.args.from taken) c.args.to left)) c.self.view_is;
       watchers = ap clauses_of on ∙ moved_watchers _ _ _ _ _ _ _ _ _ can
-          ∙ ap (λ (a : Arena). lists_with (lists_without a.watchers (place_of left) c.args.clause.0) (place_of taken) c.args.clause.0) c.self.view_is;
+          ∙ ap (λ (a : Arena). lists_with (lists_without a.watchers (place_of left) c.args.clause.0) (place_of taken)
+          c.args.clause.0) c.self.view_is;
     }

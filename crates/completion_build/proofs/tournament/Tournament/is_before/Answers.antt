@@ -7,7 +7,8 @@ use Rattle.completion_build.proofs.tournament.Tournament.is_before.Goals as goal
 pub returns-then-first-second-clause-no : goal.returns-then-first-second-clause-no
 returns-then-first-second-clause-no c =
     OnFalse_from _ _ (λ (is : c.puts.result ≡ false).
-    not_put c.pairs_are_decided.ensures.exclude c.args.self.now c.self.inside.rows.now (ap (λ (v : Contest). v.rows) c.self.view_is) (record { 0 = 0 }) c.args.first c.args.second
+    not_put c.pairs_are_decided.ensures.exclude c.args.self.now c.self.inside.rows.now
+    (ap (λ (v : Contest). v.rows) c.self.view_is) (record { 0 = 0 }) c.args.first c.args.second
     c.requires.first c.requires.second (OnFalse_at is c.puts.ensures.no))
 
 pub returns-else-first-second-clause-no : goal.returns-else-first-second-clause-no

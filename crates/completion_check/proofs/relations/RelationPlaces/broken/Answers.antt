@@ -16,7 +16,8 @@ at_turn c = search (rules, iter_turn)
 
 is_pair : (c : In-Some) → IsGivenPair c.args.relation.now c.in-Some.pair.now
 is_pair c =
-    all_at (IsGivenPair c.args.relation.now) c.args.relation.now.given (length c.loop-pair.yielded) c.in-Some.pair.now c.requires.facts.given (at_turn c).1
+    all_at (IsGivenPair c.args.relation.now) c.args.relation.now.given (length c.loop-pair.yielded)
+    c.in-Some.pair.now c.requires.facts.given (at_turn c).1
 
 pub attr-places-requires : goal.attr-places-requires
 attr-places-requires c =
@@ -52,12 +53,14 @@ loop-pair-preserved c = λ k p below at'.
     let later = rw c.attr-places.ensures at c.of.ensures in
     let earlier = rw c.attr-places.ensures at c.of-in-loop-pair.ensures in
     let here : IsInOrder c.args.self.now pair = omega (arith, later, earlier) in
-    each_at_more (λ _. IsInOrder c.args.self.now) c.args.relation.now.given (length c.loop-pair.yielded) pair turn.1 here c.loop-pair.invariant k p
+    each_at_more (λ _. IsInOrder c.args.self.now) c.args.relation.now.given (length c.loop-pair.yielded) pair turn.1
+    here c.loop-pair.invariant k p
     (omega (arith, below, length_push c.loop-pair.yielded c.in-Some.pair)) at'
 
 pub returns-clause-none : goal.returns-clause-none
 returns-clause-none c =
     let end =
-    iter_end deref c.args.relation.now.given c.loop-pair.yielded c.into_iter-pair-iterator.result c.loop-pair.pair-iterator c.next.new.self c.next.result
+    iter_end deref c.args.relation.now.given c.loop-pair.yielded c.into_iter-pair-iterator.result
+    c.loop-pair.pair-iterator c.next.new.self c.next.result
     (cc) c.loop-pair.yielded_by c.in-None.is c.next.ensures.steps in
     λ k p at. c.loop-pair.invariant k p (omega (arith, end.1, slice_get_within c.args.relation.now.given k p at)) at

@@ -15,14 +15,23 @@ loop-attr-preserved c =
     let here = rw (c.as_slice-rows.ensures, c.as_slice.ensures, read) at c.mark-ent.ensures.ranked in
     let within = attr_within r lists attr c.requires.shape c.loop-attr-test.true in
     let room : attr < length ps = omega (arith, c.loop-attr.invariant.room.per_attr) in
-    let was : c.index_mut.result.now ≡ slice_index_or ps attr [] = get_or_read ps attr c.index_mut.result.now room c.index_mut.ensures.value [] in
-    let all : c.mark-ent.result ≡ length (slice_index_or lists attr []) = omega (arith, c.mark-ent.ensures.within, ap length c.as_slice.ensures, ap length read) in
-    let mark : c.mark-ent.result ≡ length (slice_index_or lists attr []) → AreMarked r.rows (slice_index_or lists attr []) c.mark-ent.new.self =
+    let was : c.index_mut.result.now ≡ slice_index_or ps attr [] = get_or_read ps attr c.index_mut.result.now room
+    c.index_mut.ensures.value [] in
+    let all : c.mark-ent.result ≡ length (slice_index_or lists attr []) = omega (
+      arith,
+      c.mark-ent.ensures.within,
+      ap length c.as_slice.ensures,
+      ap length read,
+    ) in
+    let mark : c.mark-ent.result ≡ length (slice_index_or lists attr []) → AreMarked r.rows
+    (slice_index_or lists attr []) c.mark-ent.new.self =
     rw (c.as_slice-rows.ensures, c.as_slice.ensures, read) at c.mark-ent.ensures.marked in
     let marks = mark all in
     record {
-      room = has_places_set r ps attr c.mark-ent.new.self within (c.mark-ent.ensures.room_stays ∙ ap length was) c.loop-attr.invariant.room;
-      ranked = ranked_more r lists attr c.mark-ent.result (c.requires.shape.per_entity attr within) here (omega (arith, ap length read)) c.loop-attr.invariant.ranked;
+      room = has_places_set r ps attr c.mark-ent.new.self within (c.mark-ent.ensures.room_stays ∙ ap length was)
+          c.loop-attr.invariant.room;
+      ranked = ranked_more r lists attr c.mark-ent.result (c.requires.shape.per_entity attr within) here
+          (omega (arith, ap length read)) c.loop-attr.invariant.ranked;
       marked = marked_next r lists ps attr c.mark-ent.new.self room marks c.loop-attr.invariant.marked;
     }
 

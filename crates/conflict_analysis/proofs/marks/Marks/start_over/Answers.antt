@@ -8,4 +8,5 @@ returns c =
     let inside = c.self.inside in
     let rounds : c.fill.new.self.items ≡ replicate (vec_len inside.rounds) 0 = search rules in
     let long : vec_len inside.rounds ≡ length inside.rounds.items = omega (arith, inside.rounds.ok.0) in
-    rw rounds (none_met (vec_len inside.rounds) ∙ ap (λ n. replicate n false) (long ∙ sym (length-map inside.rounds.items _)) ∙ ap (λ bs. replicate (length bs) false) c.self.view_is)
+    rw rounds (none_met (vec_len inside.rounds) ∙ ap (λ n. replicate n false)
+    (long ∙ sym (length-map inside.rounds.items _)) ∙ ap (λ bs. replicate (length bs) false) c.self.view_is)

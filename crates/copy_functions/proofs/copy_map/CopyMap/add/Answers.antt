@@ -9,7 +9,8 @@ use Rattle.copy_functions.proofs.copy_map.CopyMap.add.Goals as goal
 
 equal_of : goal.returns-clause-equal
 equal_of c =
-    let none : first_difference 0 c.args.self.now.places (values_of c.args.target_rows.now c.args.target) (values_of c.args.source_rows.now c.args.source) ≡ None = search rules in
+    let none : first_difference 0 c.args.self.now.places (values_of c.args.target_rows.now c.args.target)
+    (values_of c.args.source_rows.now c.args.source) ≡ None = search rules in
     record {
       in_target = c.requires.target_row;
       in_source = c.requires.source_row;
@@ -26,11 +27,14 @@ returns-clause-copied c = λ were.
     let inside_were : IsCopied (the_view c.self.inside) target_rows source_rows =
     subst (λ (copy : CopyFunction). IsCopied copy target_rows source_rows) (sym c.self.view_is) were in
     let one : IsCopyOf c.self.inside.places target_rows source_rows c.args.target c.args.source =
-    subst (λ (copy : CopyFunction). IsCopyOf copy.places target_rows source_rows c.args.target c.args.source) (sym c.self.view_is) (equal_of c) in
-    copied_more c.self.inside.places target_rows source_rows c.self.inside.sources.items c.put.new.sources.items c.args.target c.args.source
+    subst (λ (copy : CopyFunction). IsCopyOf copy.places target_rows source_rows c.args.target c.args.source)
+    (sym c.self.view_is) (equal_of c) in
+    copied_more c.self.inside.places target_rows source_rows c.self.inside.sources.items c.put.new.sources.items
+    c.args.target c.args.source
     c.in_ok-put.ensures.ok one inside_were
 
 pub returns-clause-value : goal.returns-clause-value
 returns-clause-value c =
-    let put = put_is c.self.inside.sources.items c.put.new.sources.items c.args.target c.args.source c.in_ok-put.ensures.ok c.in_ok-put.ensures.room in
+    let put = put_is c.self.inside.sources.items c.put.new.sources.items c.args.target c.args.source
+    c.in_ok-put.ensures.ok c.in_ok-put.ensures.room in
     rw put (ap (λ (copy : CopyFunction). with_source copy c.args.target c.args.source) c.self.view_is)

@@ -15,7 +15,8 @@ pub returns-else-first-clause-some : goal.returns-else-first-clause-some
 returns-else-first-clause-some c =
     let first : c.node-first.result ≡ node c.self.inside.present.items c.self.inside.best.items 1 =
     rw (c.deref.ensures.value, c.deref-2.ensures.value) at c.node-first.ensures in
-    let is : IsGreatest (record { counts = c.self.inside.counts.items; present = c.self.inside.present.items }) c.node-first.result =
+    let is : IsGreatest (record { counts = c.self.inside.counts.items; present = c.self.inside.present.items })
+    c.node-first.result =
     subst (IsGreatest (record { counts = c.self.inside.counts.items; present = c.self.inside.present.items })) (sym first)
     (greatest_there _ _ _ c.self.invariant (λ e. c.if-first.false (first ∙ e))) in
     subst (λ (t : Counts). IsGreatest t c.node-first.result) c.self.view_is is

@@ -30,7 +30,8 @@ mend-requires-clause-others c =
     let within_counts : c.args.number < length inside.counts.items =
     subst (λ (t : Counts). c.args.number < length t.counts) (sym c.self.view_is) c.requires in
     let within : c.args.number < length inside.best.items = omega (arith, c.self.invariant.best_length) in
-    rw (c.deref.ensures.value, c.deref-2.ensures.value, c.deref_mut.ensures.value, long) (count_below _ _ _ c.self.invariant c.args.number within c.args.count)
+    rw (c.deref.ensures.value, c.deref-2.ensures.value, c.deref_mut.ensures.value, long)
+    (count_below _ _ _ c.self.invariant c.args.number within c.args.count)
 
 pub invariant_of-self-2 : goal.invariant_of-self-2
 invariant_of-self-2 c =
@@ -38,6 +39,7 @@ invariant_of-self-2 c =
     let inside = c.self.inside in
     let long : length (slice_set inside.counts.items c.args.number c.args.count) ≡ length inside.counts.items =
     length-set inside.counts.items c.args.number c.args.count in
-    whole _ _ inside.best.items c.mend.new.best inside.best.len _ _ (omega (arith, is.few)) (is.present_length ∙ sym long) (is.best_length ∙ sym long)
+    whole _ _ inside.best.items c.mend.new.best inside.best.len _ _ (omega (arith, is.few))
+    (is.present_length ∙ sym long) (is.best_length ∙ sym long)
     (omega (arith, inside.best.ok.0)) (omega (arith, c.mend.ensures.length, c.deref_mut.ensures.len, inside.best.ok.0))
     c.deref.ensures.value c.deref-2.ensures.value c.mend.ensures.right

@@ -8,7 +8,8 @@ pub mend-requires-clause-others : goal.mend-requires-clause-others
 mend-requires-clause-others c =
     let inside = c.self.inside in
     let long : c.len.result ≡ length inside.best.items = omega (arith, c.len.ensures, inside.best.ok.0) in
-    rw (c.deref.ensures.value, c.deref-2.ensures.value, c.deref_mut.ensures.value, long) (present_below _ _ _ c.self.invariant c.args.number _)
+    rw (c.deref.ensures.value, c.deref-2.ensures.value, c.deref_mut.ensures.value, long)
+    (present_below _ _ _ c.self.invariant c.args.number _)
 
 pub invariant_of-self : goal.invariant_of-self
 invariant_of-self c =

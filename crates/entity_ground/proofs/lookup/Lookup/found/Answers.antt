@@ -13,5 +13,6 @@ returns-in-None c =
     let by = ap (λ (l : Looked). l.by) c.self.view_is in
     let table = c.table.ensures ∙ ap (λ (l : Looked). l.table) c.self.view_is in
     let none : None ≡ operand_value own.table front own.by =
-    c.in-None.ensures ∙ ap (λ (t : List Row). operand_value t front c.self.inside.by.now) table ∙ ap (λ (o : Operand). operand_value own.table front o) by in
+    c.in-None.ensures ∙ ap (λ (t : List Row). operand_value t front c.self.inside.by.now) table
+    ∙ ap (λ (o : Operand). operand_value own.table front o) by in
     none_found own.table own.attr own.members (operand_value own.table front own.by) none

@@ -9,4 +9,5 @@ decreases-add_from l = l.self.now.rule.vars - l.depth
 
 abbrev pub invariant-loop-row : goal.invariant-loop-row
 invariant-loop-row l = l.grounds ≡ l.initial.grounds
-    ++ flat_map (λ row. chosen_from (passes_from (l.depth + 1) l.self.rule l.self.table) l.self.members (l.self.rule.vars - l.depth - 1) (take l.depth l.front ++ row ∷ [])) (take l.row-index l.row-items)
+    ++ flat_map (λ row. chosen_from (passes_from (l.depth + 1) l.self.rule l.self.table) l.self.members
+    (l.self.rule.vars - l.depth - 1) (take l.depth l.front ++ row ∷ [])) (take l.row-index l.row-items)

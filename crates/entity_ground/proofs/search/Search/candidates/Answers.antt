@@ -9,9 +9,11 @@ returns-in-Some-Some c =
     let own = c.self.inside in
     let front = c.args.front.now in
     let read = c.in-Some-Some.ensures.lookup in
-    let is = lookup_at own.rule.now own.table.now own.members.now own.lookups.items c.deref.result.now (length front) c.in-Some-Some.field-0.now c.in-Some-Some.lookup
+    let is = lookup_at own.rule.now own.table.now own.members.now own.lookups.items c.deref.result.now (length front)
+    c.in-Some-Some.field-0.now c.in-Some-Some.lookup
     c.self.invariant.are_lookups c.deref.ensures.value read.3.0 read.1 c.in-Some-Some.field-0-is in
-    let found = found_are own.rule.now own.table.now own.members.now front c.found.result.now c.in-Some-Some.lookup is c.found.ensures in
+    let found = found_are own.rule.now own.table.now own.members.now front c.found.result.now c.in-Some-Some.lookup
+    is c.found.ensures in
     subst (λ (s : Searched). AreCandidates s.rule s.table s.members front c.found.result.now) c.self.view_is found
 
 pub returns-in_default : goal.returns-in_default

@@ -5,4 +5,5 @@ use Rattle.horn_closure.proofs.KnownFacts.{known_once}
 use Rattle.horn_closure.proofs.known.Known.into_derived.Goals as goal
 
 pub returns-clause-once : goal.returns-clause-once
-returns-clause-once c = subst (λ (ds : List Derived). AreOnce ds) (ap (λ (k : Derivation). k.derived) c.self.view_is) (known_once _ _ c.self.invariant)
+returns-clause-once c = subst (λ (ds : List Derived). AreOnce ds) (ap (λ (k : Derivation). k.derived) c.self.view_is)
+    (known_once _ _ c.self.invariant)

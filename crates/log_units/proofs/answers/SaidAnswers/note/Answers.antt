@@ -12,5 +12,6 @@ returns-in_ok-insert-in-Some c =
     let adds =
     adds_item tuple_cmp (tuple_is exact) (tuple_itself total) c.self.inside.set.keys new c.in-Some.tuple.now
     c.in_ok-insert-in-Some.ensures.updates.0 in
-    subst (λ (p : Option TupleValues). Adds (Contains c.args.self.now) (Contains new) p) (sym (ap (option_map (λ t. t.now)) c.in-Some.is))
+    subst (λ (p : Option TupleValues). Adds (Contains c.args.self.now) (Contains new) p)
+    (sym (ap (option_map (λ t. t.now)) c.in-Some.is))
     (subst (λ tuples. Adds (Contains tuples) (Contains new) (Some c.in-Some.tuple.now)) c.self.view_is adds)

@@ -4,4 +4,5 @@ use Rattle.log_units.proofs.pairs.SaidPairs.has.Goals as goal
 
 pub returns-clause-is_there : goal.returns-clause-is_there
 returns-clause-is_there c = λ e.
-    subst (λ pairs. Contains pairs c.args.pair) c.self.view_is (pair_in c.self.inside.set.keys c.args.pair (sym c.contains.ensures ∙ e))
+    subst (λ pairs. Contains pairs c.args.pair) c.self.view_is (pair_in c.self.inside.set.keys c.args.pair
+    (sym c.contains.ensures ∙ e))

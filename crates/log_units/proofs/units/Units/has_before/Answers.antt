@@ -13,7 +13,8 @@ returns-clause-there c = λ e.
 
 pub returns-clause-missing : goal.returns-clause-missing
 returns-clause-missing c = λ e unit.
-    let own = subst (λ (t : Told). HasUnit t.relations t.log (before c.args.rel c.args.attr c.args.earlier c.args.later)) (sym c.self.view_is) unit in
+    let own = subst (λ (t : Told). HasUnit t.relations t.log
+    (before c.args.rel c.args.attr c.args.earlier c.args.later)) (sym c.self.view_is) unit in
     let there = pair_of_unit c.self.inside.spec.now.relations c.self.inside.log.now c.self.inside.index c.self.invariant
     c.args.rel c.args.attr c.args.earlier c.args.later own in
     false≢true (sym e ∙ c.has.ensures.is_found there)

@@ -13,8 +13,10 @@ returns-in-Some-clause-there c = λ e.
     let relation = c.in-Some.relation.now in
     let at : slice_get c.self.inside.spec.now.relations c.args.rel.0 ≡ Some relation =
     ap (λ (rs : List Relation). slice_get rs c.args.rel.0) (sym c.relations.ensures.value) ∙ sym c.in-Some.ensures in
-    let one : list_any (has_value relation c.args.attr c.args.value.now) (rows_named c.self.inside.index c.args.rel c.args.attr c.args.ent) ≡ true =
-    ap (λ (rows : List RowId). list_any (has_value relation c.args.attr c.args.value.now) rows) (sym c.at-rows.ensures) ∙ (sym c.has_value.ensures ∙ e) in
+    let one : list_any (has_value relation c.args.attr c.args.value.now)
+    (rows_named c.self.inside.index c.args.rel c.args.attr c.args.ent) ≡ true =
+    ap (λ (rows : List RowId). list_any (has_value relation c.args.attr c.args.value.now) rows)
+    (sym c.at-rows.ensures) ∙ (sym c.has_value.ensures ∙ e) in
     subst (λ (t : Told). HasLastUnit t.relations t.log c.args.rel c.args.attr c.args.ent c.args.value.now) c.self.view_is
     (unit_of_value c.self.inside.spec.now.relations c.self.inside.log.now c.self.inside.index c.self.invariant
     c.args.rel c.args.attr c.args.ent c.args.value.now relation at one)
@@ -24,14 +26,17 @@ returns-in-Some-clause-missing c = λ e unit.
     let relation = c.in-Some.relation.now in
     let at : slice_get c.self.inside.spec.now.relations c.args.rel.0 ≡ Some relation =
     ap (λ (rs : List Relation). slice_get rs c.args.rel.0) (sym c.relations.ensures.value) ∙ sym c.in-Some.ensures in
-    let own = subst (λ (t : Told). HasLastUnit t.relations t.log c.args.rel c.args.attr c.args.ent c.args.value.now) (sym c.self.view_is) unit in
+    let own = subst (λ (t : Told). HasLastUnit t.relations t.log c.args.rel c.args.attr c.args.ent c.args.value.now)
+    (sym c.self.view_is) unit in
     let one = value_of_unit c.self.inside.spec.now.relations c.self.inside.log.now c.self.inside.index c.self.invariant
     c.args.rel c.args.attr c.args.ent c.args.value.now relation at own in
-    let here = c.has_value.ensures ∙ ap (λ (rows : List RowId). list_any (has_value relation c.args.attr c.args.value.now) rows) c.at-rows.ensures ∙ one in
+    let here = c.has_value.ensures
+    ∙ ap (λ (rows : List RowId). list_any (has_value relation c.args.attr c.args.value.now) rows) c.at-rows.ensures ∙ one in
     false≢true (sym e ∙ here)
 
 pub returns-in-None-clause-missing : goal.returns-in-None-clause-missing
 returns-in-None-clause-missing c = λ e unit.
-    let own = subst (λ (t : Told). HasLastUnit t.relations t.log c.args.rel c.args.attr c.args.ent c.args.value.now) (sym c.self.view_is) unit in
+    let own = subst (λ (t : Told). HasLastUnit t.relations t.log c.args.rel c.args.attr c.args.ent c.args.value.now)
+    (sym c.self.view_is) unit in
     none-some own.relation
     (c.in-None.ensures ∙ ap (λ (rs : List Relation). slice_get rs c.args.rel.0) c.relations.ensures.value ∙ own.is_relation)

@@ -10,7 +10,8 @@ pub loop-tuple-preserved : goal.loop-tuple-preserved
 loop-tuple-preserved c = record {
   all = append_assoc c.loop-tuple.yielded (c.in-Some.tuple ∷ []) c.next.new.self.rest.items
       ∙ ap (λ rest. c.loop-tuple.yielded ++ rest) (sym c.in-Some.ensures.steps.0) ∙ c.loop-tuple.invariant.all;
-  so_far = rw c.in-Ok-push.ensures.ok (answered_more (record_in c.args.table.now c.args.attrs.now) c.loop-tuple.yielded c.in-Some.tuple c.loop-tuple.records
+  so_far = rw c.in-Ok-push.ensures.ok (answered_more (record_in c.args.table.now c.args.attrs.now)
+      c.loop-tuple.yielded c.in-Some.tuple c.loop-tuple.records
       c.len.result c.in-Ok.record c.loop-tuple.invariant.so_far c.len.ensures c.in-Ok.ensures);
 }
 
@@ -20,4 +21,5 @@ returns-in-Err c =
     let all = ap (λ rest. c.loop-tuple.yielded ++ rest) (sym c.in-Some.ensures.steps.0) ∙ c.loop-tuple.invariant.all in
     due_through (f (c.len.result, c.in-Some.tuple)) (all_of f (enumerate_from 0 c.args.tuples)) c.in-Err.fault c.in-Err.ensures
     (λ is. ap (λ ts. all_of f (enumerate_from 0 ts)) (sym all)
-    ∙ answered_err f c.loop-tuple.yielded c.in-Some.tuple _ c.loop-tuple.records c.len.result c.in-Err.fault c.loop-tuple.invariant.so_far c.len.ensures is)
+    ∙ answered_err f c.loop-tuple.yielded c.in-Some.tuple _ c.loop-tuple.records c.len.result c.in-Err.fault
+    c.loop-tuple.invariant.so_far c.len.ensures is)

@@ -8,22 +8,43 @@ use Rattle.order_clauses.proofs.column.Column.last.Goals as goal
 
 pub last-requires-clause-row : goal.last-requires-clause-row
 last-requires-clause-row c =
-    let q : Attribute = record { subject = c.self.inside.sayings.now; relation = c.self.inside.relation.now; rel = c.self.inside.rel; attr = c.self.inside.attr } in
+    let q : Attribute = record {
+      subject = c.self.inside.sayings.now;
+      relation = c.self.inside.relation.now;
+      rel =
+          c.self.inside.rel;
+      attr = c.self.inside.attr;
+    } in
     let n = c.numbering.result.now in
-    let here : IsWantedRow q c.args.row = subst (λ (p : Attribute). IsWantedRow p c.args.row) (sym c.self.view_is) c.requires.row in
+    let here : IsWantedRow q c.args.row = subst (λ (p : Attribute). IsWantedRow p c.args.row) (sym c.self.view_is)
+    c.requires.row in
     row_in q n c.args.row c.numbering.ensures c.self.invariant here
 
 pub last-requires-clause-named : goal.last-requires-clause-named
 last-requires-clause-named c =
-    let q : Attribute = record { subject = c.self.inside.sayings.now; relation = c.self.inside.relation.now; rel = c.self.inside.rel; attr = c.self.inside.attr } in
+    let q : Attribute = record {
+      subject = c.self.inside.sayings.now;
+      relation = c.self.inside.relation.now;
+      rel =
+          c.self.inside.rel;
+      attr = c.self.inside.attr;
+    } in
     let n = c.numbering.result.now in
-    let here : IsWantedRow q c.args.row = subst (λ (p : Attribute). IsWantedRow p c.args.row) (sym c.self.view_is) c.requires.row in
-    let e = subst (λ (p : Attribute). name_of p.relation.rows p.attr.0 c.args.row ≡ c.args.row) (sym c.self.view_is) c.requires.named in
+    let here : IsWantedRow q c.args.row = subst (λ (p : Attribute). IsWantedRow p c.args.row) (sym c.self.view_is)
+    c.requires.row in
+    let e = subst (λ (p : Attribute). name_of p.relation.rows p.attr.0 c.args.row ≡ c.args.row) (sym c.self.view_is)
+    c.requires.named in
     named_of q n c.args.row c.numbering.ensures c.self.invariant here e
 
 pub returns : goal.returns
 returns c =
-    let q : Attribute = record { subject = c.self.inside.sayings.now; relation = c.self.inside.relation.now; rel = c.self.inside.rel; attr = c.self.inside.attr } in
+    let q : Attribute = record {
+      subject = c.self.inside.sayings.now;
+      relation = c.self.inside.relation.now;
+      rel =
+          c.self.inside.rel;
+      attr = c.self.inside.attr;
+    } in
     let n = c.numbering.result.now in
     subst (λ (p : Attribute). Says (told p.subject) c.last.result (last p.rel p.attr c.args.row)) c.self.view_is
     (says_of q.subject n c.last.result (last q.rel q.attr c.args.row) c.numbering.ensures c.last.ensures)

@@ -9,13 +9,15 @@ use Rattle.order_literals.proofs.catalogue.Catalogue.statement.Goals as goal
 pub block_at-place-requires : goal.block_at-place-requires
 block_at-place-requires c =
     let n = c.args.self.now in
-    let laid = subst (λ (m : Numbers). AreLaidOut m c.self.inside.firsts.items c.self.inside.blocks.items c.self.inside.starts.items) c.self.view_is c.self.invariant in
+    let laid = subst (λ (m : Numbers). AreLaidOut m c.self.inside.firsts.items c.self.inside.blocks.items
+    c.self.inside.starts.items) c.self.view_is c.self.invariant in
     around n c.deref.result.now c.args.var (c.deref.ensures.value ∙ laid.starts_are) c.requires
 
 pub block_in-requires : goal.block_in-requires
 block_in-requires c =
     let n = c.args.self.now in
-    let laid = subst (λ (m : Numbers). AreLaidOut m c.self.inside.firsts.items c.self.inside.blocks.items c.self.inside.starts.items) c.self.view_is c.self.invariant in
+    let laid = subst (λ (m : Numbers). AreLaidOut m c.self.inside.firsts.items c.self.inside.blocks.items
+    c.self.inside.starts.items) c.self.view_is c.self.invariant in
     let starts = ap length (c.deref.ensures.value ∙ laid.starts_are) in
     let blocks = ap length (c.deref-3.ensures.value ∙ laid.blocks_are) in
     omega (arith, count_of_starts n (blocks_of n), c.block_at-place.ensures.within)
@@ -23,7 +25,8 @@ block_in-requires c =
 -- the block that was found
 found : (c : goal.After-block_in) → slice_get (blocks_of c.args.self.now) c.block_at-place.result ≡ Some c.block_in.result
 found c =
-    let laid = subst (λ (m : Numbers). AreLaidOut m c.self.inside.firsts.items c.self.inside.blocks.items c.self.inside.starts.items) c.self.view_is c.self.invariant in
+    let laid = subst (λ (m : Numbers). AreLaidOut m c.self.inside.firsts.items c.self.inside.blocks.items
+    c.self.inside.starts.items) c.self.view_is c.self.invariant in
     rw (c.deref-3.ensures.value ∙ laid.blocks_are) at c.block_in.ensures
 
 pub statement_in-requires-clause-block : goal.statement_in-requires-clause-block
@@ -38,15 +41,18 @@ start c =
 pub statement_in-requires-clause-within : goal.statement_in-requires-clause-within
 statement_in-requires-clause-within c =
     let n = c.args.self.now in
-    let laid = subst (λ (m : Numbers). AreLaidOut m c.self.inside.firsts.items c.self.inside.blocks.items c.self.inside.starts.items) c.self.view_is c.self.invariant in
+    let laid = subst (λ (m : Numbers). AreLaidOut m c.self.inside.firsts.items c.self.inside.blocks.items
+    c.self.inside.starts.items) c.self.view_is c.self.invariant in
     rw (start c)
-    (lies_in n c.deref.result.now c.args.var (c.deref.ensures.value ∙ laid.starts_are) c.requires c.block_at-place.result c.block_in.result
+    (lies_in n c.deref.result.now c.args.var (c.deref.ensures.value ∙ laid.starts_are) c.requires
+    c.block_at-place.result c.block_in.result
     c.block_at-place.ensures.within c.block_at-place.ensures.from c.block_at-place.ensures.to (found c))
 
 pub returns : goal.returns
 returns c =
     let n = c.args.self.now in
-    let laid = subst (λ (m : Numbers). AreLaidOut m c.self.inside.firsts.items c.self.inside.blocks.items c.self.inside.starts.items) c.self.view_is c.self.invariant in
+    let laid = subst (λ (m : Numbers). AreLaidOut m c.self.inside.firsts.items c.self.inside.blocks.items
+    c.self.inside.starts.items) c.self.view_is c.self.invariant in
     let starts : c.deref.result.now ≡ starts_of n (blocks_of n) = c.deref.ensures.value ∙ laid.starts_are in
     let found = rw (c.deref-3.ensures.value ∙ laid.blocks_are) at c.block_in.ensures in
     let same : c.deref-2.result.now ≡ c.deref.result.now = c.deref-2.ensures.value ∙ sym c.deref.ensures.value in
@@ -55,5 +61,6 @@ returns c =
     let inside = lies_in n c.deref.result.now c.args.var starts c.requires place c.block_in.result
     c.block_at-place.ensures.within c.block_at-place.ensures.from c.block_at-place.ensures.to found in
     let number = ap (λ s. c.args.var - s) start in
-    stands_in n c.deref.result.now c.args.var starts c.requires place _ c.block_in.result found number c.block_at-place.ensures.from (rw start inside)
+    stands_in n c.deref.result.now c.args.var starts c.requires place _ c.block_in.result found number
+    c.block_at-place.ensures.from (rw start inside)
     ∙ c.statement_in.ensures

@@ -10,7 +10,8 @@ returns-in-Tops c =
 pub returns-in-Lasts : goal.returns-in-Lasts
 returns-in-Lasts c =
     rw c.in-Lasts.is
-    (last_in c.args.self.now c.in-Lasts.rel c.in-Lasts.attr c.table-in-Lasts.result.now c.args.number c.value-row.result c.table-in-Lasts.ensures c.value-row.ensures)
+    (last_in c.args.self.now c.in-Lasts.rel c.in-Lasts.attr c.table-in-Lasts.result.now c.args.number
+    c.value-row.result c.table-in-Lasts.ensures c.value-row.ensures)
 
 pub returns-in-Answers : goal.returns-in-Answers
 returns-in-Answers c =

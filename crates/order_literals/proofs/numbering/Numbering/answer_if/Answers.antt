@@ -27,4 +27,5 @@ returns-clause-some c =
     let n = c.self.inside.catalogue in
     let within : c.args.tuple < n.answers = omega (arith, c.answers.ensures) in
     let at = rw c.self.view_is at (c.var.ensures.value Answers c.answers_place-place.ensures ∙ answer_in n c.args.tuple within) in
-    says_it (statements_of c.args.self.now) c.new.result c.var.result (says.Answer c.args.tuple) c.new.ensures.var c.new.ensures.negative at
+    says_it (statements_of c.args.self.now) c.new.result c.var.result (says.Answer c.args.tuple) c.new.ensures.var
+    c.new.ensures.negative at

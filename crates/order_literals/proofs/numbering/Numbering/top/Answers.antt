@@ -15,7 +15,8 @@ var-requires c =
     rw c.self.view_is (record {
       block = Tops c.args.rel c.args.attr;
       is_block = rw c.self.view_is at c.place-place.ensures;
-      within = slice_get_within (block_statements n (Tops c.args.rel c.args.attr)) c.args.row.0 (says.Top c.args.rel c.args.attr c.args.row) inside;
+      within = slice_get_within (block_statements n (Tops c.args.rel c.args.attr)) c.args.row.0
+          (says.Top c.args.rel c.args.attr c.args.row) inside;
     })
 
 pub returns : goal.returns
@@ -24,4 +25,5 @@ returns c =
     let r = c.requires in
     let inside = top_in n c.args.rel c.args.attr r.table r.names c.args.row.0 r.is_table r.wanted r.row_within in
     let at = rw c.self.view_is at (c.var.ensures.value (Tops c.args.rel c.args.attr) c.place-place.ensures) in
-    says_it (statements_of n) c.new.result c.var.result (says.Top c.args.rel c.args.attr c.args.row) c.new.ensures.var c.new.ensures.negative (at ∙ inside)
+    says_it (statements_of n) c.new.result c.var.result (says.Top c.args.rel c.args.attr c.args.row)
+    c.new.ensures.var c.new.ensures.negative (at ∙ inside)

@@ -12,5 +12,6 @@ answer-requires c =
 
 pub returns-clause-within : goal.returns-clause-within
 returns-clause-within c =
-    literal_within c.self.inside.subject c.self.inside.progress.solver c.args.self.now c.self.view_is c.self.invariant.0.search c.answer.result
+    literal_within c.self.inside.subject c.self.inside.progress.solver c.args.self.now c.self.view_is
+    c.self.invariant.0.search c.answer.result
     (c.one_literal.ensures.within (vars_of c.self.inside.subject) c.answer.result _ c.answer.ensures)

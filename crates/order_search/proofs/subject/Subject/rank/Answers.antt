@@ -14,4 +14,5 @@ rank-requires-clause-assignment c =
 pub returns : goal.returns
 returns c =
     subst (λ (s : Subject). IfOk c.rank.result (IsBuilt s.spec.relations (vars_of s) c.args.truths.now)) c.self.view_is
-    (subst (λ (n : Numbers). IfOk c.rank.result (IsBuilt c.self.inside.spec.now.relations (statements_of n) c.args.truths.now)) c.self.invariant c.rank.ensures)
+    (subst (λ (n : Numbers). IfOk c.rank.result (IsBuilt c.self.inside.spec.now.relations (statements_of n)
+    c.args.truths.now)) c.self.invariant c.rank.ensures)

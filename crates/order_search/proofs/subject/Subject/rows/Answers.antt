@@ -23,6 +23,7 @@ returns c =
     let is = subst (λ (s : Subject). IsListOf s.spec.relations c.args.list) (sym c.self.view_is) c.requires in
     subst (λ (s : Subject). AreRowsOf s c.args.list c.of_entity.result.now) c.self.view_is record {
       is_list = is;
-      rows_are = list_rows f.spec.now.relations f.wanted f.numbering c.self.invariant c.args.list is c.lists.result.now c.of_entity.result.now c.lists.ensures
+      rows_are = list_rows f.spec.now.relations f.wanted f.numbering c.self.invariant c.args.list is
+          c.lists.result.now c.of_entity.result.now c.lists.ensures
           c.of_entity.ensures;
     }

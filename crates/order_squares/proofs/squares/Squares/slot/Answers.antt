@@ -22,7 +22,8 @@ returns-else-eq-clause-none c slot is =
     let here = ap (λ (l : Layout). slice_get (entities_in l.relations c.args.rel.0) c.args.pair.earlier.0) c.self.view_is in
     let there = ap (λ (l : Layout). slice_get (entities_in l.relations c.args.rel.0) c.args.pair.later.0) c.self.view_is in
     let first = one_ent c.entity.result _ c.in-Some.earlier is.ent c.in-Some.is (c.entity.ensures.value ∙ here) of.0 in
-    let second = one_ent c.entity-2.result _ c.in-Some-entity.later is.ent c.in-Some-entity.is (c.entity-2.ensures.value ∙ there) of.1 in
+    let second = one_ent c.entity-2.result _ c.in-Some-entity.later is.ent c.in-Some-entity.is
+    (c.entity-2.ensures.value ∙ there) of.1 in
     let same : c.in-Some.earlier.0 ≡ c.in-Some-entity.later.0 = first ∙ sym second in
     let differ : c.in-Some.earlier.0 ≡ c.in-Some-entity.later.0 → ⊥ = search rules in
     absurd (differ same)

@@ -8,12 +8,21 @@ use Rattle.order_start.proofs.listed.Listed.before.Goals as goal
 pub before-requires : goal.before-requires
 before-requires c =
     let fields = c.self.inside in
-    let seen : Listed = record { numbers = fields.numbering.now; known = fields.known.now; rel = fields.rel; attr = fields.attr; rows = fields.rows.now; turned = fields.turned } in
+    let seen : Listed = record {
+      numbers = fields.numbering.now;
+      known = fields.known.now;
+      rel = fields.rel;
+      attr =
+          fields.attr;
+      rows = fields.rows.now;
+      turned = fields.turned;
+    } in
     pair_at seen c.args.first c.args.second c.row.result c.row-2.result c.self.invariant
     (subst (λ (l : Listed). c.args.first < length l.rows) (sym c.self.view_is) c.requires.first)
     (subst (λ (l : Listed). c.args.second < length l.rows) (sym c.self.view_is) c.requires.second) c.requires.differ
     (subst (λ (l : Listed). slice_get l.rows (slot_of l c.args.first) ≡ Some c.row.result) (sym c.self.view_is) c.row.ensures)
-    (subst (λ (l : Listed). slice_get l.rows (slot_of l c.args.second) ≡ Some c.row-2.result) (sym c.self.view_is) c.row-2.ensures)
+    (subst (λ (l : Listed). slice_get l.rows (slot_of l c.args.second) ≡ Some c.row-2.result) (sym c.self.view_is)
+    c.row-2.ensures)
 
 pub returns : goal.returns
 returns c =

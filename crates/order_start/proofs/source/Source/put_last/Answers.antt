@@ -7,7 +7,13 @@ use Rattle.order_start.proofs.source.Source.put_last.Goals as goal
 pub name-name-requires : goal.name-name-requires
 name-name-requires c =
     let fields = c.self.inside in
-    let s : Subject = record { relations = fields.spec.now.relations; wanted = fields.wanted.now; numbers = fields.numbering.now; known = fields.known.now } in
+    let s : Subject = record {
+      relations = fields.spec.now.relations;
+      wanted = fields.wanted.now;
+      numbers =
+          fields.numbering.now;
+      known = fields.known.now;
+    } in
     let r = c.relation-relation.result.now in
     let here = wanted_row s c.args.self.now c.args.rel.0 c.args.attr.0 c.args.row r c.self.view_is c.self.invariant
     c.relation-relation.ensures.facts c.relation-relation.ensures.value c.requires.attr c.requires.row c.requires.wanted in
@@ -16,7 +22,13 @@ name-name-requires c =
 pub top-requires : goal.top-requires
 top-requires c =
     let fields = c.self.inside in
-    let s : Subject = record { relations = fields.spec.now.relations; wanted = fields.wanted.now; numbers = fields.numbering.now; known = fields.known.now } in
+    let s : Subject = record {
+      relations = fields.spec.now.relations;
+      wanted = fields.wanted.now;
+      numbers =
+          fields.numbering.now;
+      known = fields.known.now;
+    } in
     let r = c.relation-relation.result.now in
     let here = wanted_row s c.args.self.now c.args.rel.0 c.args.attr.0 c.args.row r c.self.view_is c.self.invariant
     c.relation-relation.ensures.facts c.relation-relation.ensures.value c.requires.attr c.requires.row c.requires.wanted in
@@ -25,13 +37,26 @@ top-requires c =
 pub make_true-requires : goal.make_true-requires
 make_true-requires c =
     let fields = c.self.inside in
-    let s : Subject = record { relations = fields.spec.now.relations; wanted = fields.wanted.now; numbers = fields.numbering.now; known = fields.known.now } in
-    truth_within s c.args.self.now _ _ c.self.view_is (c.one_literal.ensures.within (statements_of s.numbers) c.top.result _ c.top.ensures) c.requires.truths
+    let s : Subject = record {
+      relations = fields.spec.now.relations;
+      wanted = fields.wanted.now;
+      numbers =
+          fields.numbering.now;
+      known = fields.known.now;
+    } in
+    truth_within s c.args.self.now _ _ c.self.view_is (c.one_literal.ensures.within (statements_of s.numbers)
+    c.top.result _ c.top.ensures) c.requires.truths
 
 pub last-requires-clause-row : goal.last-requires-clause-row
 last-requires-clause-row c =
     let fields = c.self.inside in
-    let s : Subject = record { relations = fields.spec.now.relations; wanted = fields.wanted.now; numbers = fields.numbering.now; known = fields.known.now } in
+    let s : Subject = record {
+      relations = fields.spec.now.relations;
+      wanted = fields.wanted.now;
+      numbers =
+          fields.numbering.now;
+      known = fields.known.now;
+    } in
     let r = c.relation-relation.result.now in
     let here = wanted_row s c.args.self.now c.args.rel.0 c.args.attr.0 c.args.row r c.self.view_is c.self.invariant
     c.relation-relation.ensures.facts c.relation-relation.ensures.value c.requires.attr c.requires.row c.requires.wanted in
@@ -42,7 +67,13 @@ last-requires-clause-row c =
 pub last-requires-clause-named : goal.last-requires-clause-named
 last-requires-clause-named c =
     let fields = c.self.inside in
-    let s : Subject = record { relations = fields.spec.now.relations; wanted = fields.wanted.now; numbers = fields.numbering.now; known = fields.known.now } in
+    let s : Subject = record {
+      relations = fields.spec.now.relations;
+      wanted = fields.wanted.now;
+      numbers =
+          fields.numbering.now;
+      known = fields.known.now;
+    } in
     let r = c.relation-relation.result.now in
     let here = wanted_row s c.args.self.now c.args.rel.0 c.args.attr.0 c.args.row r c.self.view_is c.self.invariant
     c.relation-relation.ensures.facts c.relation-relation.ensures.value c.requires.attr c.requires.row c.requires.wanted in
@@ -53,5 +84,12 @@ last-requires-clause-named c =
 pub make_true-requires-2 : goal.make_true-requires-2
 make_true-requires-2 c =
     let fields = c.self.inside in
-    let s : Subject = record { relations = fields.spec.now.relations; wanted = fields.wanted.now; numbers = fields.numbering.now; known = fields.known.now } in
-    truth_within s c.args.self.now _ _ c.self.view_is (c.one_literal.ensures.within (statements_of s.numbers) c.last.result _ c.last.ensures) (c.make_true.ensures ∙ c.requires.truths)
+    let s : Subject = record {
+      relations = fields.spec.now.relations;
+      wanted = fields.wanted.now;
+      numbers =
+          fields.numbering.now;
+      known = fields.known.now;
+    } in
+    truth_within s c.args.self.now _ _ c.self.view_is (c.one_literal.ensures.within (statements_of s.numbers)
+    c.last.result _ c.last.ensures) (c.make_true.ensures ∙ c.requires.truths)

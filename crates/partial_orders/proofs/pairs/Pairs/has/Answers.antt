@@ -5,4 +5,5 @@ use Rattle.partial_orders.proofs.pairs.Pairs.has.Goals as goal
 
 pub returns-clause-is_there : goal.returns-clause-is_there
 returns-clause-is_there c found =
-    has_is_contained c.args.self.now c.args.pair (ap (λ pairs. has_pair pairs c.args.pair) (sym c.self.view_is) ∙ sym c.contains.ensures ∙ found)
+    has_is_contained c.args.self.now c.args.pair (ap (λ pairs. has_pair pairs c.args.pair) (sym c.self.view_is)
+    ∙ sym c.contains.ensures ∙ found)

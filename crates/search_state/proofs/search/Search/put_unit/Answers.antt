@@ -15,7 +15,8 @@ imply-requires-clause-free c =
 
 pub imply-requires-clause-reason : goal.imply-requires-clause-reason
 imply-requires-clause-reason c =
-    reason_read _ _ _ _ c.requires.unit _ _ (first_read _ _ c.requires.unit _ _ refl) c.enter-number.ensures.added c.enter-number.ensures.number
+    reason_read _ _ _ _ c.requires.unit _ _ (first_read _ _ c.requires.unit _ _ refl) c.enter-number.ensures.added
+    c.enter-number.ensures.number
 
 pub returns-clause-held : goal.returns-clause-held
 returns-clause-held c =
@@ -23,7 +24,10 @@ returns-clause-held c =
     let unit = c.requires.unit in
     let lits = c.args.lits.now in
     let after : c.imply.new.self ≡ implied t unit.first (length c.args.self.now.arena.clauses) =
-    c.imply.ensures ∙ ap (λ (l : Lit). implied t l c.enter-number.result.0) (sym (first_read _ _ unit _ _ refl)) ∙ ap (implied t unit.first) c.enter-number.ensures.number in
+    c.imply.ensures ∙ ap (λ (l : Lit). implied t l c.enter-number.result.0) (sym (first_read _ _ unit _ _ refl))
+    ∙ ap (implied t unit.first) c.enter-number.ensures.number in
     λ clauses held. held_as _ c.enter-number.new.arena _ c.imply.new.self _ c.args.self.now.refuted after c.requires.open
-    (held_implied clauses _ c.enter-number.new.arena lits lits unit.first t c.are_entries.ensures (same_itself lits) c.enter-number.ensures.added
-    (within_by_vars c.args.self.now.arena t.vars lits c.requires.vars c.requires.fit.within) unit.is_first unit.unit c.requires.due (c.requires.alone unit.first) held)
+    (held_implied clauses _ c.enter-number.new.arena lits lits unit.first t c.are_entries.ensures (same_itself lits)
+    c.enter-number.ensures.added
+    (within_by_vars c.args.self.now.arena t.vars lits c.requires.vars c.requires.fit.within) unit.is_first unit.unit
+    c.requires.due (c.requires.alone unit.first) held)

@@ -19,5 +19,6 @@ invariant_of-self-2 c =
     let new = c.append.new.search in
     let steps = c.self.inside.log.steps in
     let fit = subst (λ (s : State). IsFit (vars_of s) (clause_of (step_of c.args.step))) (sym c.self.view_is) c.requires.fit in
-    kept_push _ steps c.append.new.steps _ search.arena new.arena search.trail new.trail search.refuted new.refuted _ _ c.self.invariant c.in-Ok.ensures.steps fit
+    kept_push _ steps c.append.new.steps _ search.arena new.arena search.trail new.trail search.refuted new.refuted _
+    _ c.self.invariant c.in-Ok.ensures.steps fit
     (c.in-Ok.ensures.held (clauses_of steps) c.self.invariant.held) c.append.ensures.vars c.append.ensures.watchers refl

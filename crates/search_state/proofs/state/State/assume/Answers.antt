@@ -15,5 +15,6 @@ invariant_of-self c =
     kept_more _ steps search.arena search.arena search.trail c.assume.new.self search.refuted search.refuted _ _ c.self.invariant
     (held_as (clauses_of steps) search.arena _ c.assume.new.self None search.refuted c.assume.ensures none
     (held_assumed (clauses_of steps) search.arena search.trail c.args.lit c.are_entries.ensures whole
-    (held_as (clauses_of steps) search.arena search.trail search.trail search.refuted None refl (sym none) c.self.invariant.held)))
+    (held_as (clauses_of steps) search.arena search.trail search.trail search.refuted None refl (sym none)
+    c.self.invariant.held)))
     (ap (λ (t : Trail). t.vars) c.assume.ensures) refl refl

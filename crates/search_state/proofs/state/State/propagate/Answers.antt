@@ -12,46 +12,56 @@ returns-in-Some-clause-conflict c =
 
 pub returns-in-Some-clause-level : goal.returns-in-Some-clause-level
 returns-in-Some-clause-level c =
-    let none = subst (λ (s : State). s.trail.starts ≡ []) c.self.view_is (c.self.invariant.held.stuck c.in-Some.place c.in-Some.is).starts in
+    let none = subst (λ (s : State). s.trail.starts ≡ []) c.self.view_is
+    (c.self.invariant.held.stuck c.in-Some.place c.in-Some.is).starts in
     λ deep. absurd (omega (arith, deep, ap length none))
 
 pub invariant_of-self : goal.invariant_of-self
 invariant_of-self c =
     let search = c.self.inside.search in
     let ensured = c.propagate.ensures in
-    kept_propagated _ _ search.arena c.propagate.new.arena search.trail c.propagate.new.trail search.refuted _ c.in_default.is c.are_entries.ensures ensured.rewatched
+    kept_propagated _ _ search.arena c.propagate.new.arena search.trail c.propagate.new.trail search.refuted _
+    c.in_default.is c.are_entries.ensures ensured.rewatched
     ensured.implies ensured.rule c.self.invariant
 
 pub returns-in_default-propagate-clause-quiet : goal.returns-in_default-propagate-clause-quiet
 returns-in_default-propagate-clause-quiet c =
     let search = c.self.inside.search in
     let ensured = c.propagate.ensures in
-    let kept = kept_propagated _ _ search.arena c.propagate.new.arena search.trail c.propagate.new.trail search.refuted _ c.in_default.is c.are_entries.ensures ensured.rewatched
+    let kept = kept_propagated _ _ search.arena c.propagate.new.arena search.trail c.propagate.new.trail
+    search.refuted _ c.in_default.is c.are_entries.ensures ensured.rewatched
     ensured.implies ensured.rule c.self.invariant in
-    quiet_at_end c.self.inside.log.steps c.propagate.new.arena c.propagate.new.trail kept.held.reordered (kept.held.goes_on c.in_default.is) c.in_default-propagate.ensures.at_rest
+    quiet_at_end c.self.inside.log.steps c.propagate.new.arena c.propagate.new.trail kept.held.reordered
+    (kept.held.goes_on c.in_default.is) c.in_default-propagate.ensures.at_rest
 
 pub invariant_of-self-2 : goal.invariant_of-self-2
 invariant_of-self-2 c =
     let search = c.self.inside.search in
     let ensured = c.propagate.ensures in
-    kept_propagated _ _ search.arena c.propagate.new.arena search.trail c.propagate.new.trail search.refuted _ c.in_default.is c.are_entries.ensures ensured.rewatched
+    kept_propagated _ _ search.arena c.propagate.new.arena search.trail c.propagate.new.trail search.refuted _
+    c.in_default.is c.are_entries.ensures ensured.rewatched
     ensured.implies ensured.rule c.self.invariant
 
 pub returns-clause-conflict : goal.returns-clause-conflict
 returns-clause-conflict c =
     let search = c.self.inside.search in
     let ensured = c.propagate.ensures in
-    let kept = kept_propagated _ _ search.arena c.propagate.new.arena search.trail c.propagate.new.trail search.refuted _ c.in_default.is c.are_entries.ensures ensured.rewatched
+    let kept = kept_propagated _ _ search.arena c.propagate.new.arena search.trail c.propagate.new.trail
+    search.refuted _ c.in_default.is c.are_entries.ensures ensured.rewatched
     ensured.implies ensured.rule c.self.invariant in
-    false_of _ c.propagate.new.arena c.in-Some-propagate.clause.0 kept.held.reordered (falsified_by _ _ _ c.in-Some-propagate.ensures.conflict)
+    false_of _ c.propagate.new.arena c.in-Some-propagate.clause.0 kept.held.reordered
+    (falsified_by _ _ _ c.in-Some-propagate.ensures.conflict)
 
 pub returns-clause-level : goal.returns-clause-level
 returns-clause-level c =
     let search = c.self.inside.search in
     let ensured = c.propagate.ensures in
-    let kept = kept_propagated _ _ search.arena c.propagate.new.arena search.trail c.propagate.new.trail search.refuted _ c.in_default.is c.are_entries.ensures ensured.rewatched
+    let kept = kept_propagated _ _ search.arena c.propagate.new.arena search.trail c.propagate.new.trail
+    search.refuted _ c.in_default.is c.are_entries.ensures ensured.rewatched
     ensured.implies ensured.rule c.self.invariant in
-    let quiet = quiet_below c.self.inside.log.steps c.propagate.new.arena c.propagate.new.trail c.are_watchers.ensures c.are_entries-2.ensures kept.held.reordered
+    let quiet = quiet_below c.self.inside.log.steps c.propagate.new.arena c.propagate.new.trail
+    c.are_watchers.ensures c.are_entries-2.ensures kept.held.reordered
     (kept.held.goes_on c.in_default.is) in
     λ deep. not_below _ c.in-Some-propagate.clause.0 c.are_entries-2.ensures (quiet deep)
-    (false_of _ c.propagate.new.arena c.in-Some-propagate.clause.0 kept.held.reordered (falsified_by _ _ _ c.in-Some-propagate.ensures.conflict))
+    (false_of _ c.propagate.new.arena c.in-Some-propagate.clause.0 kept.held.reordered
+    (falsified_by _ _ _ c.in-Some-propagate.ensures.conflict))

@@ -23,8 +23,10 @@ invariant_of-self-in_default-conclude g c =
     let held = held_as clauses search.arena _ c.go_back.new.trail search.refuted search.refuted c.go_back.ensures refl
     (held_undone clauses search.arena search.trail search.refuted 0 c.are_entries.ensures c.self.invariant.held) in
     kept_steps _ steps c.conclude.new.steps new.arena new.trail new.refuted _ c.in_default-conclude.ensures.err_steps
-    (kept_more _ steps search.arena new.arena search.trail new.trail search.refuted new.refuted _ c.explain_conflict.new.self.vars c.self.invariant
-    (c.in_default-conclude.ensures.err_held clauses held) (c.conclude.ensures.vars ∙ ap (λ (t : Trail). t.vars) c.go_back.ensures) c.conclude.ensures.watchers
+    (kept_more _ steps search.arena new.arena search.trail new.trail search.refuted new.refuted _
+    c.explain_conflict.new.self.vars c.self.invariant
+    (c.in_default-conclude.ensures.err_held clauses held) (c.conclude.ensures.vars ∙ ap (λ (t : Trail). t.vars)
+    c.go_back.ensures) c.conclude.ensures.watchers
     c.explain_conflict.ensures.vars)
 
 pub invariant_of-self-2 : goal.invariant_of-self-2
@@ -36,15 +38,19 @@ invariant_of-self-2 g c =
     let clauses = clauses_of steps in
     let held = held_as clauses search.arena _ c.go_back.new.trail search.refuted search.refuted c.go_back.ensures refl
     (held_undone clauses search.arena search.trail search.refuted 0 c.are_entries.ensures c.self.invariant.held) in
-    kept_push _ steps c.conclude.new.steps (Learn l.lits l.hints false) search.arena new.arena search.trail new.trail search.refuted new.refuted _ l.vars c.self.invariant
-    c.in-Ok-conclude.ensures.steps (fit_of search.arena search.trail l.lits l.hints _ c.self.invariant.trail_vars c.in-Ok.ensures.derived)
-    (c.in-Ok-conclude.ensures.held clauses held) (c.conclude.ensures.vars ∙ ap (λ (t : Trail). t.vars) c.go_back.ensures) c.conclude.ensures.watchers
+    kept_push _ steps c.conclude.new.steps (Learn l.lits l.hints false) search.arena new.arena search.trail new.trail
+    search.refuted new.refuted _ l.vars c.self.invariant
+    c.in-Ok-conclude.ensures.steps (fit_of search.arena search.trail l.lits l.hints _ c.self.invariant.trail_vars
+    c.in-Ok.ensures.derived)
+    (c.in-Ok-conclude.ensures.held clauses held) (c.conclude.ensures.vars ∙ ap (λ (t : Trail). t.vars)
+    c.go_back.ensures) c.conclude.ensures.watchers
     c.explain_conflict.ensures.vars
 
 pub returns-clause-ok : goal.returns-clause-ok
 returns-clause-ok g c =
     let l = c.explain_conflict.new.self in
     refuted_as _ _ _ l.lits c.self.view_is
-    (concluded_of _ _ c.self.inside.search.arena l.lits l.hints c.self.invariant.held.reordered c.self.invariant.trail_vars c.in-Ok.ensures.derived refl
+    (concluded_of _ _ c.self.inside.search.arena l.lits l.hints c.self.invariant.held.reordered
+    c.self.invariant.trail_vars c.in-Ok.ensures.derived refl
     c.in-Ok-conclude.ensures.steps c.conclude.ensures.ground)
     c.in-Ok.ensures.assumed

@@ -11,7 +11,8 @@ returns c =
     let level = c.args.level in
     let cut : c.cut_at-cut.result ≡ entries_up_to t level =
     c.cut_at-cut.ensures.cut ∙ ap (λ (ns : List ℕ). slice_index_or ns level c.len.result) c.deref.ensures.value
-    ∙ ap (slice_index_or inside.starts.items level) (c.len.ensures ∙ sym c.deref-2.ensures.len ∙ ap length c.deref-2.ensures.value ∙ sym (as_many inside.reasons.items inside.lits.items)) in
+    ∙ ap (slice_index_or inside.starts.items level) (c.len.ensures ∙ sym c.deref-2.ensures.len
+    ∙ ap length c.deref-2.ensures.value ∙ sym (as_many inside.reasons.items inside.lits.items)) in
     from_place inside.lits.items c.deref-2.result.now c.cut_at-cut.result c.deref-2.ensures.value
     ∙ ap (λ (n : ℕ). drop n inside.lits.items) cut
     ∙ ap (drop (entries_up_to t level)) (sym (lits_of_entries inside.reasons.items inside.lits.items))

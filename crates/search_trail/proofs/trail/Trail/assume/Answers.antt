@@ -29,7 +29,8 @@ put_lit-requires-clause-room c =
 place_now : (c : After-put_lit) → c.len-place.result ≡ length c.self.inside.lits.items
 place_now c = omega (arith, c.len-place.ensures, c.self.inside.lits.ok.0)
 
-starts_now : (c : After-put_lit) → c.push_start.new.starts.items ≡ c.self.inside.starts.items ++ length c.self.inside.lits.items ∷ []
+starts_now : (c : After-put_lit) → c.push_start.new.starts.items ≡ c.self.inside.starts.items
+    ++ length c.self.inside.lits.items ∷ []
 starts_now c = c.push_start.ensures.items ∙ ap (λ (n : ℕ). c.self.inside.starts.items ++ n ∷ []) (place_now c)
 
 pub invariant_of-self : goal.invariant_of-self
@@ -37,11 +38,13 @@ invariant_of-self c =
     let fresh = fresh_of _ _ _ _ _ _ _ _ c.self.invariant c.args.lit _ c.self.view_is c.requires.free in
     let inside = inside_of _ _ _ _ _ _ _ _ c.self.invariant c.args.lit _ c.self.view_is c.requires.within in
     rw (c.put_lit.ensures.values, c.put_lit.ensures.items, starts_now c, place_now c, c.var-var.ensures.value)
-    (fits_assumed _ _ _ _ _ _ _ _ c.self.invariant c.args.lit inside fresh 4294967295 _ _ c.put_lit.ensures.capacity c.push_start.ensures.capacity)
+    (fits_assumed _ _ _ _ _ _ _ _ c.self.invariant c.args.lit inside fresh 4294967295 _ _ c.put_lit.ensures.capacity
+    c.push_start.ensures.capacity)
 
 pub returns : goal.returns
 returns c =
     let fresh = fresh_of _ _ _ _ _ _ _ _ c.self.invariant c.args.lit _ c.self.view_is c.requires.free in
     let inside = inside_of _ _ _ _ _ _ _ _ c.self.invariant c.args.lit _ c.self.view_is c.requires.within in
     rw (c.put_lit.ensures.values, c.put_lit.ensures.items, starts_now c, c.var-var.ensures.value)
-    (seen_assumed _ _ _ _ _ _ _ _ c.self.invariant c.args.lit fresh inside ∙ ap (λ (t : Trail). assumed t c.args.lit) c.self.view_is)
+    (seen_assumed _ _ _ _ _ _ _ _ c.self.invariant c.args.lit fresh inside ∙ ap (λ (t : Trail). assumed t c.args.lit)
+    c.self.view_is)

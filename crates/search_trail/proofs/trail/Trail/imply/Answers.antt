@@ -29,12 +29,14 @@ invariant_of-self c =
     let fresh = fresh_of _ _ _ _ _ _ _ _ c.self.invariant c.args.lit _ c.self.view_is c.requires.free in
     let inside = inside_of _ _ _ _ _ _ _ _ c.self.invariant c.args.lit _ c.self.view_is c.requires.within in
     rw (c.put_lit.ensures.values, c.put_lit.ensures.items, place_now c, c.var-var.ensures.value)
-    (fits_implied _ _ _ _ _ _ _ _ c.self.invariant c.args.lit inside fresh c.args.clause.0 _ (few_clauses c) c.put_lit.ensures.capacity)
+    (fits_implied _ _ _ _ _ _ _ _ c.self.invariant c.args.lit inside fresh c.args.clause.0 _ (few_clauses c)
+    c.put_lit.ensures.capacity)
 
 pub returns : goal.returns
 returns c =
     let fresh = fresh_of _ _ _ _ _ _ _ _ c.self.invariant c.args.lit _ c.self.view_is c.requires.free in
     let inside = inside_of _ _ _ _ _ _ _ _ c.self.invariant c.args.lit _ c.self.view_is c.requires.within in
     rw (c.put_lit.ensures.values, c.put_lit.ensures.items, c.var-var.ensures.value)
-    (seen_implied _ _ _ _ _ _ _ _ c.self.invariant c.args.lit fresh inside c.args.clause.0 (reason_some c.args.clause.0 (few_clauses c))
+    (seen_implied _ _ _ _ _ _ _ _ c.self.invariant c.args.lit fresh inside c.args.clause.0
+    (reason_some c.args.clause.0 (few_clauses c))
     ∙ ap (λ (t : Trail). implied t c.args.lit c.args.clause.0) c.self.view_is)

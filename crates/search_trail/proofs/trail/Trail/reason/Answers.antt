@@ -11,5 +11,6 @@ returns-then-is_none c =
 pub returns : goal.returns
 returns c =
     c.reason_at.ensures
-    ∙ reason_held _ _ _ _ _ _ _ _ c.self.invariant c.args.var _ _ _ c.value.ensures c.is_none.ensures c.if-is_none.false c.index.ensures
+    ∙ reason_held _ _ _ _ _ _ _ _ c.self.invariant c.args.var _ _ _ c.value.ensures c.is_none.ensures
+    c.if-is_none.false c.index.ensures
     ∙ ap (λ (t : Trail). reason_in t.entries c.args.var) c.self.view_is

@@ -13,9 +13,11 @@ invariant_of-self c =
     let freeing : c.free_all.new.values ≡ freed inside.values (drop cut inside.lits.items) =
     c.free_all.ensures ∙ ap (freed inside.values) (from_place inside.lits.items c.deref.result.now cut c.deref.ensures.value) in
     let begins : slice_get inside.starts.items c.args.level ≡ Some cut =
-    slice_get_read inside.starts.items c.len.result c.args.level cut (omega (arith, c.len.ensures, inside.starts.ok.0)) c.if-level-len.true c.index.ensures in
+    slice_get_read inside.starts.items c.len.result c.args.level cut
+    (omega (arith, c.len.ensures, inside.starts.ok.0)) c.if-level-len.true c.index.ensures in
     rw (c.truncate.ensures.items, c.truncate-then-level-len.ensures.items, c.min-self-inside.ensures)
-    (fits_undone _ _ _ _ _ _ _ _ c.self.invariant c.args.level cut _ _ _ begins freeing (omega (arith, c.truncate.ensures.capacity))
+    (fits_undone _ _ _ _ _ _ _ _ c.self.invariant c.args.level cut _ _ _ begins freeing
+    (omega (arith, c.truncate.ensures.capacity))
     (omega (arith, c.truncate-then-level-len.ensures.capacity)))
 
 pub returns-then-level-len : goal.returns-then-level-len
@@ -25,7 +27,8 @@ returns-then-level-len c =
     let freeing : c.free_all.new.values ≡ freed inside.values (drop cut inside.lits.items) =
     c.free_all.ensures ∙ ap (freed inside.values) (from_place inside.lits.items c.deref.result.now cut c.deref.ensures.value) in
     let begins : slice_get inside.starts.items c.args.level ≡ Some cut =
-    slice_get_read inside.starts.items c.len.result c.args.level cut (omega (arith, c.len.ensures, inside.starts.ok.0)) c.if-level-len.true c.index.ensures in
+    slice_get_read inside.starts.items c.len.result c.args.level cut
+    (omega (arith, c.len.ensures, inside.starts.ok.0)) c.if-level-len.true c.index.ensures in
     rw (freeing, c.truncate.ensures.items, c.truncate-then-level-len.ensures.items, c.min-self-inside.ensures)
     (seen_undone inside.values inside.lits.items inside.reasons.items inside.starts.items inside.gone c.args.level cut begins
     ∙ ap (λ (t : Trail). undone t c.args.level) c.self.view_is)
@@ -34,5 +37,6 @@ pub returns-else-level-len : goal.returns-else-level-len
 returns-else-level-len c =
     let inside = c.self.inside in
     let top : length inside.starts.items ≤ c.args.level = search rules in
-    sym c.self.view_is ∙ seen_whole inside.values inside.lits.items inside.reasons.items inside.starts.items inside.gone c.args.level top c.self.invariant.gone_within
+    sym c.self.view_is ∙ seen_whole inside.values inside.lits.items inside.reasons.items inside.starts.items
+    inside.gone c.args.level top c.self.invariant.gone_within
     ∙ ap (λ (t : Trail). undone t c.args.level) c.self.view_is

@@ -13,10 +13,17 @@ invariant_of-self c =
           let more : c.push.new.self.items ≡ c.self.inside.relations.items ++ c.args.relation ∷ [] = search rules in
           record {
             relations = rw (more, same) c.requires;
-            rules = rw more (rules_beside c.self.inside.relations.items (c.args.relation ∷ []) c.self.inside.rules.items c.self.invariant.rules);
-            copies = rw more (copies_beside c.self.inside.relations.items (c.args.relation ∷ []) c.self.inside.copies.items c.self.invariant.copies);
+            rules = rw more (rules_beside c.self.inside.relations.items (c.args.relation ∷ [])
+                c.self.inside.rules.items c.self.invariant.rules);
+            copies = rw more (copies_beside c.self.inside.relations.items (c.args.relation ∷ [])
+                c.self.inside.copies.items c.self.invariant.copies);
           }
       | in-Err w ↦
           let kept : c.push.new.self.items ≡ c.self.inside.relations.items = search rules in
-          record { relations = rw kept c.self.invariant.relations; rules = rw kept c.self.invariant.rules; copies = rw kept c.self.invariant.copies }
+          record {
+            relations = rw kept c.self.invariant.relations;
+            rules = rw kept c.self.invariant.rules;
+            copies =
+                rw kept c.self.invariant.copies;
+          }
     ]

@@ -8,4 +8,5 @@ pub returns-in-None-clause-yes : goal.returns-in-None-clause-yes
 returns-in-None-clause-yes c _ =
     let inside : c.args.var < length c.self.inside.values.items = omega arith in
     ap (λ (b : List (Option Value)). bind b c.args.var c.args.value.now) (sym c.self.view_is)
-    ∙ bind_free (λ v. v.now) c.self.inside.values.items c.args.var c.index.result.now c.args.value inside c.index.ensures c.in-None.is
+    ∙ bind_free (λ v. v.now) c.self.inside.values.items c.args.var c.index.result.now c.args.value inside
+    c.index.ensures c.in-None.is

@@ -4,4 +4,5 @@ use Rattle.ucq_answers.proofs.binding.Binding.values.Given as goal
 
 abbrev pub invariant-loop-value : goal.invariant-loop-value
 invariant-loop-value l =
-    l.tuple ++ values_of (map (λ value. option_map (λ v. v.now) value) (drop l.value-index l.value-items)) ≡ values_of (map (λ value. option_map (λ v. v.now) value) l.value-items)
+    l.tuple ++ values_of (map (λ value. option_map (λ v. v.now) value) (drop l.value-index l.value-items)) ≡
+    values_of (map (λ value. option_map (λ v. v.now) value) l.value-items)

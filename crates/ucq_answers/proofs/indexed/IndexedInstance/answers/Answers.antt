@@ -16,10 +16,12 @@ returns-then-len-at_most-clause-more c =
     let relations = c.deref.ensures.value ∙ ap (λ (i : IndexedQuery). i.instance) c.self.view_is in
     let disjuncts = c.deref-2.ensures.value ∙ ap (λ (i : IndexedQuery). i.query.disjuncts) c.self.view_is in
     let adds = subst (λ (l : List Disjunct). Adds (IsAnswerOf l own.instance) old new full) disjuncts
-    (subst (λ (r : List (List (List Value))). Adds (IsAnswerOf c.deref-2.result.now r) old new full) relations c.in_ok-collect_all.ensures) in
+    (subst (λ (r : List (List (List Value))). Adds (IsAnswerOf c.deref-2.result.now r) old new full) relations
+    c.in_ok-collect_all.ensures) in
     let count = ap (λ (l : List (List Value)). length l) c.in_ok-tuples.ensures.tuples in
     let many : c.args.at_most < length new.tuples = omega (arith, count, c.len.ensures, c.if-len-at_most.true) in
-    answers_more own.query own.instance c.args.at_most old new full c.new-answers.ensures adds c.in_ok-tuples.ensures.ascending many
+    answers_more own.query own.instance c.args.at_most old new full c.new-answers.ensures adds
+    c.in_ok-tuples.ensures.ascending many
 
 pub returns-clause-all : goal.returns-clause-all
 returns-clause-all c =
@@ -30,8 +32,10 @@ returns-clause-all c =
     let relations = c.deref.ensures.value ∙ ap (λ (i : IndexedQuery). i.instance) c.self.view_is in
     let disjuncts = c.deref-2.ensures.value ∙ ap (λ (i : IndexedQuery). i.query.disjuncts) c.self.view_is in
     let adds = subst (λ (l : List Disjunct). Adds (IsAnswerOf l own.instance) old new full) disjuncts
-    (subst (λ (r : List (List (List Value))). Adds (IsAnswerOf c.deref-2.result.now r) old new full) relations c.in_ok-collect_all.ensures) in
+    (subst (λ (r : List (List (List Value))). Adds (IsAnswerOf c.deref-2.result.now r) old new full) relations
+    c.in_ok-collect_all.ensures) in
     let count = ap (λ (l : List (List Value)). length l) c.in_ok-tuples.ensures.tuples in
     let few : length new.tuples ≤ c.args.at_most = omega (arith, count, c.len.ensures, c.if-len-at_most.false) in
     subst (AreAnswers own.query own.instance) (sym c.in_ok-tuples.ensures.tuples)
-    (answers_are own.query own.instance c.args.at_most old new full c.new-answers.ensures adds c.in_ok-tuples.ensures.ascending few)
+    (answers_are own.query own.instance c.args.at_most old new full c.new-answers.ensures adds
+    c.in_ok-tuples.ensures.ascending few)

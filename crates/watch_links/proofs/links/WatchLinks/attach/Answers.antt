@@ -15,7 +15,8 @@ linked c =
     let inside = seen_owner _ _ _ _ c.args.owner seen c.requires.inside in
     let is_first = get_or_read c.self.inside.first.items c.args.owner first inside c.index-first.ensures 0 in
     let next_is = c.write_prev.ensures.next ∙ c.write_link.ensures.next in
-    seen_on _ _ _ _ _ (prevs c.write_link.new.links.items) _ _ c.args.owner c.args.slot first seen c.requires.free c.requires.below c.requires.inside is_first
+    seen_on _ _ _ _ _ (prevs c.write_link.new.links.items) _ _ c.args.owner c.args.slot first seen c.requires.free
+    c.requires.below c.requires.inside is_first
     next_is c.write_link.ensures.prev c.write_prev.ensures.prev c.write_first.ensures
 
 pub invariant_of-self : goal.invariant_of-self

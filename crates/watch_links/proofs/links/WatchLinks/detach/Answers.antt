@@ -13,7 +13,8 @@ index-link-requires c =
     let below = stands_below _ _ _ c.args.owner c.args.slot seen c.requires in
     omega (arith, below, c.self.inside.links.ok.0)
 
-linked : (c : After-write_first) → AreLinked c.write_first.new.firsts.items (nexts c.write_prev.new.links.items) (prevs c.write_prev.new.links.items)
+linked : (c : After-write_first) → AreLinked c.write_first.new.firsts.items (nexts c.write_prev.new.links.items)
+    (prevs c.write_prev.new.links.items)
     (lists_without c.args.self.now.lists c.args.owner c.args.slot)
 linked c =
     let slots = c.self.inside.links.items in
@@ -23,8 +24,10 @@ linked c =
     let before = prev_read slots c.args.slot link below c.index-link.ensures in
     let after = next_read slots c.args.slot link below c.index-link.ensures in
     let next_is = c.write_prev.ensures.next ∙ c.write_next.ensures.next in
-    let prev_is = c.write_prev.ensures.prev ∙ ap (λ (prev : List ℕ). slice_set prev link.next link.prev) c.write_next.ensures.prev in
-    seen_off _ _ _ _ _ _ _ c.args.owner c.args.slot link.prev link.next seen c.requires before after c.write_first.ensures next_is prev_is
+    let prev_is = c.write_prev.ensures.prev ∙ ap (λ (prev : List ℕ). slice_set prev link.next link.prev)
+    c.write_next.ensures.prev in
+    seen_off _ _ _ _ _ _ _ c.args.owner c.args.slot link.prev link.next seen c.requires before after
+    c.write_first.ensures next_is prev_is
 
 pub invariant_of-self : goal.invariant_of-self
 invariant_of-self c = closed _ _ _ _ (linked c)

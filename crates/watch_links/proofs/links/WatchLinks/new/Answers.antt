@@ -5,7 +5,8 @@ use Rattle.watch_links.proofs.WalkFacts.{closed, walks_are}
 use Rattle.watch_links.proofs.links.WatchLinks.new.Goals as goal
 use Rattle.watch_links.proofs.links.WatchLinks.new.Goals.{After-new}
 
-linked : (c : After-new) → AreLinked c.in-Ok.first.items (nexts c.new.result.items) (prevs c.new.result.items) (replicate c.args.owners [])
+linked : (c : After-new) → AreLinked c.in-Ok.first.items (nexts c.new.result.items) (prevs c.new.result.items)
+    (replicate c.args.owners [])
 linked c = rw (c.in-Ok.ensures, c.new.ensures.items) (linked_new c.args.owners)
 
 pub invariant_of-result : goal.invariant_of-result

@@ -6,7 +6,8 @@ use Rattle.watch_links.proofs.WalkFacts.{closed, walks_are}
 use Rattle.watch_links.proofs.links.WatchLinks.push_none.Goals as goal
 use Rattle.watch_links.proofs.links.WatchLinks.push_none.Goals.{After-push_no_links}
 
-linked : (c : After-push_no_links) → AreLinked c.self.inside.first.items (nexts c.push_no_links.new.links.items) (prevs c.push_no_links.new.links.items)
+linked : (c : After-push_no_links) → AreLinked c.self.inside.first.items (nexts c.push_no_links.new.links.items)
+    (prevs c.push_no_links.new.links.items)
     c.reserve.new.self.lists
 linked c =
     let seen = seen_of _ _ _ _ c.self.invariant c.self.view_is in

@@ -5,7 +5,8 @@ pub loop-at-init : goal.loop-at-init
 loop-at-init c = walk_begins _ _ _ c.new-seen.ensures.items c.first-at.ensures
 
 pub next-at-requires : goal.next-at-requires
-next-at-requires c = c.are_whole.ensures.within c.args.owner c.in-Some.slot (walk_stands _ _ _ _ _ c.loop-at.invariant c.in-Some.is)
+next-at-requires c = c.are_whole.ensures.within c.args.owner c.in-Some.slot
+    (walk_stands _ _ _ _ _ c.loop-at.invariant c.in-Some.is)
 
 pub loop-at-smaller : goal.loop-at-smaller
 loop-at-smaller c =
@@ -15,7 +16,8 @@ loop-at-smaller c =
 pub loop-at-preserved : goal.loop-at-preserved
 loop-at-preserved c =
     let on = c.next-at.ensures c.args.owner (walk_stands _ _ _ _ _ c.loop-at.invariant c.in-Some.is) in
-    walk_goes_on _ _ _ _ _ _ c.in-Some.slot (c.are_whole.ensures.once c.args.owner) c.loop-at.invariant c.in-Some.is c.in-Ok.ensures.items on
+    walk_goes_on _ _ _ _ _ _ c.in-Some.slot (c.are_whole.ensures.once c.args.owner) c.loop-at.invariant c.in-Some.is
+    c.in-Ok.ensures.items on
 
 pub returns : goal.returns
 returns c = walk_ends _ _ _ _ c.loop-at.invariant c.in_default.is

@@ -1,0 +1,5 @@
+pub mod FoundTexts
+pub mod OwnItems
+pub mod Replies
+pub mod Written
+pub mod Jobs

@@ -1,0 +1,5 @@
+mod Sequence
+mod Writables
+pub mod ExplainStages
+pub mod Replies
+pub mod Jobs
