@@ -8,15 +8,18 @@ Families, each in N rows in entities of 8 (half of them copied from the other ha
 - `conflicts`: a thousandth of the entities (at least one, at most 1,000) have two given pairs that go round; `conflicts`
   beside `ask consistent` of the same rows without them.
 Prints per family and N the time of both, their ratio, the time per row beside that of the smallest N, how many items were
-printed, and the bytes of the text. Where a case is above a mark, this is said and the exit status is 1."""
+printed, and the bytes of the text, with those beside its first completion. Where a case is above a mark, this is said and the exit status is 1."""
+import itertools
 import tempfile
 
 from runs import build, end, timed
 
 SIZES = [1_000, 10_000, 100_000]
 ENTITY = 8
-# the most that a family may take beside `ask`, how its time per row may grow, and how many items it has to print
-MARKS = {"pair": (2, 3, 5), "circle": (4, 3, 64), "rules": (4, 3, 2), "conflicts": (4, 3, None)}
+# the most that a family may take beside `ask`, how its time per row may grow, how many items it has to print, and the rows of
+# the part that matters, for each of which and each item the text may have so many bytes beside one whole completion
+MARKS = {"pair": (2, 3, 5, 16), "circle": (4, 3, 64, 64), "rules": (4, 3, 2, 16), "conflicts": (4, 3, None, None)}
+BYTES = 40
 
 SPEC = """relation item from "item.csv" row id entity eid (a: int, b: int, c: int);
 relation view from "view.csv" row id entity eid (d: int);
@@ -91,12 +94,18 @@ def blame(folder, rows):
     return len(wrong)
 
 
+def first_completion(lines):
+    """The bytes of the first completion of an explanation, if it has one."""
+    ranked = list(itertools.dropwhile(lambda line: not line.startswith("ranking "), lines))
+    return sum(len(line.encode()) + 1 for line in itertools.takewhile(lambda line: line.startswith("ranking "), ranked))
+
+
 def main():
     build()
     above, first = [], {}
     for family in (pair, circle, rules, conflicts):
         name = family.__name__
-        most, growth, items = MARKS[name]
+        most, growth, items, part = MARKS[name]
         for rows in SIZES:
             with tempfile.TemporaryDirectory() as folder:
                 asked, words = family(folder, rows)
@@ -105,12 +114,15 @@ def main():
                 spent, megabytes, said = timed(folder, words)
             lines = said.decode().splitlines()
             found = sum(line.startswith("item ") for line in lines)
+            beside = len(said) - first_completion(lines)
             per_row = spent / rows
             first.setdefault(name, per_row)
             print(f"{name} {rows}: {spent:.2f} s, {spent / asked_time:.2f} times ask ({asked_time:.2f} s), "
-                  f"{per_row / first[name]:.2f} times the time per row, {megabytes:.0f} MB, {found} items, {len(said)} bytes")
+                  f"{per_row / first[name]:.2f} times the time per row, {megabytes:.0f} MB, {found} items, {len(said)} bytes, {beside} beside one completion")
             if items is not None and found != items:
                 above.append(f"{name} {rows}: {found} items")
+            if items is not None and beside > BYTES * items * part:
+                above.append(f"{name} {rows}: {beside} bytes beside one completion")
             if count is not None and lines[1] != f"conflicts {count};":
                 above.append(f"{name} {rows}: {lines[1]}")
             if rows == SIZES[-1] and spent > most * asked_time:

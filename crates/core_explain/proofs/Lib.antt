@@ -1,5 +1,5 @@
+mod Bases
 mod Claims
 pub mod Completions
-mod Everything
 mod Reports
 mod Units

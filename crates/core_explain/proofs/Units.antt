@@ -22,9 +22,10 @@ use Rattle.minimal_items.specs.Explanations.{IsExplanation, IsNeeded, needed_ite
 use Rattle.minimal_items.specs.declared.needed.Needed.{Needed}
 use Rattle.minimal_items.specs.declared.reducing.Spent.{Spent}
 use Rattle.core_explain.specs.Explained.{ExplainsInconsistency, ExplainsUnit, IsSpentTrying}
-use Rattle.core_explain.specs.Steps.{IsForUnit, IsSought}
-use Rattle.core_explain.specs.declared.seeking.Sought.{Sought}
-use Rattle.core_explain.specs.declared.seeking.Sought.TheVariants as sought
+use Rattle.near_items.specs.Sought.{IsSought}
+use Rattle.near_items.specs.declared.seeking.Sought.{Sought}
+use Rattle.near_items.specs.declared.seeking.Sought.TheVariants as sought
+use Rattle.core_explain.specs.Steps.{IsForUnit}
 use Rattle.core_explain.proofs.Claims.{claims_hold}
 use Rattle.core_explain.proofs.Completions.{completion_whole}
 

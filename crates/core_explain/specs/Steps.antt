@@ -1,8 +1,6 @@
 -- What is known on the way to an explanation.
 use Rattle.std.specs.Prelude.{◌≡◌, ◌≢◌, ℕ, true}
 use Rattle.currency_ask.specs.Answered.{IsAnswerWithin}
-use Rattle.minimal_items.specs.Explanations.{IsExplanation}
-use Rattle.minimal_items.specs.Reduced.{IsSpentOn}
 use Rattle.report_model.specs.Verdicts.{is_decided, kind_of}
 use Rattle.report_model.specs.declared.report.Report.{Report}
 use Rattle.report_model.specs.declared.verdict.Verdict.TheVariants.{Inconsistent}
@@ -14,16 +12,8 @@ use Rattle.spec_model.specs.Consistent.{IsSatisfiable}
 use Rattle.spec_model.specs.Spec.{Spec}
 use Rattle.spec_model.specs.declared.question.Question.{Question}
 use Rattle.unit_questions.specs.Claims.{ClaimHolds}
-use Rattle.unit_questions.specs.Facts.{FactHolds}
 use Rattle.unit_questions.specs.Units.{question_of}
 use Rattle.core_explain.specs.Explained.{IsUnit}
-use Rattle.core_explain.specs.declared.seeking.Sought.{Sought}
-use Rattle.core_explain.specs.declared.seeking.Sought.TheVariants.{Needs, Open}
-
--- an explanation of a question's fact, or a part for which the budget is spent
-abbrev pub IsSought : Spec → Question → ℕ → Sought → Type 0
-IsSought s q budget (Needs needed) = IsExplanation s (FactHolds s.relations q) needed
-IsSought s q budget (Open spent) = IsSpentOn s q budget spent
 
 -- what is told of the report that answers the question
 pub record IsAnswer (s : Spec) (q : Question) (budget : ℕ) (report : Report) : Type 0 where

@@ -1,15 +1,15 @@
-ghost use Rattle.std.specs.Prelude.{IfOk};
+ghost use Rattle.std.specs.Prelude.{◌≡◌, All, IfOk, option_map, slice_get};
 ghost use Rattle.search_logs.specs.SearchLogs.{IsWithin};
 ghost use Rattle.spec_model.specs.Questions.{IsQuestionOn};
-ghost use Rattle.spec_model.specs.Consistent.{IsSatisfiable};
+ghost use Rattle.spec_model.specs.Consistent.{IsConsistent, IsSatisfiable};
 ghost use Rattle.unit_questions.specs.Facts.{IsFactQuestion};
 ghost use Rattle.core_explain.specs.Explained.{IsExplained};
 ghost use Rattle.core_explain.specs.Steps.{IsAnswer, IsDecidedAnswer, IsForUnit};
 
-use crate::seeking::{Sought, seek};
 use currency_ask::{AskFault, answer};
 use currency_base::NoMemory;
 use minimal_items::{NeededList, Spent};
+use near_items::{Sought, seek};
 use refutation_log::Log;
 use report_model::{Kind, Report};
 use solver_guides::Guides;
@@ -100,7 +100,15 @@ fn of_contradiction(
     requires inconsistent { IsSatisfiable spec.now → ⊥ }
     ensures { IfOk result (IsExplained spec.now question.now unit budget) }
 {
-    match seek(alloc, spec, &Question::Consistent, log, budget, guides) {
+    match seek(
+        alloc,
+        spec,
+        &Question::Consistent,
+        log,
+        None,
+        budget,
+        guides,
+    ) {
         Ok(Sought::Needs(needed)) => Ok(Explained::Inconsistent(needed)),
         Ok(Sought::Open(spent)) => Ok(Explained::Open(spent)),
         Err(NoMemory) => Err(NoMemory),
@@ -123,16 +131,7 @@ fn of_decided(
     ensures { IfOk result (IsExplained spec.now question.now unit budget) }
 {
     match unit_question(alloc, spec, question, &report.verdict, unit) {
-        Ok(Some(asks)) => of_unit(
-            alloc,
-            spec,
-            question,
-            unit,
-            &asks,
-            &report.log,
-            budget,
-            guides,
-        ),
+        Ok(Some(asks)) => of_unit(alloc, spec, question, unit, &asks, &report, budget, guides),
         Ok(None) => Ok(Explained::NoUnit(report)),
         Err(NoMemory) => Err(NoMemory),
     }
@@ -145,7 +144,7 @@ fn of_unit(
     question: &Question,
     unit: u32,
     asks: &Question,
-    log: &Log,
+    report: &Report,
     budget: u64,
     guides: &mut Guides,
 ) -> Result<Explained, NoMemory>
@@ -153,12 +152,25 @@ fn of_unit(
     requires question { IsQuestionOn spec.now.relations question.now }
     requires fact { IsFactQuestion spec.now.relations asks.now }
     requires asks { IsForUnit spec.now question.now unit asks.now }
+    requires consistent { All (IsConsistent spec.now) report.now.completions }
     ensures { IfOk result (IsExplained spec.now question.now unit budget) }
 {
     claims_are_asked();
-    match seek(alloc, spec, asks, log, budget, guides) {
+    let base = first_of(report);
+    match seek(alloc, spec, asks, &report.log, base, budget, guides) {
         Ok(Sought::Needs(needed)) => Ok(Explained::Unit(needed)),
         Ok(Sought::Open(spent)) => Ok(Explained::Open(spent)),
         Err(NoMemory) => Err(NoMemory),
+    }
+}
+
+/// The first completion that a report lists, if it lists one.
+fn first_of(report: &Report) -> Option<&Completion>
+    ensures { option_map (λ c. c.now) result ≡ slice_get report.now.completions 0 }
+{
+    if report.completions.len() > 0 {
+        Some(report.completions.get(0))
+    } else {
+        None
     }
 }

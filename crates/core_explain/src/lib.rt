@@ -2,7 +2,5 @@
 #![tactic(auto)]
 
 mod explaining;
-mod named;
-mod seeking;
 
 pub use explaining::{Explained, explain};

@@ -82,8 +82,8 @@ fn first_without(
     Ok(None)
 }
 
-/// Is the empty tuple an answer over a completion?
-fn has_answer(
+/// Is the empty tuple an answer of a query over a completion?
+pub fn has_answer(
     alloc: Global,
     spec: &Specification,
     query: &Query,

@@ -4,4 +4,5 @@
 mod failing;
 mod trial;
 
+pub use failing::has_answer;
 pub use trial::{Trial, try_fact};

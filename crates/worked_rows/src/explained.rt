@@ -88,7 +88,7 @@ order R.a: r1 < r2, r2 < r3;
 explains 1;
 item given R.a: r1 < r2;
 completion;
-ranking R.a of x: r2 < r3 < r1;
+ranking R.a of x: r3 < r2 < r1;
 end;
 >> explain s q 2
 0 currency explanation 1;
@@ -210,8 +210,8 @@ end;
 explains 3;
 item rule pay;
 completion;
-ranking Emp.status of mary: s1 < s3 < s2;
-ranking Emp.last of mary: s1 < s3 < s2;
+ranking Emp.status of mary: s3 < s2 < s1;
+ranking Emp.last of mary: s3 < s2 < s1;
 ranking Emp.salary of mary: s3 < s2 < s1;
 ranking Emp.address of mary: s3 < s2 < s1;
 end;
@@ -220,14 +220,12 @@ end;
 explains 4;
 item rule pay;
 completion;
-ranking Emp.status of mary: s1 < s3 < s2;
-ranking Emp.last of mary: s1 < s3 < s2;
+ranking Emp.status of mary: s3 < s2 < s1;
+ranking Emp.last of mary: s3 < s2 < s1;
 ranking Emp.salary of mary: s3 < s2 < s1;
 ranking Emp.address of mary: s3 < s2 < s1;
 item rule move;
 completion;
-ranking Emp.status of mary: s3 < s2 < s1;
-ranking Emp.last of mary: s3 < s2 < s1;
 ranking Emp.salary of mary: s2 < s1 < s3;
 end;
 >> explain s q 5
@@ -383,7 +381,6 @@ ranking R.b of y: q2 < q1;
 item rule up;
 completion;
 ranking R.a of x: r2 < r1;
-ranking R.a of y: q2 < q1;
 end;
 
 == a rule that nothing meets

@@ -23,6 +23,8 @@ mod copies;
 #[cfg(test)]
 mod documents;
 #[cfg(test)]
+mod dropped;
+#[cfg(test)]
 mod explained;
 #[cfg(test)]
 mod faults;
@@ -30,6 +32,10 @@ mod faults;
 mod forced;
 #[cfg(test)]
 mod forged;
+#[cfg(test)]
+mod guide_kinds;
+#[cfg(test)]
+mod guided;
 #[cfg(test)]
 mod hints;
 #[cfg(test)]
@@ -53,6 +59,10 @@ mod rings;
 #[cfg(test)]
 mod rules;
 #[cfg(test)]
+mod steered;
+#[cfg(test)]
+mod steered_rows;
+#[cfg(test)]
 mod told;
 #[cfg(test)]
 mod trials;
@@ -64,3 +74,5 @@ mod values;
 mod verdicts;
 #[cfg(test)]
 mod verify;
+#[cfg(test)]
+mod wrong_guides;

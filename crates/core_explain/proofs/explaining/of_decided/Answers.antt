@@ -19,6 +19,9 @@ of_unit-requires-clause-asks g c =
     for_unit c.args.spec.now c.args.question.now c.args.unit c.args.report.verdict c.requires.answer.shown.sound.one_of
     c.requires.answer.right _ (sym c.in-Ok-Some.ensures.asked ∙ c.in-Ok-Some.field-0-is)
 
+pub of_unit-requires-clause-consistent : goal.of_unit-requires-clause-consistent
+of_unit-requires-clause-consistent g c = c.requires.answer.shown.sound.consistent
+
 pub returns-in-Ok-None : goal.returns-in-Ok-None
 returns-in-Ok-None g c =
     record {

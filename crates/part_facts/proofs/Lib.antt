@@ -1,0 +1,3 @@
+mod Tuples
+mod Widened
+mod AskedParts

@@ -1,0 +1,4 @@
+mod Numbers
+mod WholePlaces
+mod WholeCompletions
+mod Wholes

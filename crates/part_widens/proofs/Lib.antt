@@ -1,0 +1,10 @@
+mod Lists
+mod Members
+mod PartItems
+mod KeptSpec
+mod KeptCompletions
+mod WideItems
+mod Enough
+mod Joins
+mod Fails
+mod WidenedExplanations
