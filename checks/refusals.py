@@ -3,8 +3,8 @@
 
 A small library, built of `refusals.c` and preloaded, counts the program's allocations, reads, opens and writes and refuses one of
 them: each allocation once, and it and each later one; each read, open and write; and each read and write is cut to one byte. So it is
-done over a handful of specifications and questions, `verify` of their reports, `forced`, `explain`, `conflicts`, and the generated
-documents.
+done over a handful of specifications and questions, `verify` of their reports, `forced`, `explain`, `conflicts`, `golden`, and
+the generated documents.
 
 Right is: the status and the text without a refusal; or, where a guide was refused memory and is not asked any more, another report
 that `verify` accepts, or the same explanation with other completions (these cases have one each); or what the table of causes in
@@ -97,6 +97,10 @@ CASES = [
     ("conflicts, circle", CIRCLE, ["conflicts", "s"]),
     ("conflicts, department", DEPARTMENT, ["conflicts", "s"]),
     ("conflicts, eight clauses", EIGHT_CLAUSES, ["conflicts", "s"]),
+    ("golden, circle", CIRCLE, ["golden", "s", "R"]),
+    ("golden, department", DEPARTMENT, ["golden", "s", "Emp"]),
+    ("golden, either", EITHER, ["golden", "s", "R"]),
+    ("golden, eight clauses", EIGHT_CLAUSES, ["golden", "s", "R", "--budget", "1"]),
     ("trial 2", {}, ["trial", "2"]),
     ("refused words", CIRCLE, ["ask", "s"]),
     ("refused document", {**CIRCLE, "q": "consistent"}, ASK),
@@ -162,7 +166,7 @@ class Case:
             return status == 9 and self.text.startswith(text) or is_other
         if kind in ("read", "open"):
             return status == 7 and text.startswith(b"read fault ") and text.count(b"\n") == 1
-        return self.text.startswith(text) and status == (8 if self.status in (0, 3) else self.status)
+        return self.text.startswith(text) and status == (8 if self.status in (0, 3, 10) else self.status)
 
     def refuse(self, kind, how, pool):
         """Refuses each call of a kind in turn: how many were tried, of how many, what they came to, and which were wrong."""

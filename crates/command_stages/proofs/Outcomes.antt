@@ -1,7 +1,7 @@
 -- Outcomes that are alike, and what each says.
 use Rattle.std.proofs.Common.{◌≡◌, ◌≢◌, ◌∙◌, Bool, true, false, IfErr, MatchResult, Result, Ok, Err, refl, sym, subst}
 use Rattle.command_stages.specs.Alike.{AreAlike, EndAlike}
-use Rattle.command_stages.specs.Endings.{IsOfQuestion, ending_of}
+use Rattle.command_stages.specs.Endings.{IsOfQuestion, IsOfTable, ending_of}
 use Rattle.command_stages.specs.Named.{IsReadFault}
 use Rattle.command_stages.specs.Stages.{Then}
 use Rattle.command_stages.specs.declared.done.Done.{Done}
@@ -23,6 +23,9 @@ end_alike : (e : Ending) → EndAlike e e
 end_alike ending.Told = refl
 end_alike ending.Decided = tt
 end_alike ending.Undecided = tt
+end_alike ending.Tabled = tt
+end_alike ending.Inconsistent = tt
+end_alike ending.Open = tt
 
 pub same_alike : (a b : Result Done Trouble) → a ≡ b → AreAlike a b
 same_alike a b same = subst (AreAlike a) same (self a)
@@ -39,6 +42,17 @@ questions_end_alike : (d e : Ending) → IsOfQuestion d → IsOfQuestion e → E
 questions_end_alike ending.Told e h k = absurd h
 questions_end_alike ending.Decided e h k = k
 questions_end_alike ending.Undecided e h k = k
+questions_end_alike ending.Tabled e h k = absurd h
+questions_end_alike ending.Inconsistent e h k = absurd h
+questions_end_alike ending.Open e h k = absurd h
+
+tables_end_alike : (d e : Ending) → IsOfTable d → IsOfTable e → EndAlike d e
+tables_end_alike ending.Told e h k = absurd h
+tables_end_alike ending.Decided e h k = absurd h
+tables_end_alike ending.Undecided e h k = absurd h
+tables_end_alike ending.Tabled e h k = k
+tables_end_alike ending.Inconsistent e h k = k
+tables_end_alike ending.Open e h k = k
 
 -- two answers
 pub answers_alike : (d e : Done) (a b : Result Done Trouble) → IsOfQuestion d.ending → IsOfQuestion e.ending
@@ -46,6 +60,13 @@ pub answers_alike : (d e : Done) (a b : Result Done Trouble) → IsOfQuestion d.
 answers_alike d e a b first second h k =
     subst (λ (o : Result Done Trouble). AreAlike o b) (sym h)
     (subst (λ (o : Result Done Trouble). AreAlike (Ok d) o) (sym k) (questions_end_alike d.ending e.ending first second))
+
+-- two tables
+pub tables_alike : (d e : Done) (a b : Result Done Trouble) → IsOfTable d.ending → IsOfTable e.ending
+    → a ≡ Ok d → b ≡ Ok e → AreAlike a b
+tables_alike d e a b first second h k =
+    subst (λ (o : Result Done Trouble). AreAlike o b) (sym h)
+    (subst (λ (o : Result Done Trouble). AreAlike (Ok d) o) (sym k) (tables_end_alike d.ending e.ending first second))
 
 -- an answer, and that there are too many
 pub answer_or_limit : (d : Done) (a b : Result Done Trouble) → IsOfQuestion d.ending → a ≡ Ok d

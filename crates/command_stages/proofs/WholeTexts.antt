@@ -1,7 +1,10 @@
 -- What holds of the bytes that were read holds of the document, which they are.
-use Rattle.std.proofs.Common.{◌≡◌, ◌≤◌, ℕ, List, length, Option, Some, None, IfSome, Result, subst, inr}
+use Rattle.std.proofs.Common.{◌≡◌, ◌≤◌, ℕ, List, length, Option, Some, None, IfSome, IfOk, Result, Ok, Err, subst, inr}
 use Rattle.currency_edge.specs.Shelf.{document}
-use Rattle.command_stages.specs.Stages.{Within}
+use Rattle.spec_bind.specs.Bound.{IsSpecBound as IsBound}
+use Rattle.command_stages.specs.Stages.{Within, IsSpecTree}
+use Rattle.command_stages.specs.Trees.{IsTreeOf}
+use Rattle.command_stages.specs.declared.read_spec.ReadSpec.{ReadSpec}
 use Rattle.command_stages.specs.declared.trouble.Trouble.{Trouble}
 
 pub of_document : {A : Type 0} (told : Option (List (List ℕ × List ℕ))) (name bytes : List ℕ) (bound : ℕ)
@@ -17,3 +20,15 @@ pub of_whole_document : (told : Option (List (List ℕ × List ℕ))) (name byte
     → IfSome told (λ t. bytes ≡ document t name) → P bytes → IfSome told (λ t. P (document t name))
 of_whole_document None name bytes P whole holds = tt
 of_whole_document (Some t) name bytes P whole holds = subst P whole holds
+
+-- the tree of the bytes is the tree of the document
+pub of_whole_tree : (told : Option (List (List ℕ × List ℕ))) (name bytes : List ℕ) (outcome : Result ReadSpec Trouble)
+    → IfSome told (λ t. bytes ≡ document t name) → IfOk outcome (λ read. IsSpecTree name bytes (Ok read.tree))
+    → IfOk outcome (λ read. IfSome told (λ t. IsBound t read.tree (Ok read.spec)))
+    → IfOk outcome (λ read. IfSome told (λ t. IsTreeOf t name read.tree read.spec))
+of_whole_tree told name bytes (Err e) whole reads bound = tt
+of_whole_tree None name bytes (Ok read) whole reads bound = tt
+of_whole_tree (Some t) name bytes (Ok read) whole reads bound = record {
+  reads = subst (λ (b : List ℕ). IsSpecTree name b (Ok read.tree)) whole reads;
+  bound = bound;
+}

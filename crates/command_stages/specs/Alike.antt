@@ -1,19 +1,22 @@
--- Outcomes that differ in no more than what answers a question.
+-- Outcomes that differ in no more than what answers a question, or what a table tells.
 use Rattle.std.specs.Prelude.{◌≡◌, Result, Ok, Err}
-use Rattle.command_stages.specs.Endings.{IsOfQuestion}
+use Rattle.command_stages.specs.Endings.{IsOfQuestion, IsOfTable}
 use Rattle.command_stages.specs.declared.done.Done.{Done}
 use Rattle.command_stages.specs.declared.done.Ending.{Ending}
-use Rattle.command_stages.specs.declared.done.Ending.TheVariants.{Told, Decided, Undecided}
+use Rattle.command_stages.specs.declared.done.Ending.TheVariants.{Told, Decided, Undecided, Tabled, Inconsistent, Open}
 use Rattle.command_stages.specs.declared.trouble.Trouble.{Trouble}
 use Rattle.command_stages.specs.declared.trouble.Trouble.TheVariants.{Limit}
 
--- both end as a text that there is just to tell, or both as a question
+-- both end as a text that there is just to tell, or both as a question, or both as a table
 abbrev pub EndAlike : Ending → Ending → Type 0
 EndAlike Told other = other ≡ Told
 EndAlike Decided other = IsOfQuestion other
 EndAlike Undecided other = IsOfQuestion other
+EndAlike Tabled other = IsOfTable other
+EndAlike Inconsistent other = IsOfTable other
+EndAlike Open other = IsOfTable other
 
--- texts that there are just to tell, or answers to a question, or one trouble; or an answer, and that a query has more
+-- texts that there are just to tell, or answers to a question, or tables, or one trouble; or an answer, and that a query has more
 -- answers over a completion than are gone through
 abbrev pub AreAlike : Result Done Trouble → Result Done Trouble → Type 0
 AreAlike (Ok d) (Ok e) = EndAlike d.ending e.ending

@@ -2,13 +2,16 @@
 use Rattle.std.specs.Prelude.{ℕ, Bool, true, false, List}
 use Rattle.command_stages.specs.declared.done.Done.{Done}
 use Rattle.command_stages.specs.declared.done.Ending.{Ending}
-use Rattle.command_stages.specs.declared.done.Ending.TheVariants.{Told, Decided, Undecided}
+use Rattle.command_stages.specs.declared.done.Ending.TheVariants.{Told, Decided, Undecided, Tabled, Inconsistent, Open}
 
 -- the status, the text being written
 abbrev pub ending_status : Ending → ℕ
 ending_status Told = 0
 ending_status Decided = 0
 ending_status Undecided = 3
+ending_status Tabled = 0
+ending_status Inconsistent = 10
+ending_status Open = 3
 
 -- a question ends so that is decided, or not
 abbrev pub ending_of : Bool → Ending
@@ -20,6 +23,18 @@ abbrev pub IsOfQuestion : Ending → Type 0
 IsOfQuestion Told = ⊥
 IsOfQuestion Decided = Unit {0}
 IsOfQuestion Undecided = Unit {0}
+IsOfQuestion Tabled = ⊥
+IsOfQuestion Inconsistent = ⊥
+IsOfQuestion Open = ⊥
+
+-- a command that gives a table ends so
+abbrev pub IsOfTable : Ending → Type 0
+IsOfTable Told = ⊥
+IsOfTable Decided = ⊥
+IsOfTable Undecided = ⊥
+IsOfTable Tabled = Unit {0}
+IsOfTable Inconsistent = Unit {0}
+IsOfTable Open = Unit {0}
 
 -- a text that there is just to tell
 abbrev pub told_text : List ℕ → Done

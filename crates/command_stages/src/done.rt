@@ -12,6 +12,12 @@ pub enum Ending {
     Decided,
     /// The budget was spent without a verdict.
     Undecided,
+    /// What was asked for is given as a table.
+    Tabled,
+    /// There is no consistent completion of which a table could tell.
+    Inconsistent,
+    /// The budget was spent before the table was whole.
+    Open,
 }
 
 impl Ending {
@@ -23,6 +29,9 @@ impl Ending {
             Ending::Told => 0,
             Ending::Decided => 0,
             Ending::Undecided => 3,
+            Ending::Tabled => 0,
+            Ending::Inconsistent => 10,
+            Ending::Open => 3,
         }
     }
 }

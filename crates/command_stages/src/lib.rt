@@ -5,6 +5,7 @@
 mod done;
 mod laws;
 mod read;
+mod read_spec;
 mod stages;
 mod texts;
 mod trouble;
@@ -13,7 +14,8 @@ mod troubles;
 pub use done::{Done, Ending};
 pub use laws::one_read;
 pub use read::read_bytes;
-pub use stages::{read_specification, read_the_question};
+pub use read_spec::ReadSpec;
+pub use stages::{read_specification, read_the_question, read_with_tree};
 pub use texts::{bytes_of, text_of};
 pub use trouble::{Check, Trouble};
 pub use troubles::refused;

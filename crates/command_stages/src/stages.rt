@@ -1,14 +1,16 @@
-ghost use Rattle.std.specs.Prelude.{◌≡◌, ◌≢◌, ℕ, List, IfErr, ◌≤◌, IfOk, IfSome};
+ghost use Rattle.std.specs.Prelude.{◌≡◌, ◌≢◌, ℕ, List, IfErr, ◌≤◌, IfOk, IfSome, Ok};
 ghost use Rattle.currency_edge.specs.Fault.{Rose};
 ghost use Rattle.spec_model.specs.Questions.{IsQuestionOn};
+ghost use Rattle.spec_bind.specs.Bound.{IsSpecBound as IsBound};
 ghost use Rattle.bound_spec.specs.Growth.{IsWithinLimits};
 ghost use Rattle.command_stages.specs.Stages.{IsSpecTree, IsSpecSaid, IsSpecRead, IsQuestionTree, IsQuestionSaid, IsQuestionRead};
+ghost use Rattle.command_stages.specs.Trees.{spec_result, IsTreeOf};
 ghost use Rattle.command_stages.specs.Documents.{IsSaidTableDue, IsSpecDocumentDue, IsQuestionSaidTableDue, IsQuestionDocumentDue};
 ghost use Rattle.command_stages.specs.Named.{IsSettled, IsReadFault, IsReadFaultOf};
 
-use crate::Trouble;
 use crate::read::{TEXT_BOUND, read_bytes};
 use crate::troubles::{of_binding, of_text};
+use crate::{ReadSpec, Trouble};
 use currency_edge::Shelf;
 use question_bind::bind_question;
 use question_syntax::{QuestionTree, read_question};
@@ -29,20 +31,23 @@ fn spec_tree(alloc: Global, name: &str, bytes: &[u8]) -> Result<SpecTree, Troubl
     }
 }
 
-// The specification that a text says, with the tables that it names.
+// The specification that a text says, with the tables that it names and the tree of the text.
 fn spec_said<S: Shelf>(
     alloc: Global,
     shelf: &mut S,
     name: &str,
     bytes: &[u8],
-) -> Result<Specification, Trouble>
+) -> Result<ReadSpec, Trouble>
     ensures kept { S.texts shelf.new ≡ S.texts shelf.old }
     ensures later { S.faults shelf.old ≤ S.faults shelf.new }
-    ensures said { IsSettled result → IfSome (S.texts shelf.old) (λ told. IsSpecSaid told name.now bytes.now result) }
+    ensures said { IsSettled result → IfSome (S.texts shelf.old)
+        (λ told. IsSpecSaid told name.now bytes.now (spec_result result)) }
+    ensures tree { IfOk result (λ read. IsSpecTree name.now bytes.now (Ok read.tree)) }
+    ensures bound { IfOk result (λ read. IfSome (S.texts shelf.old) (λ told. IsBound told read.tree (Ok read.spec))) }
     ensures read_fault { IsReadFault result → Rose (S.faults shelf.old) (S.faults shelf.new) }
     ensures unread { (n : List ℕ) → IsReadFaultOf result n
         → IfSome (S.texts shelf.old) (λ told. IsSaidTableDue told name.now bytes.now n) }
-    ensures within { IfOk result IsWithinLimits }
+    ensures within { IfOk result (λ read. IsWithinLimits read.spec) }
     ensures not_words { IfErr result (λ e. e ≢ Trouble.Words) }
 {
     let tree = match spec_tree(alloc, name, bytes) {
@@ -50,9 +55,29 @@ fn spec_said<S: Shelf>(
         Err(trouble) => return Err(trouble),
     };
     match bind_spec(alloc, &tree, shelf) {
-        Ok(spec) => Ok(spec),
+        Ok(spec) => Ok(ReadSpec { tree, spec }),
         Err(fault) => Err(of_binding(alloc, name, fault)),
     }
+}
+
+/// The first stage, by which the specification comes with the tree of its text.
+pub fn read_with_tree<S: Shelf>(
+    alloc: Global,
+    shelf: &mut S,
+    name: &str,
+) -> Result<ReadSpec, Trouble>
+    ensures kept { S.texts shelf.new ≡ S.texts shelf.old }
+    ensures later { S.faults shelf.old ≤ S.faults shelf.new }
+    ensures stage { IsSettled result → IfSome (S.texts shelf.old) (λ told. IsSpecRead told name.now (spec_result result)) }
+    ensures tree { IfOk result (λ read. IfSome (S.texts shelf.old) (λ told. IsTreeOf told name.now read.tree read.spec)) }
+    ensures read_fault { IsReadFault result → Rose (S.faults shelf.old) (S.faults shelf.new) }
+    ensures unread { (n : List ℕ) → IsReadFaultOf result n
+        → IfSome (S.texts shelf.old) (λ told. IsSpecDocumentDue told name.now n) }
+    ensures within { IfOk result (λ read. IsWithinLimits read.spec) }
+    ensures not_words { IfErr result (λ e. e ≢ Trouble.Words) }
+{
+    let bytes = read_bytes(alloc, shelf, name, TEXT_BOUND)?;
+    spec_said(alloc, shelf, name, bytes.as_slice())
 }
 
 /// The first stage: the specification with its tables.
@@ -70,8 +95,8 @@ pub fn read_specification<S: Shelf>(
     ensures within { IfOk result IsWithinLimits }
     ensures not_words { IfErr result (λ e. e ≢ Trouble.Words) }
 {
-    let bytes = read_bytes(alloc, shelf, name, TEXT_BOUND)?;
-    spec_said(alloc, shelf, name, bytes.as_slice())
+    let ReadSpec { spec, .. } = read_with_tree(alloc, shelf, name)?;
+    Ok(spec)
 }
 
 // The tree of a question's text.

@@ -1,29 +1,39 @@
 -- What `conflicts` told, by the status it ended with.
-use Rattle.std.proofs.Common.{◌≡◌, ℕ, List, ap, arith}
-use Rattle.command_stages.specs.Endings.{ending_status}
+use Rattle.std.proofs.Common.{◌≡◌, ℕ, List, ap, arith, subst}
+use Rattle.command_stages.specs.Endings.{IsOfQuestion, ending_status}
 use Rattle.command_stages.specs.declared.done.Done.{Done}
 use Rattle.command_stages.specs.declared.done.Ending.{Ending}
 use Rattle.command_stages.specs.declared.done.Ending.TheVariants as ending
 use Rattle.conflicts_command.specs.Found.{AreConflictsTold}
-use Rattle.conflicts_command.specs.Text.{conflicts_done, conflicts_ending}
+use Rattle.conflicts_command.specs.Text.{conflicts_ending}
 use Rattle.part_conflicts.specs.declared.found.Found.{Found}
 use Rattle.part_conflicts.specs.declared.found.Found.TheVariants as found
 use Rattle.program_words.specs.Words.{ConflictsSaid}
 
--- conflicts are not just told
-not_told : (f : Found) → conflicts_ending f ≡ ending.Told → ⊥
-not_told (found.All list) e = cc
-not_told (found.Undecided part report) e = cc
-not_told (found.Open part spent) e = cc
+ends_as_question : (f : Found) → IsOfQuestion (conflicts_ending f)
+ends_as_question (found.All list) = tt
+ends_as_question (found.Undecided part report) = tt
+ends_as_question (found.Open part spent) = tt
+
+-- what is told of conflicts ends as a question does
+pub of_question : (told : List (List ℕ × List ℕ)) (c : ConflictsSaid) (text : List ℕ) (e : Ending)
+    → AreConflictsTold told c text e → IsOfQuestion e
+of_question told c text e h = subst IsOfQuestion (ap (λ (d : Done). d.ending) h.done) (ends_as_question h.found)
 
 pub decided_told : (told : List (List ℕ × List ℕ)) (c : ConflictsSaid) (text : List ℕ) (end : Ending) → ending_status end ≡ 0
     → AreConflictsTold told c text end → AreConflictsTold told c text ending.Decided
-decided_told told c text ending.Told zero h = absurd (not_told h.found (ap (λ (d : Done). d.ending) h.done))
+decided_told told c text ending.Told zero h = absurd (of_question told c text ending.Told h)
+decided_told told c text ending.Tabled zero h = absurd (of_question told c text ending.Tabled h)
+decided_told told c text ending.Inconsistent zero h = absurd (of_question told c text ending.Inconsistent h)
+decided_told told c text ending.Open zero h = absurd (of_question told c text ending.Open h)
 decided_told told c text ending.Decided zero h = h
 decided_told told c text ending.Undecided zero h = absurd (omega (arith, zero))
 
 pub spent_told : (told : List (List ℕ × List ℕ)) (c : ConflictsSaid) (text : List ℕ) (end : Ending) → ending_status end ≡ 3
     → AreConflictsTold told c text end → AreConflictsTold told c text ending.Undecided
-spent_told told c text ending.Told three h = absurd (omega (arith, three))
+spent_told told c text ending.Told three h = absurd (of_question told c text ending.Told h)
+spent_told told c text ending.Tabled three h = absurd (of_question told c text ending.Tabled h)
+spent_told told c text ending.Inconsistent three h = absurd (of_question told c text ending.Inconsistent h)
+spent_told told c text ending.Open three h = absurd (of_question told c text ending.Open h)
 spent_told told c text ending.Decided three h = absurd (omega (arith, three))
 spent_told told c text ending.Undecided three h = h

@@ -2,7 +2,7 @@
 use Rattle.std.proofs.Common.{◌≡◌, ◌⊎◌, ℕ, List, Option, Some, None, IfSome, Result, Ok, Err, ◌∙◌, ap, subst, sym, refl, inl, inr}
 use Rattle.currency_edge.specs.Fault.{Rose}
 use Rattle.command_stages.specs.Alike.{AreAlike, EndAlike}
-use Rattle.command_stages.specs.Endings.{IsOfQuestion, ending_status}
+use Rattle.command_stages.specs.Endings.{IsOfQuestion, IsOfTable, ending_status}
 use Rattle.command_stages.specs.declared.done.Ending.{Ending}
 use Rattle.command_stages.specs.declared.done.Ending.TheVariants as ending
 use Rattle.currency_cli.specs.Due.{IsDue}
@@ -25,17 +25,35 @@ zero_or_three : (e : Ending) (status : ℕ) → IsOfQuestion e → status ≡ en
 zero_or_three ending.Told status of is = absurd of
 zero_or_three ending.Decided status of is = inl is
 zero_or_three ending.Undecided status of is = inr is
+zero_or_three ending.Tabled status of is = absurd of
+zero_or_three ending.Inconsistent status of is = absurd of
+zero_or_three ending.Open status of is = absurd of
 
 any_of_question : (e : Ending) (status : ℕ) → IsOfQuestion e → (status ≡ 0) ⊎ ((status ≡ 3) ⊎ (status ≡ 6))
     → HasEndStatus e status
 any_of_question ending.Told status of is = absurd of
 any_of_question ending.Decided status of is = is
 any_of_question ending.Undecided status of is = is
+any_of_question ending.Tabled status of is = absurd of
+any_of_question ending.Inconsistent status of is = absurd of
+any_of_question ending.Open status of is = absurd of
+
+any_of_table : (e : Ending) (status : ℕ) → IsOfTable e → (status ≡ 0) ⊎ ((status ≡ 3) ⊎ (status ≡ 10))
+    → HasEndStatus e status
+any_of_table ending.Told status of is = absurd of
+any_of_table ending.Decided status of is = absurd of
+any_of_table ending.Undecided status of is = absurd of
+any_of_table ending.Tabled status of is = is
+any_of_table ending.Inconsistent status of is = is
+any_of_table ending.Open status of is = is
 
 end_status : (d e : Ending) (status : ℕ) → EndAlike d e → status ≡ ending_status d → HasEndStatus e status
 end_status ending.Told e status alike is = subst (λ (x : Ending). HasEndStatus x status) (sym alike) is
 end_status ending.Decided e status alike is = any_of_question e status alike (inl is)
 end_status ending.Undecided e status alike is = any_of_question e status alike (inr (inl is))
+end_status ending.Tabled e status alike is = any_of_table e status alike (inl is)
+end_status ending.Inconsistent e status alike is = any_of_table e status alike (inr (inr is))
+end_status ending.Open e status alike is = any_of_table e status alike (inr (inl is))
 
 has_status : (got outcome : Result Done Trouble) (status : ℕ) → AreAlike got outcome → status ≡ status_of got
     → HasStatus outcome status

@@ -2,22 +2,23 @@
 use Rattle.std.proofs.Common.{◌≡◌, ◌∙◌, ℕ, List, Option, Some, None, IfSome, Ok, Err, inl, inr, sym, ap, arith, subst}
 use Rattle.std.specs.Io.KnownBytes.{Appends}
 use Rattle.ask_command.proofs.Jobs as ask
-use Rattle.command_stages.specs.Endings.{ending_status}
+use Rattle.command_stages.specs.Endings.{IsOfQuestion, ending_status}
 use Rattle.conflicts_command.proofs.Jobs as conflicts
 use Rattle.explain_command.proofs.Jobs as explain
+use Rattle.currency_cli.proofs.GoldenTold as golden
 use Rattle.command_stages.specs.Texts.{trouble_status}
 use Rattle.command_stages.specs.declared.done.Done.{Done}
 use Rattle.command_stages.specs.declared.done.Ending.{Ending}
 use Rattle.command_stages.specs.declared.done.Ending.TheVariants as ending
 use Rattle.command_stages.specs.declared.trouble.Trouble.{Trouble}
 use Rattle.command_stages.specs.declared.trouble.Trouble.TheVariants as trouble
-use Rattle.currency_cli.specs.Ends.{EndsWith, IsJobDone, IsDone, IsSpent, IsUndecided}
+use Rattle.currency_cli.specs.Ends.{EndsWith, IsBare, IsInconsistent, IsJobDone, IsDone, IsSpent, IsUndecided}
 use Rattle.command_stages.specs.Outcomes.{output_of, status_of}
 use Rattle.currency_cli.specs.Told.{IsTold, IsToldFor}
 use Rattle.currency_edge.specs.Fault.{Rose}
 use Rattle.currency_edge.specs.Sink.{AppendsPrefix}
 use Rattle.forced_command.specs.Forced.{AreForcedListed}
-use Rattle.program_words.specs.Words.{CommandSaid, AskFor, VerifyOf, ForcedOf, TrialOf, ExplainFor, ConflictsIn}
+use Rattle.program_words.specs.Words.{CommandSaid, AskFor, VerifyOf, ForcedOf, TrialOf, ExplainFor, ConflictsIn, GoldenIn}
 use Rattle.trial_command.proofs.Replies as trial
 
 -- ---- the text
@@ -40,6 +41,9 @@ done_not_eight d h = by d.ending h
     by ending.Told h = omega (arith, h)
     by ending.Decided h = omega (arith, h)
     by ending.Undecided h = omega (arith, h)
+    by ending.Tabled h = omega (arith, h)
+    by ending.Inconsistent h = omega (arith, h)
+    by ending.Open h = omega (arith, h)
 
 -- a prefix of it where the status is 8
 pub prefix_written : (old new : Option (List ℕ)) (wb wn : ℕ) (d : Done) (status : ℕ) → EndsWith old new wb wn (Ok d) status
@@ -56,6 +60,9 @@ done_not_seven d h = by d.ending h
     by ending.Told h = omega (arith, h)
     by ending.Decided h = omega (arith, h)
     by ending.Undecided h = omega (arith, h)
+    by ending.Tabled h = omega (arith, h)
+    by ending.Inconsistent h = omega (arith, h)
+    by ending.Open h = omega (arith, h)
 
 pub done_reads : (old new : Option (List ℕ)) (wb wn : ℕ) (d : Done) (status : ℕ) → EndsWith old new wb wn
     (Ok d) status → status ≡ 7 → ⊥
@@ -88,6 +95,15 @@ no_three (trouble.Limit k) h = omega (arith, h)
 no_three (trouble.ReadFault name) h = omega (arith, h)
 no_three trouble.NoMemory h = omega (arith, h)
 
+no_ten : (e : Trouble) → trouble_status e ≡ 10 → ⊥
+no_ten trouble.Words h = omega (arith, h)
+no_ten (trouble.Unshown c d l) h = omega (arith, h)
+no_ten (trouble.Refused c d l) h = omega (arith, h)
+no_ten (trouble.CopyDiffers d l t s) h = omega (arith, h)
+no_ten (trouble.Limit k) h = omega (arith, h)
+no_ten (trouble.ReadFault name) h = omega (arith, h)
+no_ten trouble.NoMemory h = omega (arith, h)
+
 no_eight : (e : Trouble) → trouble_status e ≡ 8 → ⊥
 no_eight trouble.Words h = omega (arith, h)
 no_eight (trouble.Unshown c d l) h = omega (arith, h)
@@ -111,6 +127,10 @@ pub refusal_not_three : (old new : Option (List ℕ)) (wb wn : ℕ) (e : Trouble
     (Err e) status → status ≡ 3 → ⊥
 refusal_not_three old new wb wn e status ends = refusal_not old new wb wn e status 3 ends (no_three e) (λ h. omega (arith, h))
 
+pub refusal_not_ten : (old new : Option (List ℕ)) (wb wn : ℕ) (e : Trouble) (status : ℕ) → EndsWith old new wb wn
+    (Err e) status → status ≡ 10 → ⊥
+refusal_not_ten old new wb wn e status ends = refusal_not old new wb wn e status 10 ends (no_ten e) (λ h. omega (arith, h))
+
 pub refusal_not_eight : (old new : Option (List ℕ)) (wb wn : ℕ) (e : Trouble) (status : ℕ) → EndsWith old new wb wn
     (Err e) status → status ≡ 8 → ⊥
 refusal_not_eight old new wb wn e status ends = refusal_not old new wb wn e status 8 ends (no_eight e) (λ h. omega (arith, h))
@@ -125,6 +145,7 @@ job_at told (ForcedOf name) d zero h = subst (AreForcedListed told name) (sym (a
 job_at told (TrialOf size) d zero h = trial.decided_told size d.text d.ending zero h
 job_at told (ExplainFor e) d zero h = explain.decided_told told e d.text d.ending zero h
 job_at told (ConflictsIn c) d zero h = conflicts.decided_told told c d.text d.ending zero h
+job_at told (GoldenIn g) d zero h = golden.tabled_told told g d.text d.ending zero h
 
 job : (texts : Option (List (List ℕ × List ℕ))) (c : CommandSaid) (d : Done) → status_of (Ok d) ≡ 0 → IfSome texts
     (λ told. IsTold told c d)
@@ -158,6 +179,7 @@ spent_at told (ForcedOf name) d three h = absurd (omega (arith, three, ap (λ (x
 spent_at told (TrialOf size) d three h = trial.spent_told size d.text d.ending three h
 spent_at told (ExplainFor e) d three h = explain.spent_told told e d.text d.ending three h
 spent_at told (ConflictsIn c) d three h = conflicts.spent_told told c d.text d.ending three h
+spent_at told (GoldenIn g) d three h = golden.open_told told g d.text d.ending three h
 
 spent : (texts : Option (List (List ℕ × List ℕ))) (c : CommandSaid) (d : Done) → status_of (Ok d) ≡ 3 → IfSome texts
     (λ told. IsTold told c d)
@@ -178,5 +200,47 @@ is_undecided texts count words old new wb wn d status t ends three =
       text = output_of (Ok d);
       told = spent texts t.command d
           (sym ended.0 ∙ three) t.told;
+      written = ended.1;
+    }
+
+-- ---- status 10
+
+-- no question and nothing that is just told ends so
+no_question : (e : Ending) → IsOfQuestion e → ending_status e ≡ 10 → ⊥
+no_question ending.Told of ten = of
+no_question ending.Decided of ten = omega (arith, ten)
+no_question ending.Undecided of ten = omega (arith, ten)
+no_question ending.Tabled of ten = of
+no_question ending.Inconsistent of ten = of
+no_question ending.Open of ten = of
+
+bare_at : (told : List (List ℕ × List ℕ)) (c : CommandSaid) (d : Done) → status_of (Ok d) ≡ 10 → IsTold told c d
+    → IsBare told c (output_of (Ok d))
+bare_at told (AskFor a) d ten h = absurd (no_question d.ending (ask.of_question told a d.text d.ending h) ten)
+bare_at told (VerifyOf v) d ten h = absurd (omega (arith, ten, ap (λ (x : Done). ending_status x.ending) h.2))
+bare_at told (ForcedOf name) d ten h = absurd (omega (arith, ten, ap (λ (x : Done). ending_status x.ending) h.2))
+bare_at told (TrialOf size) d ten h = absurd (no_question d.ending (trial.of_question size d.text d.ending h) ten)
+bare_at told (ExplainFor e) d ten h = absurd (no_question d.ending (explain.of_question told e d.text d.ending h) ten)
+bare_at told (ConflictsIn c) d ten h = absurd (no_question d.ending (conflicts.of_question told c d.text d.ending h) ten)
+bare_at told (GoldenIn g) d ten h = golden.bare_told told g d.text d.ending ten h
+
+bare : (texts : Option (List (List ℕ × List ℕ))) (c : CommandSaid) (d : Done) → status_of (Ok d) ≡ 10
+    → IfSome texts (λ told. IsTold told c d) → IfSome texts (λ told. IsBare told c (output_of (Ok d)))
+bare None c d ten h = tt
+bare (Some told) c d ten h = bare_at told c d ten h
+
+pub is_inconsistent : (texts : Option (List (List ℕ × List ℕ))) (count : ℕ) (words : List (List ℕ))
+    (old new : Option (List ℕ)) (wb wn : ℕ) (d : Done) (status : ℕ)
+    → IsToldFor texts count words d → EndsWith old new wb wn (Ok d) status → status ≡ 10
+    → IsInconsistent texts count words old new
+is_inconsistent texts count words old new wb wn d status t ends ten =
+    let ended : (status ≡ status_of (Ok d)) × Appends old new (output_of (Ok d)) =
+    written old new wb wn d status ends (not_at status 10 8 ten (λ h. omega (arith, h)))
+    (not_at status 10 9 ten (λ h. omega (arith, h))) in
+    record {
+      command = t.command;
+      said = t.said;
+      text = output_of (Ok d);
+      told = bare texts t.command d (sym ended.0 ∙ ten) t.told;
       written = ended.1;
     }

@@ -34,6 +34,10 @@ not_done : (e : Ending) (status : ℕ) → status ≡ ending_status e → IsRefu
 not_done ending.Told status is refusal = other status 0 is (omega arith) (omega arith) (omega arith) (omega arith) refusal
 not_done ending.Decided status is refusal = other status 0 is (omega arith) (omega arith) (omega arith) (omega arith) refusal
 not_done ending.Undecided status is refusal = other status 3 is (omega arith) (omega arith) (omega arith) (omega arith) refusal
+not_done ending.Tabled status is refusal = other status 0 is (omega arith) (omega arith) (omega arith) (omega arith) refusal
+not_done ending.Inconsistent status is refusal =
+    other status 10 is (omega arith) (omega arith) (omega arith) (omega arith) refusal
+not_done ending.Open status is refusal = other status 3 is (omega arith) (omega arith) (omega arith) (omega arith) refusal
 
 done_not_refused : (old new : Option (List ℕ)) (wb wn : ℕ) (d : Done) (status : ℕ) → EndsWith old new wb wn
     (Ok d) status → IsRefusal status → ⊥

@@ -9,6 +9,9 @@ use Rattle.command_stages.specs.declared.trouble.Trouble.{Trouble}
 use Rattle.command_stages.specs.declared.trouble.Trouble.TheVariants as trouble
 use Rattle.conflicts_command.proofs.Replies.{found_due, found_comes}
 use Rattle.conflicts_command.specs.Found.{IsConflictsDue}
+use Rattle.golden_command.proofs.Replies.{golden_comes, golden_due_found}
+use Rattle.golden_command.specs.Asked.{relation_named}
+use Rattle.golden_command.specs.Golden.{IsGoldenDue, IsGoldenFound}
 use Rattle.currency_cli.proofs.Exact.{own_status}
 use Rattle.currency_cli.specs.Due.{IsDue, IsDueFor}
 use Rattle.currency_cli.specs.Ends.{EndsWith}
@@ -20,7 +23,8 @@ use Rattle.currency_cli.proofs.Explains.{explanation_due, explanation_comes}
 use Rattle.explain_command.specs.Explained.{IsExplainDue}
 use Rattle.forced_command.proofs.Replies.{told_due}
 use Rattle.forced_command.specs.Forced.{IsForcedDue, IsForcedTold}
-use Rattle.program_words.specs.Words.{AskSaid, ConflictsSaid, ExplainSaid, VerifySaid, CommandSaid, AskFor, ConflictsIn, ExplainFor, VerifyOf, ForcedOf}
+use Rattle.program_words.specs.Words.{AskSaid, ConflictsSaid, ExplainSaid, GoldenSaid, VerifySaid, CommandSaid}
+use Rattle.program_words.specs.Words.{AskFor, ConflictsIn, ExplainFor, GoldenIn, VerifyOf, ForcedOf}
 use Rattle.report_model.specs.declared.verdict.Kind.{Kind}
 use Rattle.spec_model.specs.Spec.{Spec}
 use Rattle.spec_model.specs.declared.question.Question.{Question}
@@ -191,3 +195,37 @@ blamed one_spec (Some told) count words got old new rb rn wb wn status due rose 
         decided_or_not (found_comes s c got status (found_due one_spec told c s got spec
         (blame_due told count words c got said (due own.0))) own.1)
     of spec (inr nine) = inr (inr nine)
+
+-- ---- golden records
+
+record_due : (told : List (List ℕ × List ℕ)) (count : ℕ) (words : List (List ℕ)) (g : GoldenSaid) (got : Result Done Trouble)
+    → command_for count words ≡ Some (GoldenIn g) → IsDue told count words got → IsGoldenDue told g got
+record_due told count words g got said due =
+    subst (λ (o : Option CommandSaid). MatchOption o (got ≡ Err trouble.Words) (λ x. IsDueFor told x got)) said due
+
+told_or_not : {status : ℕ} → (status ≡ 0) ⊎ ((status ≡ 3) ⊎ (status ≡ 10))
+    → (status ≡ 0) ⊎ ((status ≡ 3) ⊎ ((status ≡ 10) ⊎ (status ≡ 9)))
+told_or_not (inl zero) = inl zero
+told_or_not (inr (inl three)) = inr (inl three)
+told_or_not (inr (inr ten)) = inr (inr (inl ten))
+
+pub recorded : OneSpec → (texts : Option (List (List ℕ × List ℕ))) (count : ℕ) (words : List (List ℕ)) (got : Result Done Trouble)
+    (old new : Option (List ℕ)) (rb rn wb wn status : ℕ)
+    → (IsSettled got → IfSome texts (λ told. IsDue told count words got)) → (IsReadFault got → Rose rb rn)
+    → EndsWith old new wb wn got status
+    → (Rose rb rn → ⊥) → (Rose wb wn → ⊥) → (g : GoldenSaid) → command_for count words ≡ Some (GoldenIn g)
+    → (s : Spec) (rel : ℕ)
+    → IfSome texts (λ told. IsSpecRead told g.spec (Ok s) → relation_named s.relations g.relation ≡ Some rel
+    → (status ≡ 0) ⊎ ((status ≡ 3) ⊎ ((status ≡ 10) ⊎ (status ≡ 9))))
+recorded one_spec None count words got old new rb rn wb wn status due rose ends reads writes g said s rel = tt
+recorded one_spec (Some told) count words got old new rb rn wb wn status due rose ends reads writes g said s rel =
+    λ spec named. of spec named (own_status got old new rb rn wb wn status rose ends reads writes)
+  where
+    of : IsSpecRead told g.spec (Ok s) → relation_named s.relations g.relation ≡ Some rel
+        → (IsSettled got × (status ≡ status_of got)) ⊎ (status ≡ 9)
+        → (status ≡ 0) ⊎ ((status ≡ 3) ⊎ ((status ≡ 10) ⊎ (status ≡ 9)))
+    of spec named (inl own) =
+        let found : IsGoldenFound told g s got =
+        golden_due_found one_spec told g s got spec (record_due told count words g got said (due own.0)) in
+        told_or_not (golden_comes found.0 s g rel got status found.2 named own.1)
+    of spec named (inr nine) = inr (inr (inr nine))

@@ -6,7 +6,7 @@ use Rattle.command_stages.specs.Outcomes.{output_of, status_of}
 use Rattle.command_stages.specs.Texts.{trouble_text, trouble_status}
 use Rattle.command_stages.specs.declared.done.Done.{Done}
 use Rattle.command_stages.specs.declared.done.Ending.{Ending}
-use Rattle.command_stages.specs.declared.done.Ending.TheVariants.{Told, Decided, Undecided}
+use Rattle.command_stages.specs.declared.done.Ending.TheVariants.{Told, Decided, Undecided, Tabled, Inconsistent, Open}
 use Rattle.command_stages.specs.declared.trouble.Trouble.{Trouble}
 use Rattle.command_stages.specs.declared.trouble.Trouble.TheVariants.{Limit, ReadFault}
 use Rattle.conflicts_command.specs.Found.{AreConflictsTold}
@@ -16,7 +16,8 @@ use Rattle.currency_edge.specs.Fault.{Rose}
 use Rattle.currency_edge.specs.Sink.{AppendsPrefix}
 use Rattle.explain_command.specs.Explained.{IsExplainTold}
 use Rattle.forced_command.specs.Forced.{AreForcedListed}
-use Rattle.program_words.specs.Words.{CommandSaid, AskFor, VerifyOf, ForcedOf, TrialOf, ExplainFor, ConflictsIn}
+use Rattle.golden_command.specs.Golden.{IsGoldenTold}
+use Rattle.program_words.specs.Words.{CommandSaid, AskFor, VerifyOf, ForcedOf, TrialOf, ExplainFor, ConflictsIn, GoldenIn}
 use Rattle.report_model.specs.declared.verdict.Kind.{Kind}
 use Rattle.trial_command.specs.Trial.{IsTrialTold, IsTrialSpent}
 use Rattle.verify_command.specs.Judged.{accepted_text}
@@ -44,6 +45,7 @@ IsJobDone told (ForcedOf name) text = AreForcedListed told name text
 IsJobDone told (TrialOf size) text = IsTrialTold size text Decided
 IsJobDone told (ExplainFor e) text = IsExplainTold told e text Decided
 IsJobDone told (ConflictsIn c) text = AreConflictsTold told c text Decided
+IsJobDone told (GoldenIn g) text = IsGoldenTold told g text Tabled
 
 -- the words say a command whose job is done: the documents show what is told, and the sink got the text
 pub record IsDone (texts : Option (List (List ℕ × List ℕ))) (count : ℕ) (words : List (List ℕ))
@@ -61,6 +63,7 @@ IsSpent told (AskFor ask) text = IsAskSpent told ask text
 IsSpent told (TrialOf size) text = IsTrialSpent size text
 IsSpent told (ExplainFor e) text = IsExplainTold told e text Undecided
 IsSpent told (ConflictsIn c) text = AreConflictsTold told c text Undecided
+IsSpent told (GoldenIn g) text = IsGoldenTold told g text Open
 IsSpent told command text = ⊥
 
 -- the words ask a question that was not decided: the sink got the whole report
@@ -72,14 +75,31 @@ pub record IsUndecided (texts : Option (List (List ℕ × List ℕ))) (count : �
   pub told : IfSome texts (λ told. IsSpent told command text)
   pub written : Appends old new text
 
+-- a table was asked for, and there is no consistent completion of which it could tell
+abbrev pub IsBare : List (List ℕ × List ℕ) → CommandSaid → List ℕ → Type 0
+IsBare told (GoldenIn g) text = IsGoldenTold told g text Inconsistent
+IsBare told command text = ⊥
+
+-- the words ask for a table of which that is so: the sink got the text that says it
+pub record IsInconsistent (texts : Option (List (List ℕ × List ℕ))) (count : ℕ) (words : List (List ℕ))
+    (old new : Option (List ℕ)) : Type 0 where
+  pub command : CommandSaid
+  pub said : command_for count words ≡ Some command
+  pub text : List ℕ
+  pub told : IfSome texts (λ told. IsBare told command text)
+  pub written : Appends old new text
+
 -- ---- the other way round
 
 -- a job that ends so has this status: an answer may be decided or not, and a query may have more answers over one completion than
--- are gone through, and fewer over another
+-- are gone through, and fewer over another; a table may be whole or not, or there is nothing that it could tell of
 abbrev pub HasEndStatus : Ending → ℕ → Type 0
 HasEndStatus Told status = status ≡ 0
 HasEndStatus Decided status = (status ≡ 0) ⊎ ((status ≡ 3) ⊎ (status ≡ 6))
 HasEndStatus Undecided status = (status ≡ 0) ⊎ ((status ≡ 3) ⊎ (status ≡ 6))
+HasEndStatus Tabled status = (status ≡ 0) ⊎ ((status ≡ 3) ⊎ (status ≡ 10))
+HasEndStatus Inconsistent status = (status ≡ 0) ⊎ ((status ≡ 3) ⊎ (status ≡ 10))
+HasEndStatus Open status = (status ≡ 0) ⊎ ((status ≡ 3) ⊎ (status ≡ 10))
 
 -- an outcome has a status, its text being written
 abbrev pub HasStatus : Result Done Trouble → ℕ → Type 0

@@ -16,6 +16,7 @@ use conflicts_command::conflicts_document;
 use currency_edge::Shelf;
 use explain_command::explain_documents;
 use forced_command::forced_document;
+use golden_command::golden_document;
 use program_words::Command;
 use solver_guides::Guides;
 use std::alloc::Global;
@@ -47,6 +48,7 @@ fn outcome_of<S: Shelf>(
         Command::Trial(size) => try_generated(alloc, size, guides),
         Command::Explain(asked) => explain_documents(alloc, shelf, asked, guides),
         Command::Conflicts(asked) => conflicts_document(alloc, shelf, asked, guides),
+        Command::Golden(asked) => golden_document(alloc, shelf, asked, guides),
     }
 }
 

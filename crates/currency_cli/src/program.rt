@@ -5,11 +5,13 @@ ghost use Rattle.command_stages.specs.Stages.{IsSpecRead, IsQuestionRead};
 ghost use Rattle.report_stages.specs.Judged.{IsReportRead};
 ghost use Rattle.told_answers.specs.Answers.{ComesToAnswer};
 ghost use Rattle.currency_cli.specs.Due.{IsDue, IsReadDue};
-ghost use Rattle.currency_cli.specs.Ends.{EndsWith, ComesTo, HasStatus, IsRefusal, RefusalDue, IsDone, IsUndecided, NamesUnread};
+ghost use Rattle.currency_cli.specs.Ends.{EndsWith, ComesTo, HasStatus, IsRefusal, RefusalDue, IsDone, IsInconsistent, IsUndecided, NamesUnread};
 ghost use Rattle.command_stages.specs.Named.{IsSettled, IsReadFault, IsReadFaultOf};
 ghost use Rattle.currency_cli.specs.Words.{command_for};
 ghost use Rattle.command_stages.specs.declared.done.Done.{Done};
-ghost use Rattle.program_words.specs.Words.{AskSaid, ConflictsSaid, ExplainSaid, VerifySaid, AskFor, ConflictsIn, ExplainFor, VerifyOf, ForcedOf, TrialOf};
+ghost use Rattle.golden_command.specs.Asked.{relation_named};
+ghost use Rattle.program_words.specs.Words.{AskSaid, ConflictsSaid, ExplainSaid, GoldenSaid, VerifySaid};
+ghost use Rattle.program_words.specs.Words.{AskFor, ConflictsIn, ExplainFor, GoldenIn, VerifyOf, ForcedOf, TrialOf};
 ghost use Rattle.currency_report.specs.declared.report.ReadReport.{ReadReport};
 ghost use Rattle.trial_command.specs.Trial.{IsTrialDue};
 ghost use Rattle.solver_guides.specs.Rings.{count_of};
@@ -63,8 +65,9 @@ fn refuse<K: Sink>(alloc: Global, out: &mut K, trouble: &Trouble) -> u8
 /// | 5 | a document is refused |
 /// | 6 | a limit is exceeded |
 /// | 7 | the shelf could not give a document |
-/// | 8 | the sink could not take the text of status 0 or 3 |
+/// | 8 | the sink could not take the text of status 0, 3 or 10 |
 /// | 9 | want of memory |
+/// | 10 | a table was asked for, and there is no consistent completion of which it could tell |
 pub fn run<S: Shelf, K: Sink>(
     alloc: Global,
     words: &[String],
@@ -125,6 +128,14 @@ pub fn run<S: Shelf, K: Sink>(
         → (s : Spec) → IfSome (S.texts shelf.old) (λ told. IsSpecRead told c.spec (Ok s)
         → (result ≡ 0) ⊎ ((result ≡ 3) ⊎ (result ≡ 9))) }
 
+    // The golden records of a relation are told, where the specification is read and has it, unless a budget is spent, or there
+    // is no consistent completion.
+    ensures recorded { (Rose (S.faults shelf.old) (S.faults shelf.new) → ⊥) → (Rose (K.faults out.old) (K.faults out.new) → ⊥)
+        → (g : GoldenSaid) → command_for (count_of guides.old) (map (λ w. string_bytes w) words.now) ≡ Some (GoldenIn g)
+        → (s : Spec) (rel : ℕ) → IfSome (S.texts shelf.old) (λ told. IsSpecRead told g.spec (Ok s)
+        → relation_named s.relations g.relation ≡ Some rel
+        → (result ≡ 0) ⊎ ((result ≡ 3) ⊎ ((result ≡ 10) ⊎ (result ≡ 9)))) }
+
     // `trial` reads nothing of the shelf: whatever that tells, what the program comes to is due for the generated documents.
     ensures tried { (size : ℕ) → command_for (count_of guides.old) (map (λ w. string_bytes w) words.now) ≡ Some (TrialOf size)
         → (outcome : Result Done Trouble) × (IsSettled outcome → IsTrialDue size outcome) × (IsReadFault outcome → ⊥)
@@ -142,7 +153,9 @@ pub fn run<S: Shelf, K: Sink>(
     // The job was done. Each decided verdict that is printed is right: the listed completions and the derivation show it, and
     // `verify` accepts the whole report. No report whose decided verdict is wrong is accepted, whoever made it. What explains
     // a unit of a verdict, or that there is no consistent completion, suffices, and of its items each is needed; the parts that
-    // are listed as conflicts are exactly the inconsistent ones, each with what explains it.
+    // are listed as conflicts are exactly the inconsistent ones, each with what explains it; a value stands in a golden record
+    // exactly where it is the current one in every consistent completion, and an attribute is named as open exactly where two
+    // values are possible.
     ensures done { result ≡ 0
         → IsDone (S.texts shelf.old) (count_of guides.old) (map (λ w. string_bytes w) words.now) (K.written out.old)
         (K.written out.new) }
@@ -151,6 +164,11 @@ pub fn run<S: Shelf, K: Sink>(
     // three to the number of the question's variables.
     ensures undecided { result ≡ 3
         → IsUndecided (S.texts shelf.old) (count_of guides.old) (map (λ w. string_bytes w) words.now)
+        (K.written out.old) (K.written out.new) }
+
+    // A table was asked for, and there is no consistent completion.
+    ensures inconsistent { result ≡ 10
+        → IsInconsistent (S.texts shelf.old) (count_of guides.old) (map (λ w. string_bytes w) words.now)
         (K.written out.old) (K.written out.new) }
 
     // Faults of the outside.

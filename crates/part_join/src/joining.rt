@@ -26,8 +26,26 @@ pub fn joined(
     ensures { IfOk result (IsJoined spec.now.relations places.now other.now narrow.now) }
 {
     let mut completion = copied(alloc, spec, other)?;
-    put_part(alloc, spec, places, narrow, &mut completion)?;
+    put(alloc, spec, places, narrow, &mut completion)?;
     Ok(completion)
+}
+
+/// Ranks the rows of a part in a completion of the whole as a completion of the part does. Takes time in proportion to the
+/// relations and the part. Where memory runs out, some of the rows are ranked so.
+pub fn put(
+    alloc: Global,
+    spec: &Specification,
+    places: &Places,
+    narrow: &Completion,
+    completion: &mut Completion,
+) -> Result<(), NoMemory>
+    requires places { (scope : Scope) × ArePlacesOf spec.now.relations scope places.now }
+    requires shape { HasShape spec.now.relations completion.old }
+    requires narrow { FitsPart spec.now.relations places.now narrow.now }
+    ensures { OnOk result (IsJoined spec.now.relations places.now completion.old narrow.now completion.new) }
+{
+    put_part(alloc, spec, places, narrow, completion)?;
+    Ok(())
 }
 
 // A copy of a completion.

@@ -4,5 +4,5 @@
 mod joining;
 mod laws;
 
-pub use joining::joined;
+pub use joining::{joined, put};
 pub use laws::completions_fit;

@@ -1,5 +1,6 @@
 -- Words say no command only where clap sees a fault or a number is wrong.
-use Rattle.std.proofs.Common.{ℕ, ◌≡◌, Bool, true, false, cond, List, [], ◌∷◌, codes, get_or, Option, Some, None, is_some, arith, refl, inl, inr}
+use Rattle.std.proofs.Common.{ℕ, ◌≡◌, Bool, true, false, cond, List, [], ◌∷◌, codes, get_or, Option, Some, None, is_some}
+use Rattle.std.proofs.Common.{arith, refl, inl, inr}
 use Rattle.std.specs.Prelude.{◌&&◌, ◌||◌, find, not, option_and_then, option_map}
 use Rattle.std.specs.List.{AllByRecursion}
 use Rattle.std.specs.Option.{option_map_or}
@@ -10,7 +11,9 @@ use Rattle.clap.specs.Simple.{Shape, argument_words, built, entered, label_of, n
 use Rattle.clap.specs.Walk.{Row, Text, answers_to, first_of, nothing_held, rows_after, stop_after}
 use Rattle.program_words.specs.Line.{line}
 use Rattle.program_words.specs.Numbers.{number_if_given, number_or, number_up_to}
-use Rattle.program_words.specs.Words.{CommandSaid, ConflictsIn, ForcedOf, IsRefused, TrialOf, VerifyOf, ask_in, command_in, command_of, conflicts_in, explain_in, has_wrong_number, is_explain_wrong, is_search_wrong, is_trial_wrong, trial_in, unit_in, unless_fault}
+use Rattle.program_words.specs.Words.{CommandSaid, ConflictsIn, ForcedOf, IsRefused, TrialOf, VerifyOf, ask_in, command_in}
+use Rattle.program_words.specs.Words.{command_of, conflicts_in, explain_in, golden_in, has_wrong_number, is_explain_wrong}
+use Rattle.program_words.specs.Words.{is_search_wrong, is_trial_wrong, trial_in, unit_in, unless_fault}
 use Rattle.program_words.proofs.Parts.{from_number, from_question, from_search, no_number, no_question, no_search}
 use Rattle.program_words.proofs.TextRows.{found_holds}
 use Rattle.program_words.proofs.TextWalks.{AreValued, level_texts}
@@ -107,6 +110,19 @@ conflicts_valued = (
   (record { acts = λ values rows. refl; stands = λ e. cc }, (record { acts = λ values rows. refl; stands = λ e. cc }, tt)),
 )
 
+golden_valued : AreValued (sub 6).rules
+unfolding whole_line
+golden_valued = (
+  record { acts = λ values rows. refl; stands = λ e. cc },
+  (
+    record { acts = λ values rows. refl; stands = λ e. cc },
+    (
+      record { acts = λ values rows. refl; stands = λ e. cc },
+      (record { acts = λ values rows. refl; stands = λ e. cc }, tt),
+    ),
+  ),
+)
+
 ask_caused : IsCaused (sub 0)
 unfolding whole_line
 ask_caused words free none =
@@ -160,9 +176,20 @@ conflicts_caused words free none =
     (number_if_given 4 (first_of (codes "guide") rows))
     (required_text (sub 5) words (codes "SPEC") conflicts_valued (inl (refl, refl)) free) none
 
+golden_caused : IsCaused (sub 6)
+unfolding whole_line
+golden_caused words free none =
+    let rows = rows_after (sub 6).rules [] words in
+    from_question (first_of (codes "SPEC") rows) (first_of (codes "RELATION") rows) _
+    (required_text (sub 6) words (codes "SPEC") golden_valued (inl (refl, refl)) free)
+    (required_text (sub 6) words (codes "RELATION") golden_valued (inr (inl (refl, refl))) free)
+    (λ spec relation. from_search (number_or 100000 10000000 (first_of (codes "budget") rows))
+    (number_if_given 4 (first_of (codes "guide") rows)) _) none
+
 all_caused : AllByRecursion IsCaused (built line).subs
 unfolding no_arguments
-all_caused = (ask_caused, (verify_caused, (forced_caused, (trial_caused, (explain_caused, (conflicts_caused, tt))))))
+all_caused =
+    (ask_caused, (verify_caused, (forced_caused, (trial_caused, (explain_caused, (conflicts_caused, (golden_caused, tt)))))))
 
 -- the same of the command that was entered
 entered_caused : (stop : Option (Text × List Text)) → is_some (entered (built line) stop) ≡ true → entered_fault
@@ -237,22 +264,29 @@ explain_none rows wrong = no_question (first_of (codes "SPEC") rows) (first_of (
     (λ unit. no_search (number_or 100000 10000000 (first_of (codes "budget") rows))
     (number_if_given 4 (first_of (codes "guide") rows)) _) wrong)
 
+golden_none : (rows : List Row) → is_search_wrong rows ≡ true → golden_in rows ≡ None
+golden_none rows wrong = no_question (first_of (codes "SPEC") rows) (first_of (codes "RELATION") rows) _
+    (λ spec relation. no_search (number_or 100000 10000000 (first_of (codes "budget") rows))
+    (number_if_given 4 (first_of (codes "guide") rows)) _ wrong)
+
 wrong_is_none : (found : Option (Text × List Row)) → option_map_or has_wrong_number found false ≡ true
     → option_and_then command_in found ≡ None
 wrong_is_none None wrong = refl
 wrong_is_none (Some p) wrong = by (bytes_eq p.0 (codes "ask")) (bytes_eq p.0 (codes "trial"))
-    (bytes_eq p.0 (codes "explain")) (bytes_eq p.0 (codes "conflicts")) _ wrong
+    (bytes_eq p.0 (codes "explain")) (bytes_eq p.0 (codes "conflicts")) (bytes_eq p.0 (codes "golden")) _ wrong
   where
-    by : (is_ask is_trial is_explain is_conflicts : Bool) (other : Option CommandSaid)
+    by : (is_ask is_trial is_explain is_conflicts is_golden : Bool) (other : Option CommandSaid)
         → cond is_ask (is_search_wrong p.1) (cond is_trial (is_trial_wrong p.1)
-        (cond is_explain (is_explain_wrong p.1) (cond is_conflicts (is_search_wrong p.1) false))) ≡ true
+        (cond is_explain (is_explain_wrong p.1) (cond is_conflicts (is_search_wrong p.1)
+        (cond is_golden (is_search_wrong p.1) false)))) ≡ true
         → cond is_ask (ask_in p.1) (cond is_trial (trial_in p.1)
-        (cond is_explain (explain_in p.1) (cond is_conflicts (conflicts_in p.1) other))) ≡ None
-    by true is_trial is_explain is_conflicts other w = ask_none p.1 w
-    by false true is_explain is_conflicts other w = trial_none (first_of (codes "N") p.1) w
-    by false false true is_conflicts other w = explain_none p.1 w
-    by false false false true other w = conflicts_none (first_of (codes "SPEC") p.1) _ _ w
-    by false false false false other w = cc
+        (cond is_explain (explain_in p.1) (cond is_conflicts (conflicts_in p.1) (cond is_golden (golden_in p.1) other)))) ≡ None
+    by true is_trial is_explain is_conflicts is_golden other w = ask_none p.1 w
+    by false true is_explain is_conflicts is_golden other w = trial_none (first_of (codes "N") p.1) w
+    by false false true is_conflicts is_golden other w = explain_none p.1 w
+    by false false false true is_golden other w = conflicts_none (first_of (codes "SPEC") p.1) _ _ w
+    by false false false false true other w = golden_none p.1 w
+    by false false false false false other w = cc
 
 pub refused : (words : List Text) → IsRefused words → command_of words ≡ None
 unfolding command_of

@@ -5,7 +5,7 @@ use Rattle.std.specs.Option.{option_map_or}
 use Rattle.clap.specs.Walk.{Text}
 use Rattle.program_words.specs.Words.{CommandSaid}
 
--- what is said of SPEC and QUESTION
+-- what is said of SPEC and QUESTION, or, by `golden`, of SPEC and RELATION
 abbrev pub of_question : Option Text → Option Text → (Text → Text → Option CommandSaid) → Option CommandSaid
 of_question spec question said = option_and_then (λ s. option_and_then (λ q. said s q) question) spec
 
@@ -34,7 +34,8 @@ from_search None guide said e = refl
 from_search (Some budget) None said e = refl
 from_search (Some budget) (Some guide) said e = cc
 
-pub from_number : (read : Text → Option ℕ) (text : Option Text) (said : ℕ → Option CommandSaid) (later : Bool) → is_some text ≡ true
+pub from_number : (read : Text → Option ℕ) (text : Option Text) (said : ℕ → Option CommandSaid) (later : Bool)
+    → is_some text ≡ true
     → ((n : ℕ) → said n ≡ None → later ≡ true) → of_number read text said ≡ None → (is_no_number read text || later) ≡ true
 from_number read None said later s next e = cc
 from_number read (Some text) said later s next e = by (read text) e

@@ -1,5 +1,6 @@
 -- The numbers of a command that is said are in their ranges.
-use Rattle.std.proofs.Common.{ℕ, ◌≤◌, ◌≡◌, Bool, true, false, cond, List, [], ◌∷◌, codes, Option, Some, None, arith, refl, subst}
+use Rattle.std.proofs.Common.{ℕ, ◌≤◌, ◌≡◌, Bool, true, false, cond, List, [], ◌∷◌, codes, Option, Some, None, arith, refl}
+use Rattle.std.proofs.Common.{subst}
 use Rattle.std.specs.Prelude.{IfSome, option_and_then, option_map}
 use Rattle.std.specs.Str.{bytes_eq}
 use Rattle.clap.specs.Faults.{fault_of}
@@ -8,7 +9,9 @@ use Rattle.clap.specs.Simple.{subcommand_of}
 use Rattle.clap.specs.Walk.{Row, Text, first_of}
 use Rattle.program_words.specs.Line.{line}
 use Rattle.program_words.specs.Numbers.{number_if_given, number_or, number_up_to}
-use Rattle.program_words.specs.Words.{AskFor, CommandSaid, ConflictsIn, ExplainFor, ForcedOf, TrialOf, VerifyOf, ask_in, command_in, command_of, conflicts_in, explain_in, forced_in, is_set, trial_in, unit_in, unless_fault, verify_in}
+use Rattle.program_words.specs.Words.{AskFor, CommandSaid, ConflictsIn, ExplainFor, ForcedOf, GoldenIn, TrialOf, VerifyOf}
+use Rattle.program_words.specs.Words.{ask_in, command_in, command_of, conflicts_in, explain_in, forced_in, golden_in, is_set}
+use Rattle.program_words.specs.Words.{trial_in, unit_in, unless_fault, verify_in}
 use Rattle.program_words.proofs.Numerals.{number_in_range}
 use Rattle.program_words.proofs.Parts.{of_question, of_search}
 
@@ -28,6 +31,7 @@ IsInRange (AskFor a) = AreInRange a.budget a.guide
 IsInRange (TrialOf n) = (1 ≤ n) × (n ≤ 1000)
 IsInRange (ExplainFor e) = IsExplainInRange e.unit e.budget e.guide
 IsInRange (ConflictsIn c) = AreInRange c.budget c.guide
+IsInRange (GoldenIn g) = AreInRange g.budget g.guide
 IsInRange other = Unit {0}
 
 budget_in_range : (text : Option Text) (n : ℕ) → number_or 100000 10000000 text ≡ Some n → (1 ≤ n) × (n ≤ 10000000)
@@ -106,6 +110,12 @@ conflicts_in_range rows = by (first_of (codes "SPEC") rows)
     by (Some s) = search_in_range (first_of (codes "budget") rows) (first_of (codes "guide") rows)
         (λ b g. ConflictsIn (record { spec = s; budget = b; guide = g })) (λ b g h. h)
 
+golden_in_range : (rows : List Row) → IfSome (golden_in rows) IsInRange
+golden_in_range rows =
+    of_question_in_range (first_of (codes "SPEC") rows) (first_of (codes "RELATION") rows) _ (λ s r.
+    search_in_range (first_of (codes "budget") rows) (first_of (codes "guide") rows)
+    (λ b g. GoldenIn (record { spec = s; relation = r; budget = b; guide = g })) (λ b g h. h))
+
 verify_in_range : (rows : List Row) → IfSome (verify_in rows) IsInRange
 verify_in_range rows =
     of_question_in_range (first_of (codes "SPEC") rows) (first_of (codes "QUESTION") rows) _ (λ s q.
@@ -131,21 +141,22 @@ trial_in_range (Some text) = by (number_up_to 1000 text) refl
 
 found_in_range : (name : Text) (rows : List Row) → IfSome (command_in (name, rows)) IsInRange
 found_in_range name rows = by (bytes_eq name (codes "ask")) (bytes_eq name (codes "trial"))
-    (bytes_eq name (codes "explain")) (bytes_eq name (codes "conflicts")) (bytes_eq name (codes "verify"))
-    (bytes_eq name (codes "forced"))
+    (bytes_eq name (codes "explain")) (bytes_eq name (codes "conflicts")) (bytes_eq name (codes "golden"))
+    (bytes_eq name (codes "verify")) (bytes_eq name (codes "forced"))
   where
-    by : (is_ask is_trial is_explain is_conflicts is_verify is_forced : Bool)
+    by : (is_ask is_trial is_explain is_conflicts is_golden is_verify is_forced : Bool)
         → IfSome (cond is_ask (ask_in rows) (cond is_trial (trial_in rows)
-        (cond is_explain (explain_in rows) (cond is_conflicts (conflicts_in rows)
-        (cond is_verify (verify_in rows) (cond is_forced (forced_in rows) None))))))
+        (cond is_explain (explain_in rows) (cond is_conflicts (conflicts_in rows) (cond is_golden (golden_in rows)
+        (cond is_verify (verify_in rows) (cond is_forced (forced_in rows) None)))))))
         IsInRange
-    by true t e c v f = ask_in_range rows
-    by false true e c v f = trial_in_range (first_of (codes "N") rows)
-    by false false true c v f = explain_in_range rows
-    by false false false true v f = conflicts_in_range rows
-    by false false false false true f = verify_in_range rows
-    by false false false false false true = forced_in_range (first_of (codes "SPEC") rows)
-    by false false false false false false = tt
+    by true t e c g v f = ask_in_range rows
+    by false true e c g v f = trial_in_range (first_of (codes "N") rows)
+    by false false true c g v f = explain_in_range rows
+    by false false false true g v f = conflicts_in_range rows
+    by false false false false true v f = golden_in_range rows
+    by false false false false false true f = verify_in_range rows
+    by false false false false false false true = forced_in_range (first_of (codes "SPEC") rows)
+    by false false false false false false false = tt
 
 -- a command that words say has its numbers in their ranges
 pub said_in_range : (words : List Text) (said : CommandSaid) → command_of words ≡ Some said → IsInRange said

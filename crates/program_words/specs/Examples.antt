@@ -1,7 +1,7 @@
 -- Words of examples, and what they say.
 use Rattle.std.specs.Prelude.{ℕ, Bool, List, ◌∷◌, Option, Some, codes}
 use Rattle.clap.specs.Walk.{Text}
-use Rattle.program_words.specs.Words.{AskFor, CommandSaid, ConflictsIn, ExplainFor, command_of}
+use Rattle.program_words.specs.Words.{AskFor, CommandSaid, ConflictsIn, ExplainFor, GoldenIn, command_of}
 
 -- the command that these words say after the program's name
 abbrev pub said : List Text → Option CommandSaid
@@ -32,3 +32,12 @@ said_after_conflicts options = said (codes "conflicts" ∷ codes "s" ∷ options
 -- `conflicts` in s, with these options
 abbrev pub conflicts_in_s : ℕ → Option ℕ → Option CommandSaid
 conflicts_in_s budget guide = Some (ConflictsIn (record { spec = codes "s"; budget = budget; guide = guide }))
+
+-- the command that `golden s r` and these words say
+abbrev pub said_after_golden : List Text → Option CommandSaid
+said_after_golden options = said (codes "golden" ∷ codes "s" ∷ codes "r" ∷ options)
+
+-- `golden` in s for r, with these options
+abbrev pub golden_in_s : ℕ → Option ℕ → Option CommandSaid
+golden_in_s budget guide =
+    Some (GoldenIn (record { spec = codes "s"; relation = codes "r"; budget = budget; guide = guide }))

@@ -64,6 +64,13 @@ conflicts_shape = record (new_shape (codes "conflicts")) {
   rules = required_rule (codes "SPEC") ∷ option_rule (codes "budget") ∷ option_rule (codes "guide") ∷ [];
 }
 
+-- golden SPEC RELATION [--budget B] [--guide K]
+unfoldable pub golden_shape : Shape
+golden_shape = record (new_shape (codes "golden")) {
+  rules = required_rule (codes "SPEC") ∷ required_rule (codes "RELATION") ∷ option_rule (codes "budget")
+      ∷ option_rule (codes "guide") ∷ [];
+}
+
 -- the program with no command yet: one has to be named, and neither help nor a version is added
 unfoldable pub bare_line : App
 bare_line = record (new_app (codes "currency")) {
@@ -75,7 +82,8 @@ bare_line = record (new_app (codes "currency")) {
   };
 }
 
--- the program with its six commands
+-- the program with its seven commands
 unfoldable pub line : App
-line = with_subcommand (with_subcommand (with_subcommand (with_subcommand (with_subcommand
-    (with_subcommand bare_line ask_shape) verify_shape) forced_shape) trial_shape) explain_shape) conflicts_shape
+line = with_subcommand (with_subcommand (with_subcommand (with_subcommand (with_subcommand (with_subcommand
+    (with_subcommand bare_line ask_shape) verify_shape) forced_shape) trial_shape) explain_shape) conflicts_shape)
+    golden_shape

@@ -1,7 +1,7 @@
 -- What the code's own types say.
-use Rattle.program_words.specs.Words.{CommandSaid, AskFor, VerifyOf, ForcedOf, TrialOf, ExplainFor, ConflictsIn}
+use Rattle.program_words.specs.Words.{CommandSaid, AskFor, VerifyOf, ForcedOf, TrialOf, ExplainFor, ConflictsIn, GoldenIn}
 use Rattle.program_words.specs.declared.command.Command.{Command}
-use Rattle.program_words.specs.declared.command.Command.TheVariants.{Ask, Verify, Forced, Trial, Explain, Conflicts}
+use Rattle.program_words.specs.declared.command.Command.TheVariants.{Ask, Verify, Forced, Trial, Explain, Conflicts, Golden}
 
 -- a command, with the names of documents as bytes
 abbrev pub said_of : Command → CommandSaid
@@ -13,3 +13,5 @@ said_of (Trial size) = TrialOf size
 said_of (Explain e) =
     ExplainFor (record { spec = e.spec.now; question = e.question.now; unit = e.unit; budget = e.budget; guide = e.guide })
 said_of (Conflicts c) = ConflictsIn (record { spec = c.spec.now; budget = c.budget; guide = c.guide })
+said_of (Golden g) =
+    GoldenIn (record { spec = g.spec.now; relation = g.relation.now; budget = g.budget; guide = g.guide })

@@ -1,5 +1,6 @@
 -- The words of the program.
-use Rattle.std.specs.Prelude.{◌≡◌, ◌⊎◌, ◌||◌, ℕ, Bool, true, false, not, is_some, List, [], ◌∷◌, Option, None, if◌then◌else◌, codes, option_map, option_and_then}
+use Rattle.std.specs.Prelude.{◌≡◌, ◌⊎◌, ◌||◌, ℕ, Bool, true, false, not, is_some, List, [], ◌∷◌, Option, None}
+use Rattle.std.specs.Prelude.{if◌then◌else◌, codes, option_map, option_and_then}
 use Rattle.std.specs.Option.{option_map_or}
 use Rattle.std.specs.Str.{bytes_eq}
 use Rattle.clap.specs.Walk.{Row, Text, first_of}
@@ -37,7 +38,14 @@ pub record ConflictsSaid : Type 0 where
   pub budget : ℕ
   pub guide : Option ℕ
 
--- a command: ask, verify, forced SPEC, trial N, explain, or conflicts
+-- golden SPEC RELATION, with its options: the budget, and the one guide that is kept
+pub record GoldenSaid : Type 0 where
+  pub spec : List ℕ
+  pub relation : List ℕ
+  pub budget : ℕ
+  pub guide : Option ℕ
+
+-- a command: ask, verify, forced SPEC, trial N, explain, conflicts, or golden
 pub data CommandSaid : Type 0 where
   AskFor : AskSaid → CommandSaid
   VerifyOf : VerifySaid → CommandSaid
@@ -45,6 +53,7 @@ pub data CommandSaid : Type 0 where
   TrialOf : ℕ → CommandSaid
   ExplainFor : ExplainSaid → CommandSaid
   ConflictsIn : ConflictsSaid → CommandSaid
+  GoldenIn : GoldenSaid → CommandSaid
 
 -- a flag's text says that it was given
 abbrev pub is_set : Option Text → Bool
@@ -106,12 +115,24 @@ conflicts_in rows = option_and_then (λ spec.
     searched_in rows (λ budget guide. ConflictsIn (record { spec = spec; budget = budget; guide = guide })))
     (first_of (codes "SPEC") rows)
 
+-- `golden` with these rows; none where a number is wrong
+abbrev pub golden_in : List Row → Option CommandSaid
+golden_in rows = option_and_then (λ spec. option_and_then (λ relation.
+    searched_in rows (λ budget guide. GoldenIn (record {
+      spec = spec;
+      relation = relation;
+      budget = budget;
+      guide = guide;
+    })))
+    (first_of (codes "RELATION") rows)) (first_of (codes "SPEC") rows)
+
 -- the command of this name with these rows
 abbrev pub command_in : Text × List Row → Option CommandSaid
 command_in p = if bytes_eq p.0 (codes "ask") then ask_in p.1
     else if bytes_eq p.0 (codes "trial") then trial_in p.1
     else if bytes_eq p.0 (codes "explain") then explain_in p.1
     else if bytes_eq p.0 (codes "conflicts") then conflicts_in p.1
+    else if bytes_eq p.0 (codes "golden") then golden_in p.1
     else if bytes_eq p.0 (codes "verify") then verify_in p.1
     else if bytes_eq p.0 (codes "forced") then forced_in p.1
     else None
@@ -147,6 +168,7 @@ has_wrong_number p = if bytes_eq p.0 (codes "ask") then is_search_wrong p.1
     else if bytes_eq p.0 (codes "trial") then is_trial_wrong p.1
     else if bytes_eq p.0 (codes "explain") then is_explain_wrong p.1
     else if bytes_eq p.0 (codes "conflicts") then is_search_wrong p.1
+    else if bytes_eq p.0 (codes "golden") then is_search_wrong p.1
     else false
 
 -- clap sees a fault in the words, or a number in them is wrong

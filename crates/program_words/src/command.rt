@@ -9,6 +9,7 @@ pub enum Command<'a> {
     Trial(u64),
     Explain(Explain<'a>),
     Conflicts(Conflicts<'a>),
+    Golden(Golden<'a>),
 }
 
 /// `ask SPEC QUESTION [--budget N] [--brief] [--guide K]`.
@@ -49,6 +50,18 @@ pub struct Explain<'a> {
 #[derive(Clone, Copy)]
 pub struct Conflicts<'a> {
     pub spec: &'a str,
+    /// How many clauses may be learned in each search: 1 to 10,000,000.
+    pub budget: u64,
+    /// The one guide that is kept, 1 to 4; where there is none, all are.
+    pub guide: Option<u64>,
+}
+
+/// `golden SPEC RELATION [--budget B] [--guide K]`.
+#[derive(Clone, Copy)]
+pub struct Golden<'a> {
+    pub spec: &'a str,
+    /// The name of a relation.
+    pub relation: &'a str,
     /// How many clauses may be learned in each search: 1 to 10,000,000.
     pub budget: u64,
     /// The one guide that is kept, 1 to 4; where there is none, all are.

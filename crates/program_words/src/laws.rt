@@ -1,13 +1,17 @@
 ghost use Rattle.std.specs.Prelude.{◌≡◌, ◌≤◌, IfSome, ℕ, List, [], ◌∷◌, None, Some, codes, false, true};
-ghost use Rattle.program_words.specs.Examples.{ask_for, conflicts_in_s, explain_for, said, said_after_ask, said_after_conflicts, said_after_explain};
-ghost use Rattle.program_words.specs.Words.{AskFor, AskSaid, ConflictsIn, ConflictsSaid, ExplainFor, ExplainSaid, ForcedOf, IsRefused, TrialOf, VerifyOf, command_of};
+ghost use Rattle.program_words.specs.Examples.{ask_for, conflicts_in_s, explain_for, golden_in_s, said, said_after_ask};
+ghost use Rattle.program_words.specs.Examples.{said_after_conflicts, said_after_explain, said_after_golden};
+ghost use Rattle.program_words.specs.Words.{AskFor, AskSaid, ConflictsIn, ConflictsSaid, ExplainFor, ExplainSaid, ForcedOf};
+ghost use Rattle.program_words.specs.Words.{GoldenIn, GoldenSaid, IsRefused, TrialOf, VerifyOf, command_of};
 
 /// Examples of words: what they say, and which are refused.
 pub fn words_are_read()
     ensures ask { said_after_ask [] ≡ ask_for 100000 false None }
-    ensures options { said_after_ask (codes "--budget" ∷ codes "1" ∷ codes "--brief" ∷ codes "--guide" ∷ codes "4" ∷ []) ≡ ask_for 1 true (Some 4) }
+    ensures options { said_after_ask (codes "--budget" ∷ codes "1" ∷ codes "--brief" ∷ codes "--guide" ∷ codes "4" ∷ [])
+        ≡ ask_for 1 true (Some 4) }
     ensures joined { said_after_ask (codes "--budget=5" ∷ []) ≡ ask_for 5 false None }
-    ensures first { said (codes "ask" ∷ codes "--guide=1" ∷ codes "s" ∷ codes "--brief" ∷ codes "q" ∷ []) ≡ ask_for 100000 true (Some 1) }
+    ensures first { said (codes "ask" ∷ codes "--guide=1" ∷ codes "s" ∷ codes "--brief" ∷ codes "q" ∷ [])
+        ≡ ask_for 100000 true (Some 1) }
     ensures most { said_after_ask (codes "--budget" ∷ codes "10000000" ∷ []) ≡ ask_for 10000000 false None }
     ensures verify { said (codes "verify" ∷ codes "s" ∷ codes "q" ∷ codes "r" ∷ [])
         ≡ Some (VerifyOf (record { spec = codes "s"; question = codes "q"; report = codes "r" })) }
@@ -70,6 +74,16 @@ pub fn words_are_read()
     ensures conflicts_brief { said_after_conflicts (codes "--brief" ∷ []) ≡ None }
     ensures conflicts_budget_past { said_after_conflicts (codes "--budget" ∷ codes "10000001" ∷ []) ≡ None }
     ensures conflicts_guide_zero { said_after_conflicts (codes "--guide" ∷ codes "0" ∷ []) ≡ None }
+    ensures golden { said_after_golden [] ≡ golden_in_s 100000 None }
+    ensures golden_options { said_after_golden
+        (codes "--budget" ∷ codes "10000000" ∷ codes "--guide" ∷ codes "1" ∷ [])
+        ≡ golden_in_s 10000000 (Some 1) }
+    ensures no_golden { said (codes "golden" ∷ []) ≡ None }
+    ensures no_relation { said (codes "golden" ∷ codes "s" ∷ []) ≡ None }
+    ensures golden_excess { said_after_golden (codes "q" ∷ []) ≡ None }
+    ensures golden_brief { said_after_golden (codes "--brief" ∷ []) ≡ None }
+    ensures golden_budget_past { said_after_golden (codes "--budget" ∷ codes "10000001" ∷ []) ≡ None }
+    ensures golden_guide_zero { said_after_golden (codes "--guide" ∷ codes "0" ∷ []) ≡ None }
 {}
 
 /// Words say no command exactly where `clap` sees a fault in them or a number is wrong: no text that has to be there is
@@ -79,8 +93,9 @@ pub fn refusals_have_causes()
     ensures refused { (words : List (List ℕ)) → IsRefused words → command_of words ≡ None }
 {}
 
-/// The numbers that words say are in their ranges: of `ask`, `explain` and `conflicts` a budget of 1 to 10,000,000 and,
-/// where one guide is kept, its number of 1 to 4; of `trial` a size of 1 to 1000; of `explain` a unit of 1 to 2^32 - 1.
+/// The numbers that words say are in their ranges: of `ask`, `explain`, `conflicts` and `golden` a budget of 1 to
+/// 10,000,000 and, where one guide is kept, its number of 1 to 4; of `trial` a size of 1 to 1000; of `explain` a unit
+/// of 1 to 2^32 - 1.
 pub fn numbers_are_in_range()
     ensures budget { (words : List (List ℕ)) (a : AskSaid) → command_of words ≡ Some (AskFor a) → (1 ≤ a.budget) ×
         (a.budget ≤ 10000000) }
@@ -97,4 +112,8 @@ pub fn numbers_are_in_range()
         (1 ≤ c.budget) × (c.budget ≤ 10000000) }
     ensures conflicts_guide { (words : List (List ℕ)) (c : ConflictsSaid) → command_of words ≡ Some (ConflictsIn c) →
         IfSome c.guide (λ k. (1 ≤ k) × (k ≤ 4)) }
+    ensures golden_budget { (words : List (List ℕ)) (g : GoldenSaid) → command_of words ≡ Some (GoldenIn g) →
+        (1 ≤ g.budget) × (g.budget ≤ 10000000) }
+    ensures golden_guide { (words : List (List ℕ)) (g : GoldenSaid) → command_of words ≡ Some (GoldenIn g) →
+        IfSome g.guide (λ k. (1 ≤ k) × (k ≤ 4)) }
 {}

@@ -2,7 +2,9 @@ ghost use Rattle.std.specs.Prelude.{◌≡◌, IfOk, false};
 ghost use Rattle.clap.specs.Words.{app_of, rule_of, shape_of, with_subcommand};
 ghost use Rattle.clap.specs.Simple.{Shape, new_shape};
 ghost use Rattle.clap.specs.declared.builder.command.Command.TheViews.{out-Command};
-ghost use Rattle.program_words.specs.Line.{ask_shape, bare_line, conflicts_shape, explain_shape, flag_rule, forced_shape, line, on_question, option_rule, required_rule, trial_shape, verify_shape, with_argument, with_search_options};
+ghost use Rattle.program_words.specs.Line.{ask_shape, bare_line, conflicts_shape, explain_shape, flag_rule, forced_shape};
+ghost use Rattle.program_words.specs.Line.{golden_shape, line, on_question, option_rule, required_rule, trial_shape};
+ghost use Rattle.program_words.specs.Line.{verify_shape, with_argument, with_search_options};
 
 use clap::{Arg, ArgAction, Command};
 use std::alloc::{AllocError, Global};
@@ -120,6 +122,16 @@ fn conflicts<'a>(alloc: Global) -> Result<Command<'a>, AllocError>
     with_search_options(alloc, command)
 }
 
+#[tactic(auto, unfolding(crate::specs::Line::golden_shape))]
+fn golden<'a>(alloc: Global) -> Result<Command<'a>, AllocError>
+    ensures shape { IfOk result (λ c. shape_of c ≡ golden_shape) }
+    ensures local { IfOk result (λ c. (out-Command c).has_globals ≡ false) }
+{
+    let command = with_argument(bare(alloc, "golden"), required(alloc, "SPEC"))?;
+    let command = with_argument(command, required(alloc, "RELATION"))?;
+    with_search_options(alloc, command)
+}
+
 /// The program with no command yet. Subcommands take its settings on help and version.
 #[tactic(auto, unfolding(crate::specs::Line::bare_line))]
 fn bare_line<'a>(alloc: Global) -> Command<'a>
@@ -151,7 +163,7 @@ fn with_subcommand<'a>(
     added(command, subcommand?)
 }
 
-/// The program with its six commands.
+/// The program with its seven commands.
 pub(crate) fn line<'a>(alloc: Global) -> Result<Command<'a>, AllocError>
     ensures { IfOk result (λ c. app_of c ≡ line) }
 {
@@ -160,5 +172,6 @@ pub(crate) fn line<'a>(alloc: Global) -> Result<Command<'a>, AllocError>
     let with_forced = with_subcommand(with_verify, forced(alloc))?;
     let with_trial = with_subcommand(with_forced, trial(alloc))?;
     let with_explain = with_subcommand(with_trial, explain(alloc))?;
-    with_subcommand(with_explain, conflicts(alloc))
+    let with_conflicts = with_subcommand(with_explain, conflicts(alloc))?;
+    with_subcommand(with_conflicts, golden(alloc))
 }

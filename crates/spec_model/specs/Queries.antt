@@ -54,9 +54,10 @@ pub record IsDisjunctOn (relations : List Relation) (heads : List Kind) (d : Dis
   pub tests : All (IsTestOn kinds) d.tests
   pub head : map (slice_get kinds) d.head ≡ map (λ kind. Some kind) heads
 
--- a query of a few such disjuncts, whose heads have places of the same kinds
+-- a query of a few such disjuncts, whose heads have places of the same kinds; a document's has 16 at most, and one that is made
+-- for a match (that one of its values is another) a disjunct for each value that its atoms look at
 pub record IsQueryOn (relations : List Relation) (q : Query) : Type 0 where
   pub is_query : IsQuery q
-  pub few : length q.disjuncts ≤ 16
+  pub few : length q.disjuncts ≤ 256
   pub heads : List Kind
   pub disjuncts : All (IsDisjunctOn relations heads) q.disjuncts

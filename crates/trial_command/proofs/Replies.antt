@@ -1,8 +1,8 @@
 -- What `trial` comes to.
-use Rattle.std.proofs.Common.{◌≡◌, ◌∙◌, ℕ, List, [], ◌∷◌, codes, MatchResult, Result, Ok, Err, inl, inr, ap, sym, arith}
+use Rattle.std.proofs.Common.{◌≡◌, ◌∙◌, ℕ, List, [], ◌∷◌, codes, MatchResult, Result, Ok, Err, inl, inr, ap, subst, sym, arith}
 use Rattle.command_stages.proofs.OneRead.{IsOne, then_one}
 use Rattle.command_stages.proofs.Outcomes.{IsLike, answer_or_limit, answers_alike, done_apart, limit_or_answer, same_alike, same_done, then_like}
-use Rattle.command_stages.specs.Endings.{ending_status}
+use Rattle.command_stages.specs.Endings.{IsOfQuestion, ending_status}
 use Rattle.command_stages.specs.Stages.{Then, IsQuestionRead, IsSpecRead}
 use Rattle.command_stages.specs.declared.done.Done.{Done}
 use Rattle.command_stages.specs.declared.done.Ending.{Ending}
@@ -86,26 +86,29 @@ same_text a b d e same = ap (λ (x : Done). x.text) (same_done (told_as a d) (to
 same_end : (a b : List ℕ) (d e : Ending) → ◌≡◌ {A = Result Done Trouble} (Ok (told_as a d)) (Ok (told_as b e)) → d ≡ e
 same_end a b d e same = ap (λ (x : Done). x.ending) (same_done (told_as a d) (told_as b e) same)
 
-not_told_yet : ending.Told ≡ ending.Decided → ⊥
-not_told_yet e = cc
-
-not_told_spent : ending.Told ≡ ending.Undecided → ⊥
-not_told_spent e = cc
-
 not_both : ending.Undecided ≡ ending.Decided → ⊥
 not_both e = cc
 
 -- it ends as a question
-is_no_text : (size : ℕ) (text : List ℕ) (s : Spec) (questions : List Question) → AreTried size s questions
-    (Ok (told_as text ending.Told)) → ⊥
-is_no_text size text s questions (inl h) = not_told_yet (same_end text _ ending.Told ending.Decided h.is_text)
-is_no_text size text s questions (inr (inl h)) = not_told_spent (same_end text _ ending.Told ending.Undecided h.is_text)
-is_no_text size text s questions (inr (inr h)) = done_apart (told_as text ending.Told) (trouble.Limit 3) h.is_limit
+ends_as_question : (size : ℕ) (text : List ℕ) (e : Ending) (s : Spec) (questions : List Question)
+    → AreTried size s questions (Ok (told_as text e)) → IsOfQuestion e
+ends_as_question size text e s questions (inl h) =
+    subst IsOfQuestion (sym (same_end text _ e ending.Decided h.is_text)) tt
+ends_as_question size text e s questions (inr (inl h)) =
+    subst IsOfQuestion (sym (same_end text _ e ending.Undecided h.is_text)) tt
+ends_as_question size text e s questions (inr (inr h)) = absurd (done_apart (told_as text e) (trouble.Limit 3) h.is_limit)
+
+pub of_question : (size : ℕ) (text : List ℕ) (e : Ending) → IsTrialTold size text e → IsOfQuestion e
+of_question size text e h =
+    (of_told size (λ s. IsOfQuestion e) text e h
+    (λ s read questions tried. ends_as_question size text e s questions tried)).2
 
 pub decided_told : (size : ℕ) (text : List ℕ) (e : Ending) → ending_status e ≡ 0 → IsTrialTold size text e
     → IsTrialTold size text ending.Decided
-decided_told size text ending.Told zero h =
-    absurd (of_told size (λ s. ⊥) text ending.Told h (λ s read questions tried. is_no_text size text s questions tried)).2
+decided_told size text ending.Told zero h = absurd (of_question size text ending.Told h)
+decided_told size text ending.Tabled zero h = absurd (of_question size text ending.Tabled h)
+decided_told size text ending.Inconsistent zero h = absurd (of_question size text ending.Inconsistent h)
+decided_told size text ending.Open zero h = absurd (of_question size text ending.Open h)
 decided_told size text ending.Decided zero h = h
 decided_told size text ending.Undecided zero h = absurd (omega (arith, zero))
 
@@ -127,7 +130,10 @@ spent_of size text s questions told read (inr (inr h)) = absurd (done_apart (tol
     (trouble.Limit 3) h.is_limit)
 
 pub spent_told : (size : ℕ) (text : List ℕ) (e : Ending) → ending_status e ≡ 3 → IsTrialTold size text e → IsTrialSpent size text
-spent_told size text ending.Told three h = absurd (omega (arith, three))
+spent_told size text ending.Told three h = absurd (of_question size text ending.Told h)
+spent_told size text ending.Tabled three h = absurd (of_question size text ending.Tabled h)
+spent_told size text ending.Inconsistent three h = absurd (of_question size text ending.Inconsistent h)
+spent_told size text ending.Open three h = absurd (of_question size text ending.Open h)
 spent_told size text ending.Decided three h = absurd (omega (arith, three))
 spent_told size text ending.Undecided three h =
     (of_told size (λ s. IsTrialSpent size text) text ending.Undecided h

@@ -33,6 +33,8 @@ mod forced;
 #[cfg(test)]
 mod forged;
 #[cfg(test)]
+mod golden;
+#[cfg(test)]
 mod guide_kinds;
 #[cfg(test)]
 mod guided;

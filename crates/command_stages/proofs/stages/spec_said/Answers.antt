@@ -6,8 +6,8 @@ returns-in-Err-clause-said g c settled =
     tree_refused (g.S.Shelf.texts c.args.shelf.now) c.args.name.now c.args.bytes.now c.in-Err.trouble
     (c.in-Err.ensures.tree settled)
 
-pub returns-clause-unread : goal.returns-clause-unread
-returns-clause-unread g c =
+pub returns-in-Err-bind_spec-clause-unread : goal.returns-in-Err-bind_spec-clause-unread
+returns-in-Err-bind_spec-clause-unread g c =
     table_unread (g.S.Shelf.texts c.args.shelf.now) c.args.name.now c.args.bytes.now c.in-Ok.tree
     c.in-Err-bind_spec.fault c.of_binding.result (c.in-Ok.ensures.tree tt)
     c.of_binding.ensures.due c.in-Err-bind_spec.ensures.table_due

@@ -1,4 +1,4 @@
-use Rattle.program_words.specs.Words.{AskFor, ConflictsIn, ExplainFor, TrialOf}
+use Rattle.program_words.specs.Words.{AskFor, ConflictsIn, ExplainFor, GoldenIn, TrialOf}
 use Rattle.program_words.proofs.Ranges.{said_in_range}
 use Rattle.program_words.proofs.laws.numbers_are_in_range.Goals as goal
 
@@ -12,4 +12,6 @@ returns c = record {
   explain_guide = λ words e is. (said_in_range words (ExplainFor e) is).search.guide;
   conflicts_budget = λ words c is. (said_in_range words (ConflictsIn c) is).budget;
   conflicts_guide = λ words c is. (said_in_range words (ConflictsIn c) is).guide;
+  golden_budget = λ words g is. (said_in_range words (GoldenIn g) is).budget;
+  golden_guide = λ words g is. (said_in_range words (GoldenIn g) is).guide;
 }

@@ -64,4 +64,12 @@ returns c = record {
   conflicts_brief = refl;
   conflicts_budget_past = refl;
   conflicts_guide_zero = refl;
+  golden = refl;
+  golden_options = refl;
+  no_golden = refl;
+  no_relation = refl;
+  golden_excess = refl;
+  golden_brief = refl;
+  golden_budget_past = refl;
+  golden_guide_zero = refl;
 }

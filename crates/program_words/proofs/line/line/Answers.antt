@@ -2,7 +2,8 @@ use Rattle.std.proofs.Common.{◌≡◌, ◌∙◌, ap}
 use Rattle.std.proofs.lemmas.Result.{IfOk-weaker}
 use Rattle.clap.specs.Simple.{Shape}
 use Rattle.clap.specs.Words.{App, with_subcommand}
-use Rattle.program_words.specs.Line.{ask_shape, conflicts_shape, explain_shape, forced_shape, line, trial_shape, verify_shape}
+use Rattle.program_words.specs.Line.{ask_shape, conflicts_shape, explain_shape, forced_shape, golden_shape, line}
+use Rattle.program_words.specs.Line.{trial_shape, verify_shape}
 use Rattle.program_words.proofs.line.line.Goals as goal
 
 -- one more subcommand after those that are known
@@ -17,5 +18,7 @@ returns c =
     let forces = then forced_shape (c.in_ok-with_forced.ensures forced_shape c.forced.ensures.shape) verifies in
     let tries = then trial_shape (c.in_ok-with_trial.ensures trial_shape c.trial.ensures.shape) forces in
     let explains = then explain_shape (c.in_ok-with_explain.ensures explain_shape c.explain.ensures.shape) tries in
-    IfOk-weaker c.with_subcommand-6.result _ _ (λ r h. then conflicts_shape h explains)
-    (c.with_subcommand-6.ensures conflicts_shape c.conflicts.ensures.shape)
+    let conflicting =
+    then conflicts_shape (c.in_ok-with_conflicts.ensures conflicts_shape c.conflicts.ensures.shape) explains in
+    IfOk-weaker c.with_subcommand-7.result _ _ (λ r h. then golden_shape h conflicting)
+    (c.with_subcommand-7.ensures golden_shape c.golden.ensures.shape)

@@ -1,0 +1,20 @@
+use Rattle.std.proofs.Common.{arith, ap, length}
+use Rattle.command_stages.specs.Stages.{IsSpecSaid, text_bound}
+use Rattle.command_stages.specs.Trees.{spec_result}
+use Rattle.command_stages.proofs.WholeTexts.{of_document, of_whole_tree}
+use Rattle.command_stages.proofs.stages.read_with_tree.Goals as goal
+
+pub returns-clause-stage : goal.returns-clause-stage
+returns-clause-stage g c settled =
+    of_document (g.S.Shelf.texts c.args.shelf.now) c.args.name.now c.in_ok-bytes.bytes.items text_bound
+    (λ t b. IsSpecSaid t c.args.name.now b) (spec_result c.spec_said.result)
+    c.in_ok-bytes.ensures.whole
+    (omega (arith, c.in_ok-bytes.ensures.within, c.as_slice.ensures.len, ap length c.as_slice.ensures.value))
+    (rw c.as_slice.ensures.value at (rw c.in_ok-bytes.ensures.kept at (c.spec_said.ensures.said settled)))
+
+pub returns-clause-tree : goal.returns-clause-tree
+returns-clause-tree g c =
+    of_whole_tree (g.S.Shelf.texts c.args.shelf.now) c.args.name.now c.in_ok-bytes.bytes.items c.spec_said.result
+    c.in_ok-bytes.ensures.whole
+    (rw c.as_slice.ensures.value at c.spec_said.ensures.tree)
+    (rw c.in_ok-bytes.ensures.kept at c.spec_said.ensures.bound)

@@ -1,0 +1,19 @@
+-- A specification with the tree of its text.
+use Rattle.std.specs.Prelude.{ℕ, List, Result, Ok, Err}
+use Rattle.currency_edge.specs.Shelf.{document}
+use Rattle.spec_syntax.specs.declared.trees.SpecTree.{SpecTree}
+use Rattle.spec_model.specs.Spec.{Spec}
+use Rattle.spec_bind.specs.Bound.{IsSpecBound as IsBound}
+use Rattle.command_stages.specs.Stages.{IsSpecTree}
+use Rattle.command_stages.specs.declared.read_spec.ReadSpec.{ReadSpec}
+use Rattle.command_stages.specs.declared.trouble.Trouble.{Trouble}
+
+-- the outcome without the tree
+abbrev pub spec_result : Result ReadSpec Trouble → Result Spec Trouble
+spec_result (Ok read) = Ok read.spec
+spec_result (Err e) = Err e
+
+-- the tree is that of the specification's text, and the specification is what it says with the tables that it names
+pub record IsTreeOf (told : List (List ℕ × List ℕ)) (name : List ℕ) (tree : SpecTree) (s : Spec) : Type 0 where
+  pub reads : IsSpecTree name (document told name) (Ok tree)
+  pub bound : IsBound told tree (Ok s)

@@ -1,0 +1,4 @@
+mod Marked
+mod Reading
+mod SameValues
+mod Told

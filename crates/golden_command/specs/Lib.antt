@@ -1,0 +1,4 @@
+pub mod Asked
+pub mod Golden
+pub mod Text
+pub mod Told

@@ -1,0 +1,8 @@
+mod Lists
+mod Claims
+mod Made
+mod Claimed
+mod Told
+mod Posable
+mod Left
+mod Known

@@ -1,0 +1,2 @@
+pub mod Golden
+pub mod Steps

@@ -1,0 +1,4 @@
+mod Begun
+mod FreeWriter
+mod Marks
+mod ReadBack

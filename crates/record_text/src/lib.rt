@@ -1,0 +1,11 @@
+//! The text of records as comma-separated values.
+//!
+//! `specs/Text` has the text of records, by the rules of the crate `csv`, and `specs/Laws` the law that a
+//! reader of tables reads the records again.
+#![tactic(auto)]
+
+mod laws;
+mod write;
+
+pub use laws::records_read_back;
+pub use write::{Record, RecordList, records_text};
