@@ -3,8 +3,8 @@
 
 A small library, built of `refusals.c` and preloaded, counts the program's allocations, reads, opens and writes and refuses one of
 them: each allocation once, and it and each later one; each read, open and write; and each read and write is cut to one byte. So it is
-done over a handful of specifications and questions, `verify` of their reports, `forced`, `explain`, `conflicts`, `golden`, and
-the generated documents.
+done over a handful of specifications and questions, `verify` of their reports, `forced`, `explain`, `conflicts`, `golden`,
+`possible`, and the generated documents.
 
 Right is: the status and the text without a refusal; or, where a guide was refused memory and is not asked any more, another report
 that `verify` accepts, or the same explanation with other completions (these cases have one each); or what the table of causes in
@@ -101,6 +101,9 @@ CASES = [
     ("golden, department", DEPARTMENT, ["golden", "s", "Emp"]),
     ("golden, either", EITHER, ["golden", "s", "R"]),
     ("golden, eight clauses", EIGHT_CLAUSES, ["golden", "s", "R", "--budget", "1"]),
+    ("possible, circle", CIRCLE, ["possible", "s", "q"]),
+    ("possible, either", EITHER, ["possible", "s", "q"]),
+    ("possible, eight clauses", EIGHT_CLAUSES, ["possible", "s", "q", "--budget", "1"]),
     ("trial 2", {}, ["trial", "2"]),
     ("refused words", CIRCLE, ["ask", "s"]),
     ("refused document", {**CIRCLE, "q": "consistent"}, ASK),

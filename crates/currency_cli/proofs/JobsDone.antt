@@ -6,6 +6,7 @@ use Rattle.command_stages.specs.Endings.{IsOfQuestion, ending_status}
 use Rattle.conflicts_command.proofs.Jobs as conflicts
 use Rattle.explain_command.proofs.Jobs as explain
 use Rattle.currency_cli.proofs.GoldenTold as golden
+use Rattle.possible_command.proofs.Jobs as possible
 use Rattle.command_stages.specs.Texts.{trouble_status}
 use Rattle.command_stages.specs.declared.done.Done.{Done}
 use Rattle.command_stages.specs.declared.done.Ending.{Ending}
@@ -18,7 +19,7 @@ use Rattle.currency_cli.specs.Told.{IsTold, IsToldFor}
 use Rattle.currency_edge.specs.Fault.{Rose}
 use Rattle.currency_edge.specs.Sink.{AppendsPrefix}
 use Rattle.forced_command.specs.Forced.{AreForcedListed}
-use Rattle.program_words.specs.Words.{CommandSaid, AskFor, VerifyOf, ForcedOf, TrialOf, ExplainFor, ConflictsIn, GoldenIn}
+use Rattle.program_words.specs.Words.{CommandSaid, AskFor, VerifyOf, ForcedOf, TrialOf, ExplainFor, ConflictsIn, GoldenIn, PossibleFor}
 use Rattle.trial_command.proofs.Replies as trial
 
 -- ---- the text
@@ -146,6 +147,7 @@ job_at told (TrialOf size) d zero h = trial.decided_told size d.text d.ending ze
 job_at told (ExplainFor e) d zero h = explain.decided_told told e d.text d.ending zero h
 job_at told (ConflictsIn c) d zero h = conflicts.decided_told told c d.text d.ending zero h
 job_at told (GoldenIn g) d zero h = golden.tabled_told told g d.text d.ending zero h
+job_at told (PossibleFor p) d zero h = possible.decided_told told p d.text d.ending zero h
 
 job : (texts : Option (List (List ℕ × List ℕ))) (c : CommandSaid) (d : Done) → status_of (Ok d) ≡ 0 → IfSome texts
     (λ told. IsTold told c d)
@@ -180,6 +182,7 @@ spent_at told (TrialOf size) d three h = trial.spent_told size d.text d.ending t
 spent_at told (ExplainFor e) d three h = explain.spent_told told e d.text d.ending three h
 spent_at told (ConflictsIn c) d three h = conflicts.spent_told told c d.text d.ending three h
 spent_at told (GoldenIn g) d three h = golden.open_told told g d.text d.ending three h
+spent_at told (PossibleFor p) d three h = possible.spent_told told p d.text d.ending three h
 
 spent : (texts : Option (List (List ℕ × List ℕ))) (c : CommandSaid) (d : Done) → status_of (Ok d) ≡ 3 → IfSome texts
     (λ told. IsTold told c d)
@@ -223,6 +226,7 @@ bare_at told (TrialOf size) d ten h = absurd (no_question d.ending (trial.of_que
 bare_at told (ExplainFor e) d ten h = absurd (no_question d.ending (explain.of_question told e d.text d.ending h) ten)
 bare_at told (ConflictsIn c) d ten h = absurd (no_question d.ending (conflicts.of_question told c d.text d.ending h) ten)
 bare_at told (GoldenIn g) d ten h = golden.bare_told told g d.text d.ending ten h
+bare_at told (PossibleFor p) d ten h = absurd (no_question d.ending (possible.of_question told p d.text d.ending h) ten)
 
 bare : (texts : Option (List (List ℕ × List ℕ))) (c : CommandSaid) (d : Done) → status_of (Ok d) ≡ 10
     → IfSome texts (λ told. IsTold told c d) → IfSome texts (λ told. IsBare told c (output_of (Ok d)))

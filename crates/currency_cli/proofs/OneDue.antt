@@ -10,12 +10,13 @@ use Rattle.command_stages.specs.declared.trouble.Trouble.{Trouble}
 use Rattle.command_stages.specs.declared.trouble.Trouble.TheVariants as trouble
 use Rattle.conflicts_command.proofs.Replies.{conflicts_like}
 use Rattle.golden_command.proofs.Replies.{golden_like}
+use Rattle.possible_command.proofs.Replies.{possible_like}
 use Rattle.currency_cli.specs.Due.{IsDueFor, IsDue}
 use Rattle.currency_cli.specs.Words.{command_for}
 use Rattle.explain_command.proofs.Replies.{explain_like}
 use Rattle.forced_command.proofs.Replies.{forced_like}
 use Rattle.spec_model.specs.declared.relation.Relation.{Relation}
-use Rattle.program_words.specs.Words.{VerifySaid, CommandSaid, AskFor, VerifyOf, ForcedOf, TrialOf, ExplainFor, ConflictsIn, GoldenIn}
+use Rattle.program_words.specs.Words.{VerifySaid, CommandSaid, AskFor, VerifyOf, ForcedOf, TrialOf, ExplainFor, ConflictsIn, GoldenIn, PossibleFor}
 use Rattle.trial_command.proofs.Replies.{trial_like}
 use Rattle.trial_documents.specs.Documents.{documents}
 use Rattle.verify_command.specs.Judged.{IsVerifyDue}
@@ -35,6 +36,7 @@ for_command laws told (TrialOf size) a b h k = trial_like laws.specs laws.questi
 for_command laws told (ExplainFor e) a b h k = explain_like laws.specs laws.questions told e a b h k
 for_command laws told (ConflictsIn c) a b h k = conflicts_like laws.specs told c a b h k
 for_command laws told (GoldenIn g) a b h k = golden_like laws.specs told g a b h k
+for_command laws told (PossibleFor p) a b h k = possible_like laws.specs laws.questions told p a b h k
 
 for_words : Laws → (told : List (List ℕ × List ℕ)) (o : Option CommandSaid) (a b : Result Done Trouble)
     → MatchOption o (a ≡ Err trouble.Words) (λ c. IsDueFor told c a) → MatchOption o (b ≡ Err trouble.Words)

@@ -12,6 +12,9 @@ use Rattle.conflicts_command.specs.Found.{IsConflictsDue}
 use Rattle.golden_command.proofs.Replies.{golden_comes, golden_due_found}
 use Rattle.golden_command.specs.Asked.{relation_named}
 use Rattle.golden_command.specs.Golden.{IsGoldenDue, IsGoldenFound}
+use Rattle.possible_command.proofs.Replies.{ComesToPossible, possible_comes, possible_due}
+use Rattle.possible_command.specs.Possible.{IsPossibleDue}
+use Rattle.possible_values.specs.Candidates.{HasTooManyCandidates}
 use Rattle.currency_cli.proofs.Exact.{own_status}
 use Rattle.currency_cli.specs.Due.{IsDue, IsDueFor}
 use Rattle.currency_cli.specs.Ends.{EndsWith}
@@ -23,8 +26,8 @@ use Rattle.currency_cli.proofs.Explains.{explanation_due, explanation_comes}
 use Rattle.explain_command.specs.Explained.{IsExplainDue}
 use Rattle.forced_command.proofs.Replies.{told_due}
 use Rattle.forced_command.specs.Forced.{IsForcedDue, IsForcedTold}
-use Rattle.program_words.specs.Words.{AskSaid, ConflictsSaid, ExplainSaid, GoldenSaid, VerifySaid, CommandSaid}
-use Rattle.program_words.specs.Words.{AskFor, ConflictsIn, ExplainFor, GoldenIn, VerifyOf, ForcedOf}
+use Rattle.program_words.specs.Words.{AskSaid, ConflictsSaid, ExplainSaid, GoldenSaid, PossibleSaid, VerifySaid, CommandSaid}
+use Rattle.program_words.specs.Words.{AskFor, ConflictsIn, ExplainFor, GoldenIn, PossibleFor, VerifyOf, ForcedOf}
 use Rattle.report_model.specs.declared.verdict.Kind.{Kind}
 use Rattle.spec_model.specs.Spec.{Spec}
 use Rattle.spec_model.specs.declared.question.Question.{Question}
@@ -229,3 +232,38 @@ recorded one_spec (Some told) count words got old new rb rn wb wn status due ros
         golden_due_found one_spec told g s got spec (record_due told count words g got said (due own.0)) in
         told_or_not (golden_comes found.0 s g rel got status found.2 named own.1)
     of spec named (inr nine) = inr (inr (inr nine))
+
+-- ---- what may hold
+
+imagine_due : (told : List (List ℕ × List ℕ)) (count : ℕ) (words : List (List ℕ)) (p : PossibleSaid) (got : Result Done Trouble)
+    → command_for count words ≡ Some (PossibleFor p) → IsDue told count words got → IsPossibleDue told p got
+imagine_due told count words p got said due =
+    subst (λ (o : Option CommandSaid). MatchOption o (got ≡ Err trouble.Words) (λ x. IsDueFor told x got)) said due
+
+decided_or_limit : (s : Spec) (q : Question) (status : ℕ) → ComesToPossible s q status
+    → (status ≡ 0) ⊎ ((status ≡ 3) ⊎ (((status ≡ 6) × HasTooManyCandidates s.relations q) ⊎ (status ≡ 9)))
+decided_or_limit s q status (inl zero) = inl zero
+decided_or_limit s q status (inr (inl three)) = inr (inl three)
+decided_or_limit s q status (inr (inr six)) = inr (inr (inl six))
+
+pub imagined : OneSpec → OneQuestion → (texts : Option (List (List ℕ × List ℕ))) (count : ℕ) (words : List (List ℕ))
+    (got : Result Done Trouble)
+    (old new : Option (List ℕ)) (rb rn wb wn status : ℕ)
+    → (IsSettled got → IfSome texts (λ told. IsDue told count words got)) → (IsReadFault got → Rose rb rn)
+    → EndsWith old new wb wn got status
+    → (Rose rb rn → ⊥) → (Rose wb wn → ⊥) → (p : PossibleSaid) → command_for count words ≡ Some (PossibleFor p)
+    → (s : Spec) (q : Question)
+    → IfSome texts (λ told. IsSpecRead told p.spec (Ok s) → IsQuestionRead told s.relations p.question (Ok q)
+    → (status ≡ 0) ⊎ ((status ≡ 3) ⊎ (((status ≡ 6) × HasTooManyCandidates s.relations q) ⊎ (status ≡ 9))))
+imagined one_spec one_question None count words got old new rb rn wb wn status due rose ends reads writes p said s q = tt
+imagined one_spec one_question (Some told) count words got old new rb rn wb wn status due rose ends reads writes p
+    said s q = λ spec question.
+    of spec question (own_status got old new rb rn wb wn status rose ends reads writes)
+  where
+    of : IsSpecRead told p.spec (Ok s) → IsQuestionRead told s.relations p.question (Ok q) →
+        (IsSettled got × (status ≡ status_of got)) ⊎ (status ≡ 9)
+        → (status ≡ 0) ⊎ ((status ≡ 3) ⊎ (((status ≡ 6) × HasTooManyCandidates s.relations q) ⊎ (status ≡ 9)))
+    of spec question (inl own) =
+        decided_or_limit s q status (possible_comes s p q got status (possible_due one_spec one_question told p s q got spec question
+        (imagine_due told count words p got said (due own.0))) own.1)
+    of spec question (inr nine) = inr (inr (inr nine))

@@ -10,7 +10,8 @@ use Rattle.currency_cli.specs.Words.{command_for}
 use Rattle.explain_command.specs.Explained.{IsExplainDue, IsExplainDocumentDue}
 use Rattle.forced_command.specs.Forced.{IsForcedDue}
 use Rattle.golden_command.specs.Golden.{IsGoldenDue}
-use Rattle.program_words.specs.Words.{CommandSaid, AskFor, VerifyOf, ForcedOf, TrialOf, ExplainFor, ConflictsIn, GoldenIn}
+use Rattle.possible_command.specs.Possible.{IsPossibleDocumentDue, IsPossibleDue}
+use Rattle.program_words.specs.Words.{CommandSaid, AskFor, VerifyOf, ForcedOf, TrialOf, ExplainFor, ConflictsIn, GoldenIn, PossibleFor}
 use Rattle.trial_command.specs.Trial.{IsTrialDue}
 use Rattle.verify_command.specs.Judged.{IsVerifyDue, IsVerifyDocumentDue}
 
@@ -23,6 +24,7 @@ IsDueFor told (TrialOf size) outcome = IsTrialDue size outcome
 IsDueFor told (ExplainFor e) outcome = IsExplainDue told e outcome
 IsDueFor told (ConflictsIn c) outcome = IsConflictsDue told c outcome
 IsDueFor told (GoldenIn g) outcome = IsGoldenDue told g outcome
+IsDueFor told (PossibleFor p) outcome = IsPossibleDue told p outcome
 
 -- what is due for words, where so many guides are handed in
 abbrev pub IsDue : List (List ℕ × List ℕ) → ℕ → List (List ℕ) → Result Done Trouble → Type 0
@@ -38,6 +40,7 @@ IsDocumentDue told (TrialOf size) name = ⊥
 IsDocumentDue told (ExplainFor e) name = IsExplainDocumentDue told e name
 IsDocumentDue told (ConflictsIn c) name = IsSpecDocumentDue told c.spec name
 IsDocumentDue told (GoldenIn g) name = IsSpecDocumentDue told g.spec name
+IsDocumentDue told (PossibleFor p) name = IsPossibleDocumentDue told p name
 
 -- a document of this name is due to be read for these words
 abbrev pub IsReadDue : List (List ℕ × List ℕ) → ℕ → List (List ℕ) → List ℕ → Type 0

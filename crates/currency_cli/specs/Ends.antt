@@ -17,7 +17,8 @@ use Rattle.currency_edge.specs.Sink.{AppendsPrefix}
 use Rattle.explain_command.specs.Explained.{IsExplainTold}
 use Rattle.forced_command.specs.Forced.{AreForcedListed}
 use Rattle.golden_command.specs.Golden.{IsGoldenTold}
-use Rattle.program_words.specs.Words.{CommandSaid, AskFor, VerifyOf, ForcedOf, TrialOf, ExplainFor, ConflictsIn, GoldenIn}
+use Rattle.possible_command.specs.Possible.{IsPossibleTold}
+use Rattle.program_words.specs.Words.{CommandSaid, AskFor, VerifyOf, ForcedOf, TrialOf, ExplainFor, ConflictsIn, GoldenIn, PossibleFor}
 use Rattle.report_model.specs.declared.verdict.Kind.{Kind}
 use Rattle.trial_command.specs.Trial.{IsTrialTold, IsTrialSpent}
 use Rattle.verify_command.specs.Judged.{accepted_text}
@@ -46,6 +47,7 @@ IsJobDone told (TrialOf size) text = IsTrialTold size text Decided
 IsJobDone told (ExplainFor e) text = IsExplainTold told e text Decided
 IsJobDone told (ConflictsIn c) text = AreConflictsTold told c text Decided
 IsJobDone told (GoldenIn g) text = IsGoldenTold told g text Tabled
+IsJobDone told (PossibleFor p) text = IsPossibleTold told p text Decided
 
 -- the words say a command whose job is done: the documents show what is told, and the sink got the text
 pub record IsDone (texts : Option (List (List ℕ × List ℕ))) (count : ℕ) (words : List (List ℕ))
@@ -64,6 +66,7 @@ IsSpent told (TrialOf size) text = IsTrialSpent size text
 IsSpent told (ExplainFor e) text = IsExplainTold told e text Undecided
 IsSpent told (ConflictsIn c) text = AreConflictsTold told c text Undecided
 IsSpent told (GoldenIn g) text = IsGoldenTold told g text Open
+IsSpent told (PossibleFor p) text = IsPossibleTold told p text Undecided
 IsSpent told command text = ⊥
 
 -- the words ask a question that was not decided: the sink got the whole report

@@ -7,7 +7,8 @@ use Rattle.currency_cli.specs.Words.{command_for}
 use Rattle.explain_command.specs.Explained.{IsExplainTold}
 use Rattle.forced_command.specs.Forced.{AreForcedTold}
 use Rattle.golden_command.specs.Golden.{IsGoldenTold}
-use Rattle.program_words.specs.Words.{CommandSaid, AskFor, VerifyOf, ForcedOf, TrialOf, ExplainFor, ConflictsIn, GoldenIn}
+use Rattle.possible_command.specs.Possible.{IsPossibleTold}
+use Rattle.program_words.specs.Words.{CommandSaid, AskFor, VerifyOf, ForcedOf, TrialOf, ExplainFor, ConflictsIn, GoldenIn, PossibleFor}
 use Rattle.trial_command.specs.Trial.{IsTrialDue}
 use Rattle.verify_command.specs.Shown.{IsVerifyTold}
 
@@ -20,6 +21,7 @@ IsTold told (TrialOf size) d = IsTrialDue size (Ok d)
 IsTold told (ExplainFor e) d = IsExplainTold told e d.text d.ending
 IsTold told (ConflictsIn c) d = AreConflictsTold told c d.text d.ending
 IsTold told (GoldenIn g) d = IsGoldenTold told g d.text d.ending
+IsTold told (PossibleFor p) d = IsPossibleTold told p d.text d.ending
 
 -- words say a command that came to this
 pub record IsToldFor (texts : Option (List (List ℕ × List ℕ))) (count : ℕ) (words : List (List ℕ)) (d : Done) : Type 0 where

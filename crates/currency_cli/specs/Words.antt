@@ -1,6 +1,6 @@
 -- The commands that words say, where so many guides are handed in.
 use Rattle.std.specs.Prelude.{◌≤◌, ℕ, Bool, true, List, Option, Some, None, nat_le, option_and_then, if◌then◌else◌}
-use Rattle.program_words.specs.Words.{CommandSaid, AskFor, VerifyOf, ForcedOf, TrialOf, ExplainFor, ConflictsIn, GoldenIn, command_of}
+use Rattle.program_words.specs.Words.{CommandSaid, AskFor, VerifyOf, ForcedOf, TrialOf, ExplainFor, ConflictsIn, GoldenIn, PossibleFor, command_of}
 
 -- the guide that is to be kept, if one is, is among so many, counted from 1
 abbrev pub is_guide : ℕ → Option ℕ → Bool
@@ -16,6 +16,7 @@ with_guides count (TrialOf size) = Some (TrialOf size)
 with_guides count (ExplainFor e) = if is_guide count e.guide then Some (ExplainFor e) else None
 with_guides count (ConflictsIn c) = if is_guide count c.guide then Some (ConflictsIn c) else None
 with_guides count (GoldenIn g) = if is_guide count g.guide then Some (GoldenIn g) else None
+with_guides count (PossibleFor p) = if is_guide count p.guide then Some (PossibleFor p) else None
 
 -- the numbers of a command are in their ranges
 abbrev pub IsInRange : CommandSaid → Type 0
@@ -24,6 +25,7 @@ IsInRange (TrialOf size) = (1 ≤ size) × (size ≤ 1000)
 IsInRange (ExplainFor e) = (1 ≤ e.unit) × (e.budget ≤ 10000000)
 IsInRange (ConflictsIn c) = c.budget ≤ 10000000
 IsInRange (GoldenIn g) = g.budget ≤ 10000000
+IsInRange (PossibleFor p) = p.budget ≤ 10000000
 IsInRange other = Unit {0}
 
 -- the command that words say where so many guides are handed in; none where they are refused

@@ -17,6 +17,7 @@ use currency_edge::Shelf;
 use explain_command::explain_documents;
 use forced_command::forced_document;
 use golden_command::golden_document;
+use possible_command::possible_documents;
 use program_words::Command;
 use solver_guides::Guides;
 use std::alloc::Global;
@@ -49,6 +50,7 @@ fn outcome_of<S: Shelf>(
         Command::Explain(asked) => explain_documents(alloc, shelf, asked, guides),
         Command::Conflicts(asked) => conflicts_document(alloc, shelf, asked, guides),
         Command::Golden(asked) => golden_document(alloc, shelf, asked, guides),
+        Command::Possible(asked) => possible_documents(alloc, shelf, asked, guides),
     }
 }
 

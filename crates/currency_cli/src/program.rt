@@ -10,8 +10,9 @@ ghost use Rattle.command_stages.specs.Named.{IsSettled, IsReadFault, IsReadFault
 ghost use Rattle.currency_cli.specs.Words.{command_for};
 ghost use Rattle.command_stages.specs.declared.done.Done.{Done};
 ghost use Rattle.golden_command.specs.Asked.{relation_named};
-ghost use Rattle.program_words.specs.Words.{AskSaid, ConflictsSaid, ExplainSaid, GoldenSaid, VerifySaid};
-ghost use Rattle.program_words.specs.Words.{AskFor, ConflictsIn, ExplainFor, GoldenIn, VerifyOf, ForcedOf, TrialOf};
+ghost use Rattle.possible_values.specs.Candidates.{HasTooManyCandidates};
+ghost use Rattle.program_words.specs.Words.{AskSaid, ConflictsSaid, ExplainSaid, GoldenSaid, PossibleSaid, VerifySaid};
+ghost use Rattle.program_words.specs.Words.{AskFor, ConflictsIn, ExplainFor, GoldenIn, PossibleFor, VerifyOf, ForcedOf, TrialOf};
 ghost use Rattle.currency_report.specs.declared.report.ReadReport.{ReadReport};
 ghost use Rattle.trial_command.specs.Trial.{IsTrialDue};
 ghost use Rattle.solver_guides.specs.Rings.{count_of};
@@ -136,6 +137,14 @@ pub fn run<S: Shelf, K: Sink>(
         → relation_named s.relations g.relation ≡ Some rel
         → (result ≡ 0) ⊎ ((result ≡ 3) ⊎ ((result ≡ 10) ⊎ (result ≡ 9)))) }
 
+    // What may hold is told, where the specification and the question are read, unless a budget is spent, or the query has more
+    // matches than are gone through.
+    ensures imagined { (Rose (S.faults shelf.old) (S.faults shelf.new) → ⊥) → (Rose (K.faults out.old) (K.faults out.new) → ⊥)
+        → (p : PossibleSaid) → command_for (count_of guides.old) (map (λ w. string_bytes w) words.now) ≡ Some (PossibleFor p)
+        → (s : Spec) (question : Question) → IfSome (S.texts shelf.old) (λ told.
+        IsSpecRead told p.spec (Ok s) → IsQuestionRead told s.relations p.question (Ok question)
+        → (result ≡ 0) ⊎ ((result ≡ 3) ⊎ (((result ≡ 6) × HasTooManyCandidates s.relations question) ⊎ (result ≡ 9)))) }
+
     // `trial` reads nothing of the shelf: whatever that tells, what the program comes to is due for the generated documents.
     ensures tried { (size : ℕ) → command_for (count_of guides.old) (map (λ w. string_bytes w) words.now) ≡ Some (TrialOf size)
         → (outcome : Result Done Trouble) × (IsSettled outcome → IsTrialDue size outcome) × (IsReadFault outcome → ⊥)
@@ -155,7 +164,8 @@ pub fn run<S: Shelf, K: Sink>(
     // a unit of a verdict, or that there is no consistent completion, suffices, and of its items each is needed; the parts that
     // are listed as conflicts are exactly the inconsistent ones, each with what explains it; a value stands in a golden record
     // exactly where it is the current one in every consistent completion, and an attribute is named as open exactly where two
-    // values are possible.
+    // values are possible; of the candidates of a question exactly those are told as possible that hold in some consistent
+    // completion, each with a listed one in which it does.
     ensures done { result ≡ 0
         → IsDone (S.texts shelf.old) (count_of guides.old) (map (λ w. string_bytes w) words.now) (K.written out.old)
         (K.written out.new) }

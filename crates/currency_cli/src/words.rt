@@ -38,6 +38,7 @@ fn keep_for(guides: &mut Guides, command: &Command<'_>) -> bool
         Command::Explain(asked) => keep_guide(guides, asked.guide),
         Command::Conflicts(asked) => keep_guide(guides, asked.guide),
         Command::Golden(asked) => keep_guide(guides, asked.guide),
+        Command::Possible(asked) => keep_guide(guides, asked.guide),
     }
 }
 

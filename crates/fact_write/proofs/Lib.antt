@@ -1,3 +1,4 @@
+mod Ending
 mod Reading
 mod Places
 mod Listing

@@ -27,16 +27,16 @@ fn row_of<'a>(spec: &'a Specification, claim: Premise) -> &'a Row
     relation_of(spec, claim).rows.row(claim.row)
 }
 
-/// The row's value of the attribute.
-pub(crate) fn value_of<'a>(spec: &'a Specification, claim: Premise) -> &'a Value
+/// The claimed row's value of the attribute.
+pub fn value_of<'a>(spec: &'a Specification, claim: Premise) -> &'a Value
     requires { IsPlaced spec.now.relations claim }
     ensures { claim_value spec.now.relations claim ≡ Some result.now }
 {
     row_of(spec, claim).values.get(claim.attr.0 as usize)
 }
 
-/// The name of the row's entity.
-pub(crate) fn name_of<'a>(spec: &'a Specification, claim: Premise) -> &'a Name
+/// The name of the claimed row's entity.
+pub fn name_of<'a>(spec: &'a Specification, claim: Premise) -> &'a Name
     requires { IsPlaced spec.now.relations claim }
     ensures { claim_name spec.now.relations claim ≡ Some result.now }
 {

@@ -11,9 +11,10 @@ use Rattle.clap.specs.Simple.{Shape, argument_words, built, entered, label_of, n
 use Rattle.clap.specs.Walk.{Row, Text, answers_to, first_of, nothing_held, rows_after, stop_after}
 use Rattle.program_words.specs.Line.{line}
 use Rattle.program_words.specs.Numbers.{number_if_given, number_or, number_up_to}
-use Rattle.program_words.specs.Words.{CommandSaid, ConflictsIn, ForcedOf, IsRefused, TrialOf, VerifyOf, ask_in, command_in}
-use Rattle.program_words.specs.Words.{command_of, conflicts_in, explain_in, golden_in, has_wrong_number, is_explain_wrong}
-use Rattle.program_words.specs.Words.{is_search_wrong, is_trial_wrong, trial_in, unit_in, unless_fault}
+use Rattle.program_words.specs.Words.{CommandSaid, ConflictsIn, ForcedOf, IsRefused, TrialOf, VerifyOf, ask_in, asked_in}
+use Rattle.program_words.specs.Words.{command_in, command_of, conflicts_in, explain_in, golden_in, has_wrong_number}
+use Rattle.program_words.specs.Words.{is_explain_wrong, is_search_wrong, is_trial_wrong, possible_in, trial_in, unit_in}
+use Rattle.program_words.specs.Words.{unless_fault}
 use Rattle.program_words.proofs.Parts.{from_number, from_question, from_search, no_number, no_question, no_search}
 use Rattle.program_words.proofs.TextRows.{found_holds}
 use Rattle.program_words.proofs.TextWalks.{AreValued, level_texts}
@@ -55,7 +56,15 @@ conflicts_number : (spec : Option Text) (budget : Option ℕ) (guide : Option (O
 conflicts_number None budget guide s e = cc
 conflicts_number (Some spec) budget guide s e = from_search budget guide _ e
 
--- each argument of a command has a text where it is used
+asked_number : (rows : List Row) (said : Text → Text → ℕ → Option ℕ → CommandSaid)
+    → is_some (first_of (codes "SPEC") rows) ≡ true → is_some (first_of (codes "QUESTION") rows) ≡ true
+    → asked_in rows said ≡ None → is_search_wrong rows ≡ true
+asked_number rows said spec question none =
+    from_question (first_of (codes "SPEC") rows) (first_of (codes "QUESTION") rows) _ spec question
+    (λ s q. from_search (number_or 100000 10000000 (first_of (codes "budget") rows))
+    (number_if_given 4 (first_of (codes "guide") rows)) _) none
+
+-- each argument of a command has a text where it is used; `possible` has those of `ask`
 ask_valued : AreValued (sub 0).rules
 unfolding whole_line
 ask_valued = (
@@ -126,12 +135,9 @@ golden_valued = (
 ask_caused : IsCaused (sub 0)
 unfolding whole_line
 ask_caused words free none =
-    let rows = rows_after (sub 0).rules [] words in
-    from_question (first_of (codes "SPEC") rows) (first_of (codes "QUESTION") rows) _
+    asked_number (rows_after (sub 0).rules [] words) _
     (required_text (sub 0) words (codes "SPEC") ask_valued (inl (refl, refl)) free)
-    (required_text (sub 0) words (codes "QUESTION") ask_valued (inr (inl (refl, refl))) free)
-    (λ spec question. from_search (number_or 100000 10000000 (first_of (codes "budget") rows))
-    (number_if_given 4 (first_of (codes "guide") rows)) _) none
+    (required_text (sub 0) words (codes "QUESTION") ask_valued (inr (inl (refl, refl))) free) none
 
 verify_caused : IsCaused (sub 1)
 unfolding whole_line
@@ -186,10 +192,22 @@ golden_caused words free none =
     (λ spec relation. from_search (number_or 100000 10000000 (first_of (codes "budget") rows))
     (number_if_given 4 (first_of (codes "guide") rows)) _) none
 
+possible_caused : IsCaused (sub 7)
+unfolding whole_line
+possible_caused words free none =
+    asked_number (rows_after (sub 7).rules [] words) _
+    (required_text (sub 7) words (codes "SPEC") ask_valued (inl (refl, refl)) free)
+    (required_text (sub 7) words (codes "QUESTION") ask_valued (inr (inl (refl, refl))) free) none
+
 all_caused : AllByRecursion IsCaused (built line).subs
 unfolding no_arguments
-all_caused =
-    (ask_caused, (verify_caused, (forced_caused, (trial_caused, (explain_caused, (conflicts_caused, (golden_caused, tt)))))))
+all_caused = (
+  ask_caused,
+  (
+    verify_caused,
+    (forced_caused, (trial_caused, (explain_caused, (conflicts_caused, (golden_caused, (possible_caused, tt)))))),
+  ),
+)
 
 -- the same of the command that was entered
 entered_caused : (stop : Option (Text × List Text)) → is_some (entered (built line) stop) ≡ true → entered_fault
@@ -253,8 +271,9 @@ trial_none (Some text) e = by (number_up_to 1000 text) e
     by None e = refl
     by (Some n) e = cc
 
-ask_none : (rows : List Row) → is_search_wrong rows ≡ true → ask_in rows ≡ None
-ask_none rows wrong = no_question (first_of (codes "SPEC") rows) (first_of (codes "QUESTION") rows) _
+asked_none : (rows : List Row) (said : Text → Text → ℕ → Option ℕ → CommandSaid) → is_search_wrong rows ≡ true
+    → asked_in rows said ≡ None
+asked_none rows said wrong = no_question (first_of (codes "SPEC") rows) (first_of (codes "QUESTION") rows) _
     (λ spec question. no_search (number_or 100000 10000000 (first_of (codes "budget") rows))
     (number_if_given 4 (first_of (codes "guide") rows)) _ wrong)
 
@@ -273,20 +292,23 @@ wrong_is_none : (found : Option (Text × List Row)) → option_map_or has_wrong_
     → option_and_then command_in found ≡ None
 wrong_is_none None wrong = refl
 wrong_is_none (Some p) wrong = by (bytes_eq p.0 (codes "ask")) (bytes_eq p.0 (codes "trial"))
-    (bytes_eq p.0 (codes "explain")) (bytes_eq p.0 (codes "conflicts")) (bytes_eq p.0 (codes "golden")) _ wrong
+    (bytes_eq p.0 (codes "explain")) (bytes_eq p.0 (codes "conflicts")) (bytes_eq p.0 (codes "golden"))
+    (bytes_eq p.0 (codes "possible")) _ wrong
   where
-    by : (is_ask is_trial is_explain is_conflicts is_golden : Bool) (other : Option CommandSaid)
+    by : (is_ask is_trial is_explain is_conflicts is_golden is_possible : Bool) (other : Option CommandSaid)
         → cond is_ask (is_search_wrong p.1) (cond is_trial (is_trial_wrong p.1)
         (cond is_explain (is_explain_wrong p.1) (cond is_conflicts (is_search_wrong p.1)
-        (cond is_golden (is_search_wrong p.1) false)))) ≡ true
+        (cond is_golden (is_search_wrong p.1) (cond is_possible (is_search_wrong p.1) false))))) ≡ true
         → cond is_ask (ask_in p.1) (cond is_trial (trial_in p.1)
-        (cond is_explain (explain_in p.1) (cond is_conflicts (conflicts_in p.1) (cond is_golden (golden_in p.1) other)))) ≡ None
-    by true is_trial is_explain is_conflicts is_golden other w = ask_none p.1 w
-    by false true is_explain is_conflicts is_golden other w = trial_none (first_of (codes "N") p.1) w
-    by false false true is_conflicts is_golden other w = explain_none p.1 w
-    by false false false true is_golden other w = conflicts_none (first_of (codes "SPEC") p.1) _ _ w
-    by false false false false true other w = golden_none p.1 w
-    by false false false false false other w = cc
+        (cond is_explain (explain_in p.1) (cond is_conflicts (conflicts_in p.1) (cond is_golden (golden_in p.1)
+        (cond is_possible (possible_in p.1) other))))) ≡ None
+    by true is_trial is_explain is_conflicts is_golden is_possible other w = asked_none p.1 _ w
+    by false true is_explain is_conflicts is_golden is_possible other w = trial_none (first_of (codes "N") p.1) w
+    by false false true is_conflicts is_golden is_possible other w = explain_none p.1 w
+    by false false false true is_golden is_possible other w = conflicts_none (first_of (codes "SPEC") p.1) _ _ w
+    by false false false false true is_possible other w = golden_none p.1 w
+    by false false false false false true other w = asked_none p.1 _ w
+    by false false false false false false other w = cc
 
 pub refused : (words : List Text) → IsRefused words → command_of words ≡ None
 unfolding command_of

@@ -9,9 +9,9 @@ use Rattle.clap.specs.Simple.{subcommand_of}
 use Rattle.clap.specs.Walk.{Row, Text, first_of}
 use Rattle.program_words.specs.Line.{line}
 use Rattle.program_words.specs.Numbers.{number_if_given, number_or, number_up_to}
-use Rattle.program_words.specs.Words.{AskFor, CommandSaid, ConflictsIn, ExplainFor, ForcedOf, GoldenIn, TrialOf, VerifyOf}
-use Rattle.program_words.specs.Words.{ask_in, command_in, command_of, conflicts_in, explain_in, forced_in, golden_in, is_set}
-use Rattle.program_words.specs.Words.{trial_in, unit_in, unless_fault, verify_in}
+use Rattle.program_words.specs.Words.{AskFor, CommandSaid, ConflictsIn, ExplainFor, ForcedOf, GoldenIn, PossibleFor}
+use Rattle.program_words.specs.Words.{TrialOf, VerifyOf, ask_in, asked_in, command_in, command_of, conflicts_in, explain_in}
+use Rattle.program_words.specs.Words.{forced_in, golden_in, possible_in, trial_in, unit_in, unless_fault, verify_in}
 use Rattle.program_words.proofs.Numerals.{number_in_range}
 use Rattle.program_words.proofs.Parts.{of_question, of_search}
 
@@ -32,6 +32,7 @@ IsInRange (TrialOf n) = (1 ≤ n) × (n ≤ 1000)
 IsInRange (ExplainFor e) = IsExplainInRange e.unit e.budget e.guide
 IsInRange (ConflictsIn c) = AreInRange c.budget c.guide
 IsInRange (GoldenIn g) = AreInRange g.budget g.guide
+IsInRange (PossibleFor p) = AreInRange p.budget p.guide
 IsInRange other = Unit {0}
 
 budget_in_range : (text : Option Text) (n : ℕ) → number_or 100000 10000000 text ≡ Some n → (1 ≤ n) × (n ≤ 10000000)
@@ -79,17 +80,18 @@ unit_in_range (Some text) said holds = by (unit_in text) refl
     by None is = tt
     by (Some u) is = holds u (number_in_range 4294967295 u text is)
 
-ask_in_range : (rows : List Row) → IfSome (ask_in rows) IsInRange
-ask_in_range rows =
+asked_in_range : (rows : List Row) (said : Text → Text → ℕ → Option ℕ → CommandSaid)
+    → ((s q : Text) (b : ℕ) (g : Option ℕ) → AreInRange b g → IsInRange (said s q b g))
+    → IfSome (asked_in rows said) IsInRange
+asked_in_range rows said holds =
     of_question_in_range (first_of (codes "SPEC") rows) (first_of (codes "QUESTION") rows) _ (λ s q.
-    search_in_range (first_of (codes "budget") rows) (first_of (codes "guide") rows)
-    (λ b g. AskFor (record {
-      spec = s;
-      question = q;
-      budget = b;
-      brief = is_set (first_of (codes "brief") rows);
-      guide = g;
-    })) (λ b g h. h))
+    search_in_range (first_of (codes "budget") rows) (first_of (codes "guide") rows) (said s q) (holds s q))
+
+ask_in_range : (rows : List Row) → IfSome (ask_in rows) IsInRange
+ask_in_range rows = asked_in_range rows _ (λ s q b g h. h)
+
+possible_in_range : (rows : List Row) → IfSome (possible_in rows) IsInRange
+possible_in_range rows = asked_in_range rows _ (λ s q b g h. h)
 
 explain_in_range : (rows : List Row) → IfSome (explain_in rows) IsInRange
 explain_in_range rows =
@@ -142,21 +144,22 @@ trial_in_range (Some text) = by (number_up_to 1000 text) refl
 found_in_range : (name : Text) (rows : List Row) → IfSome (command_in (name, rows)) IsInRange
 found_in_range name rows = by (bytes_eq name (codes "ask")) (bytes_eq name (codes "trial"))
     (bytes_eq name (codes "explain")) (bytes_eq name (codes "conflicts")) (bytes_eq name (codes "golden"))
-    (bytes_eq name (codes "verify")) (bytes_eq name (codes "forced"))
+    (bytes_eq name (codes "possible")) (bytes_eq name (codes "verify")) (bytes_eq name (codes "forced"))
   where
-    by : (is_ask is_trial is_explain is_conflicts is_golden is_verify is_forced : Bool)
+    by : (is_ask is_trial is_explain is_conflicts is_golden is_possible is_verify is_forced : Bool)
         → IfSome (cond is_ask (ask_in rows) (cond is_trial (trial_in rows)
         (cond is_explain (explain_in rows) (cond is_conflicts (conflicts_in rows) (cond is_golden (golden_in rows)
-        (cond is_verify (verify_in rows) (cond is_forced (forced_in rows) None)))))))
+        (cond is_possible (possible_in rows) (cond is_verify (verify_in rows) (cond is_forced (forced_in rows) None))))))))
         IsInRange
-    by true t e c g v f = ask_in_range rows
-    by false true e c g v f = trial_in_range (first_of (codes "N") rows)
-    by false false true c g v f = explain_in_range rows
-    by false false false true g v f = conflicts_in_range rows
-    by false false false false true v f = golden_in_range rows
-    by false false false false false true f = verify_in_range rows
-    by false false false false false false true = forced_in_range (first_of (codes "SPEC") rows)
-    by false false false false false false false = tt
+    by true t e c g p v f = ask_in_range rows
+    by false true e c g p v f = trial_in_range (first_of (codes "N") rows)
+    by false false true c g p v f = explain_in_range rows
+    by false false false true g p v f = conflicts_in_range rows
+    by false false false false true p v f = golden_in_range rows
+    by false false false false false true v f = possible_in_range rows
+    by false false false false false false true f = verify_in_range rows
+    by false false false false false false false true = forced_in_range (first_of (codes "SPEC") rows)
+    by false false false false false false false false = tt
 
 -- a command that words say has its numbers in their ranges
 pub said_in_range : (words : List Text) (said : CommandSaid) → command_of words ≡ Some said → IsInRange said

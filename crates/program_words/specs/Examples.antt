@@ -1,7 +1,7 @@
 -- Words of examples, and what they say.
 use Rattle.std.specs.Prelude.{ℕ, Bool, List, ◌∷◌, Option, Some, codes}
 use Rattle.clap.specs.Walk.{Text}
-use Rattle.program_words.specs.Words.{AskFor, CommandSaid, ConflictsIn, ExplainFor, GoldenIn, command_of}
+use Rattle.program_words.specs.Words.{AskFor, CommandSaid, ConflictsIn, ExplainFor, GoldenIn, PossibleFor, command_of}
 
 -- the command that these words say after the program's name
 abbrev pub said : List Text → Option CommandSaid
@@ -41,3 +41,12 @@ said_after_golden options = said (codes "golden" ∷ codes "s" ∷ codes "r" ∷
 abbrev pub golden_in_s : ℕ → Option ℕ → Option CommandSaid
 golden_in_s budget guide =
     Some (GoldenIn (record { spec = codes "s"; relation = codes "r"; budget = budget; guide = guide }))
+
+-- the command that `possible s q` and these words say
+abbrev pub said_after_possible : List Text → Option CommandSaid
+said_after_possible options = said (codes "possible" ∷ codes "s" ∷ codes "q" ∷ options)
+
+-- `possible` for s and q, with these options
+abbrev pub possible_for : ℕ → Bool → Option ℕ → Option CommandSaid
+possible_for budget brief guide =
+    Some (PossibleFor (record { spec = codes "s"; question = codes "q"; budget = budget; brief = brief; guide = guide }))

@@ -30,12 +30,16 @@ on_question name = record (new_shape name) {
 abbrev pub with_search_options : Shape → Shape
 with_search_options s = with_argument (with_argument s (option_rule (codes "budget"))) (option_rule (codes "guide"))
 
--- ask SPEC QUESTION [--budget N] [--guide K] [--brief]
-unfoldable pub ask_shape : Shape
-ask_shape = record (new_shape (codes "ask")) {
+-- a command of this name that takes SPEC QUESTION [--budget N] [--guide K] [--brief]
+abbrev pub asked_shape : Text → Shape
+asked_shape name = record (new_shape name) {
   rules = required_rule (codes "SPEC") ∷ required_rule (codes "QUESTION") ∷ option_rule (codes "budget")
       ∷ option_rule (codes "guide") ∷ flag_rule (codes "brief") ∷ [];
 }
+
+-- ask SPEC QUESTION [--budget N] [--guide K] [--brief]
+unfoldable pub ask_shape : Shape
+ask_shape = asked_shape (codes "ask")
 
 -- verify SPEC QUESTION REPORT
 unfoldable pub verify_shape : Shape
@@ -71,6 +75,10 @@ golden_shape = record (new_shape (codes "golden")) {
       ∷ option_rule (codes "guide") ∷ [];
 }
 
+-- possible SPEC QUESTION [--budget N] [--guide K] [--brief]
+unfoldable pub possible_shape : Shape
+possible_shape = asked_shape (codes "possible")
+
 -- the program with no command yet: one has to be named, and neither help nor a version is added
 unfoldable pub bare_line : App
 bare_line = record (new_app (codes "currency")) {
@@ -82,8 +90,8 @@ bare_line = record (new_app (codes "currency")) {
   };
 }
 
--- the program with its seven commands
+-- the program with its eight commands
 unfoldable pub line : App
-line = with_subcommand (with_subcommand (with_subcommand (with_subcommand (with_subcommand (with_subcommand
+line = with_subcommand (with_subcommand (with_subcommand (with_subcommand (with_subcommand (with_subcommand (with_subcommand
     (with_subcommand bare_line ask_shape) verify_shape) forced_shape) trial_shape) explain_shape) conflicts_shape)
-    golden_shape
+    golden_shape) possible_shape

@@ -1,7 +1,9 @@
 -- What the code's own types say.
 use Rattle.program_words.specs.Words.{CommandSaid, AskFor, VerifyOf, ForcedOf, TrialOf, ExplainFor, ConflictsIn, GoldenIn}
+use Rattle.program_words.specs.Words.{PossibleFor}
 use Rattle.program_words.specs.declared.command.Command.{Command}
 use Rattle.program_words.specs.declared.command.Command.TheVariants.{Ask, Verify, Forced, Trial, Explain, Conflicts, Golden}
+use Rattle.program_words.specs.declared.command.Command.TheVariants.{Possible}
 
 -- a command, with the names of documents as bytes
 abbrev pub said_of : Command → CommandSaid
@@ -15,3 +17,10 @@ said_of (Explain e) =
 said_of (Conflicts c) = ConflictsIn (record { spec = c.spec.now; budget = c.budget; guide = c.guide })
 said_of (Golden g) =
     GoldenIn (record { spec = g.spec.now; relation = g.relation.now; budget = g.budget; guide = g.guide })
+said_of (Possible p) = PossibleFor (record {
+  spec = p.spec.now;
+  question = p.question.now;
+  budget = p.budget;
+  brief = p.brief;
+  guide = p.guide;
+})

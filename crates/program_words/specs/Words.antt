@@ -45,7 +45,15 @@ pub record GoldenSaid : Type 0 where
   pub budget : ℕ
   pub guide : Option ℕ
 
--- a command: ask, verify, forced SPEC, trial N, explain, conflicts, or golden
+-- possible SPEC QUESTION, with the options of ask: the budget, whether the text is brief, and the one guide that is kept
+pub record PossibleSaid : Type 0 where
+  pub spec : List ℕ
+  pub question : List ℕ
+  pub budget : ℕ
+  pub brief : Bool
+  pub guide : Option ℕ
+
+-- a command: ask, verify, forced SPEC, trial N, explain, conflicts, golden, or possible
 pub data CommandSaid : Type 0 where
   AskFor : AskSaid → CommandSaid
   VerifyOf : VerifySaid → CommandSaid
@@ -54,6 +62,7 @@ pub data CommandSaid : Type 0 where
   ExplainFor : ExplainSaid → CommandSaid
   ConflictsIn : ConflictsSaid → CommandSaid
   GoldenIn : GoldenSaid → CommandSaid
+  PossibleFor : PossibleSaid → CommandSaid
 
 -- a flag's text says that it was given
 abbrev pub is_set : Option Text → Bool
@@ -65,17 +74,21 @@ searched_in rows said =
     option_and_then (λ budget. option_map (λ guide. said budget guide) (number_if_given 4 (first_of (codes "guide") rows)))
     (number_or 100000 10000000 (first_of (codes "budget") rows))
 
+-- the command of SPEC, QUESTION, the budget and the guide in these rows; none where a number is wrong
+abbrev pub asked_in : List Row → (Text → Text → ℕ → Option ℕ → CommandSaid) → Option CommandSaid
+asked_in rows said = option_and_then (λ spec. option_and_then (λ question.
+    searched_in rows (λ budget guide. said spec question budget guide))
+    (first_of (codes "QUESTION") rows)) (first_of (codes "SPEC") rows)
+
 -- `ask` with these rows; none where a number is wrong
 abbrev pub ask_in : List Row → Option CommandSaid
-ask_in rows = option_and_then (λ spec. option_and_then (λ question.
-    searched_in rows (λ budget guide. AskFor (record {
-      spec = spec;
-      question = question;
-      budget = budget;
-      brief = is_set (first_of (codes "brief") rows);
-      guide = guide;
-    })))
-    (first_of (codes "QUESTION") rows)) (first_of (codes "SPEC") rows)
+ask_in rows = asked_in rows (λ spec question budget guide. AskFor (record {
+  spec = spec;
+  question = question;
+  budget = budget;
+  brief = is_set (first_of (codes "brief") rows);
+  guide = guide;
+}))
 
 -- `verify` with these rows
 abbrev pub verify_in : List Row → Option CommandSaid
@@ -126,6 +139,16 @@ golden_in rows = option_and_then (λ spec. option_and_then (λ relation.
     })))
     (first_of (codes "RELATION") rows)) (first_of (codes "SPEC") rows)
 
+-- `possible` with these rows; none where a number is wrong
+abbrev pub possible_in : List Row → Option CommandSaid
+possible_in rows = asked_in rows (λ spec question budget guide. PossibleFor (record {
+  spec = spec;
+  question = question;
+  budget = budget;
+  brief = is_set (first_of (codes "brief") rows);
+  guide = guide;
+}))
+
 -- the command of this name with these rows
 abbrev pub command_in : Text × List Row → Option CommandSaid
 command_in p = if bytes_eq p.0 (codes "ask") then ask_in p.1
@@ -133,6 +156,7 @@ command_in p = if bytes_eq p.0 (codes "ask") then ask_in p.1
     else if bytes_eq p.0 (codes "explain") then explain_in p.1
     else if bytes_eq p.0 (codes "conflicts") then conflicts_in p.1
     else if bytes_eq p.0 (codes "golden") then golden_in p.1
+    else if bytes_eq p.0 (codes "possible") then possible_in p.1
     else if bytes_eq p.0 (codes "verify") then verify_in p.1
     else if bytes_eq p.0 (codes "forced") then forced_in p.1
     else None
@@ -169,6 +193,7 @@ has_wrong_number p = if bytes_eq p.0 (codes "ask") then is_search_wrong p.1
     else if bytes_eq p.0 (codes "explain") then is_explain_wrong p.1
     else if bytes_eq p.0 (codes "conflicts") then is_search_wrong p.1
     else if bytes_eq p.0 (codes "golden") then is_search_wrong p.1
+    else if bytes_eq p.0 (codes "possible") then is_search_wrong p.1
     else false
 
 -- clap sees a fault in the words, or a number in them is wrong

@@ -10,6 +10,7 @@ pub enum Command<'a> {
     Explain(Explain<'a>),
     Conflicts(Conflicts<'a>),
     Golden(Golden<'a>),
+    Possible(Possible<'a>),
 }
 
 /// `ask SPEC QUESTION [--budget N] [--brief] [--guide K]`.
@@ -64,6 +65,19 @@ pub struct Golden<'a> {
     pub relation: &'a str,
     /// How many clauses may be learned in each search: 1 to 10,000,000.
     pub budget: u64,
+    /// The one guide that is kept, 1 to 4; where there is none, all are.
+    pub guide: Option<u64>,
+}
+
+/// `possible SPEC QUESTION [--budget N] [--brief] [--guide K]`.
+#[derive(Clone, Copy)]
+pub struct Possible<'a> {
+    pub spec: &'a str,
+    pub question: &'a str,
+    /// How many clauses may be learned in each search: 1 to 10,000,000.
+    pub budget: u64,
+    /// Are the questions with their reports left out that show what is impossible?
+    pub brief: bool,
     /// The one guide that is kept, 1 to 4; where there is none, all are.
     pub guide: Option<u64>,
 }

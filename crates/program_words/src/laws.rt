@@ -1,8 +1,10 @@
 ghost use Rattle.std.specs.Prelude.{◌≡◌, ◌≤◌, IfSome, ℕ, List, [], ◌∷◌, None, Some, codes, false, true};
-ghost use Rattle.program_words.specs.Examples.{ask_for, conflicts_in_s, explain_for, golden_in_s, said, said_after_ask};
-ghost use Rattle.program_words.specs.Examples.{said_after_conflicts, said_after_explain, said_after_golden};
+ghost use Rattle.program_words.specs.Examples.{ask_for, conflicts_in_s, explain_for, golden_in_s, possible_for, said};
+ghost use Rattle.program_words.specs.Examples.{said_after_ask, said_after_conflicts, said_after_explain, said_after_golden};
+ghost use Rattle.program_words.specs.Examples.{said_after_possible};
 ghost use Rattle.program_words.specs.Words.{AskFor, AskSaid, ConflictsIn, ConflictsSaid, ExplainFor, ExplainSaid, ForcedOf};
-ghost use Rattle.program_words.specs.Words.{GoldenIn, GoldenSaid, IsRefused, TrialOf, VerifyOf, command_of};
+ghost use Rattle.program_words.specs.Words.{GoldenIn, GoldenSaid, IsRefused, PossibleFor, PossibleSaid, TrialOf, VerifyOf};
+ghost use Rattle.program_words.specs.Words.{command_of};
 
 /// Examples of words: what they say, and which are refused.
 pub fn words_are_read()
@@ -84,6 +86,15 @@ pub fn words_are_read()
     ensures golden_brief { said_after_golden (codes "--brief" ∷ []) ≡ None }
     ensures golden_budget_past { said_after_golden (codes "--budget" ∷ codes "10000001" ∷ []) ≡ None }
     ensures golden_guide_zero { said_after_golden (codes "--guide" ∷ codes "0" ∷ []) ≡ None }
+    ensures possible { said_after_possible [] ≡ possible_for 100000 false None }
+    ensures possible_options { said_after_possible
+        (codes "--budget" ∷ codes "10000000" ∷ codes "--brief" ∷ codes "--guide" ∷ codes "1" ∷ [])
+        ≡ possible_for 10000000 true (Some 1) }
+    ensures possible_brief_twice { said_after_possible (codes "--brief" ∷ codes "--brief" ∷ []) ≡ None }
+    ensures no_possible { said (codes "possible" ∷ []) ≡ None }
+    ensures possible_missing { said (codes "possible" ∷ codes "s" ∷ []) ≡ None }
+    ensures possible_budget_past { said_after_possible (codes "--budget" ∷ codes "10000001" ∷ []) ≡ None }
+    ensures possible_guide_zero { said_after_possible (codes "--guide" ∷ codes "0" ∷ []) ≡ None }
 {}
 
 /// Words say no command exactly where `clap` sees a fault in them or a number is wrong: no text that has to be there is
@@ -93,9 +104,9 @@ pub fn refusals_have_causes()
     ensures refused { (words : List (List ℕ)) → IsRefused words → command_of words ≡ None }
 {}
 
-/// The numbers that words say are in their ranges: of `ask`, `explain`, `conflicts` and `golden` a budget of 1 to
-/// 10,000,000 and, where one guide is kept, its number of 1 to 4; of `trial` a size of 1 to 1000; of `explain` a unit
-/// of 1 to 2^32 - 1.
+/// The numbers that words say are in their ranges: of `ask`, `explain`, `conflicts`, `golden` and `possible` a
+/// budget of 1 to 10,000,000 and, where one guide is kept, its number of 1 to 4; of `trial` a size of 1 to 1000; of
+/// `explain` a unit of 1 to 2^32 - 1.
 pub fn numbers_are_in_range()
     ensures budget { (words : List (List ℕ)) (a : AskSaid) → command_of words ≡ Some (AskFor a) → (1 ≤ a.budget) ×
         (a.budget ≤ 10000000) }
@@ -116,4 +127,8 @@ pub fn numbers_are_in_range()
         (1 ≤ g.budget) × (g.budget ≤ 10000000) }
     ensures golden_guide { (words : List (List ℕ)) (g : GoldenSaid) → command_of words ≡ Some (GoldenIn g) →
         IfSome g.guide (λ k. (1 ≤ k) × (k ≤ 4)) }
+    ensures possible_budget { (words : List (List ℕ)) (p : PossibleSaid) → command_of words ≡ Some (PossibleFor p) →
+        (1 ≤ p.budget) × (p.budget ≤ 10000000) }
+    ensures possible_guide { (words : List (List ℕ)) (p : PossibleSaid) → command_of words ≡ Some (PossibleFor p) →
+        IfSome p.guide (λ k. (1 ≤ k) × (k ≤ 4)) }
 {}

@@ -2,9 +2,9 @@ ghost use Rattle.std.specs.Prelude.{◌≡◌, IfOk, false};
 ghost use Rattle.clap.specs.Words.{app_of, rule_of, shape_of, with_subcommand};
 ghost use Rattle.clap.specs.Simple.{Shape, new_shape};
 ghost use Rattle.clap.specs.declared.builder.command.Command.TheViews.{out-Command};
-ghost use Rattle.program_words.specs.Line.{ask_shape, bare_line, conflicts_shape, explain_shape, flag_rule, forced_shape};
-ghost use Rattle.program_words.specs.Line.{golden_shape, line, on_question, option_rule, required_rule, trial_shape};
-ghost use Rattle.program_words.specs.Line.{verify_shape, with_argument, with_search_options};
+ghost use Rattle.program_words.specs.Line.{ask_shape, asked_shape, bare_line, conflicts_shape, explain_shape, flag_rule};
+ghost use Rattle.program_words.specs.Line.{forced_shape, golden_shape, line, on_question, option_rule, possible_shape};
+ghost use Rattle.program_words.specs.Line.{required_rule, trial_shape, verify_shape, with_argument, with_search_options};
 
 use clap::{Arg, ArgAction, Command};
 use std::alloc::{AllocError, Global};
@@ -71,13 +71,22 @@ fn with_search_options<'a>(alloc: Global, command: Command<'a>) -> Result<Comman
     with_argument(command, option(alloc, "guide"))
 }
 
-#[tactic(auto, unfolding(crate::specs::Line::on_question, crate::specs::Line::ask_shape))]
+/// A command of this name that takes SPEC QUESTION with the options of a search, and `--brief`.
+#[tactic(auto, unfolding(crate::specs::Line::on_question))]
+fn asked<'a>(alloc: Global, name: &'a str) -> Result<Command<'a>, AllocError>
+    ensures shape { IfOk result (λ c. shape_of c ≡ asked_shape name.entry.now) }
+    ensures local { IfOk result (λ c. (out-Command c).has_globals ≡ false) }
+{
+    let command = with_search_options(alloc, on_question(alloc, name)?)?;
+    with_argument(command, flag(alloc, "brief"))
+}
+
+#[tactic(auto, unfolding(crate::specs::Line::ask_shape))]
 fn ask<'a>(alloc: Global) -> Result<Command<'a>, AllocError>
     ensures shape { IfOk result (λ c. shape_of c ≡ ask_shape) }
     ensures local { IfOk result (λ c. (out-Command c).has_globals ≡ false) }
 {
-    let command = with_search_options(alloc, on_question(alloc, "ask")?)?;
-    with_argument(command, flag(alloc, "brief"))
+    asked(alloc, "ask")
 }
 
 #[tactic(auto, unfolding(crate::specs::Line::on_question, crate::specs::Line::verify_shape))]
@@ -132,6 +141,14 @@ fn golden<'a>(alloc: Global) -> Result<Command<'a>, AllocError>
     with_search_options(alloc, command)
 }
 
+#[tactic(auto, unfolding(crate::specs::Line::possible_shape))]
+fn possible<'a>(alloc: Global) -> Result<Command<'a>, AllocError>
+    ensures shape { IfOk result (λ c. shape_of c ≡ possible_shape) }
+    ensures local { IfOk result (λ c. (out-Command c).has_globals ≡ false) }
+{
+    asked(alloc, "possible")
+}
+
 /// The program with no command yet. Subcommands take its settings on help and version.
 #[tactic(auto, unfolding(crate::specs::Line::bare_line))]
 fn bare_line<'a>(alloc: Global) -> Command<'a>
@@ -163,7 +180,7 @@ fn with_subcommand<'a>(
     added(command, subcommand?)
 }
 
-/// The program with its seven commands.
+/// The program with its eight commands.
 pub(crate) fn line<'a>(alloc: Global) -> Result<Command<'a>, AllocError>
     ensures { IfOk result (λ c. app_of c ≡ line) }
 {
@@ -173,5 +190,6 @@ pub(crate) fn line<'a>(alloc: Global) -> Result<Command<'a>, AllocError>
     let with_trial = with_subcommand(with_forced, trial(alloc))?;
     let with_explain = with_subcommand(with_trial, explain(alloc))?;
     let with_conflicts = with_subcommand(with_explain, conflicts(alloc))?;
-    with_subcommand(with_conflicts, golden(alloc))
+    let with_golden = with_subcommand(with_conflicts, golden(alloc))?;
+    with_subcommand(with_golden, possible(alloc))
 }

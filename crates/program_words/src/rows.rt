@@ -3,10 +3,10 @@ ghost use Rattle.program_words.specs.Numbers.{number_if_given, number_or};
 ghost use Rattle.clap.specs.Words.{found_of, first_of, rows_of, subcommand_rows_of};
 ghost use Rattle.program_words.specs.Said.{said_of};
 ghost use Rattle.program_words.specs.Words.{ask_in, command_in, conflicts_in, explain_in, forced_in, golden_in, is_set};
-ghost use Rattle.program_words.specs.Words.{trial_in, verify_in};
+ghost use Rattle.program_words.specs.Words.{possible_in, trial_in, verify_in};
 
 use crate::number::{number_if_given, number_or, number_up_to, unit_in};
-use crate::{Ask, Command, Conflicts, Explain, Golden, Verify};
+use crate::{Ask, Command, Conflicts, Explain, Golden, Possible, Verify};
 use clap::ArgMatches;
 
 /// The first text of an argument.
@@ -128,6 +128,23 @@ fn golden_in<'a>(given: &ArgMatches<'a>) -> Option<Command<'a>>
     }))
 }
 
+fn possible_in<'a>(given: &ArgMatches<'a>) -> Option<Command<'a>>
+    ensures { option_map said_of result ≡ possible_in (rows_of (found_of given.now)) }
+{
+    let spec = text_of(given, "SPEC")?;
+    let question = text_of(given, "QUESTION")?;
+    let budget = budget_in(given)?;
+    let guide = guide_in(given)?;
+    let brief = is_set(text_of(given, "brief"));
+    Some(Command::Possible(Possible {
+        spec,
+        question,
+        budget,
+        brief,
+        guide,
+    }))
+}
+
 /// The command that was found, with what was given to it.
 pub(crate) fn command_in<'a>(matches: &ArgMatches<'a>) -> Option<Command<'a>>
     ensures { option_map said_of result ≡ option_and_then command_in (subcommand_rows_of matches.now) }
@@ -139,6 +156,7 @@ pub(crate) fn command_in<'a>(matches: &ArgMatches<'a>) -> Option<Command<'a>>
         "explain" => explain_in(given),
         "conflicts" => conflicts_in(given),
         "golden" => golden_in(given),
+        "possible" => possible_in(given),
         "verify" => verify_in(given),
         "forced" => forced_in(given),
         _ => None,

@@ -1,6 +1,6 @@
 -- What is shown of one fact after another.
-use Rattle.std.proofs.Common.{◌≡◌, ◌⊎◌, ◌∙◌, ◌+◌, ◌++◌, ◌∷◌, ℕ, zero, suc, Bool, true, List, [], All, Some, length, slice_get, slice_set, inl, inr, ap, refl, subst, sym}
-use Rattle.std.proofs.lemmas.List.{append-nil, length_push, length-set}
+use Rattle.std.proofs.Common.{◌≡◌, ◌⊎◌, ◌∙◌, ◌+◌, ◌<◌, ◌++◌, ◌∷◌, ℕ, zero, suc, Bool, true, List, [], All, Some, length, slice_get, slice_set, inl, inr, ap, arith, refl, subst, sym}
+use Rattle.std.proofs.lemmas.List.{append-nil, length-append, length_push, length-set}
 use Rattle.std.proofs.lemmas.List.Elements.{All-push}
 use Rattle.std.proofs.lemmas.Option.{none-some, same_Some}
 use Rattle.spec_parts.proofs.Pairing.{at_push}
@@ -57,6 +57,10 @@ stays_shown s old new f (shown.FailsIn place) more is = record {
   fails = is.fails;
 }
 
+-- more completions are not none, where the first were not
+still_some : (old new : List Rankings) → Extends old new → 0 < length old → 0 < length new
+still_some old new more some = omega (arith, some, length-append old more.more, ap length more.is_new)
+
 -- one more fact is shown
 pub one_more : (s : Spec) (facts : List Fact) (count : ℕ) (old new : List Rankings) (list next : List Shown) (f : Fact) (x : Shown)
     → AreShownTo s facts count old list → slice_get facts count ≡ Some f → All (IsConsistent s) new → Extends old new
@@ -64,6 +68,7 @@ pub one_more : (s : Spec) (facts : List Fact) (count : ℕ) (old new : List Rank
 one_more s facts count old new list next f x so_far is_fact consistent more is is_next =
     subst (λ (all : List Shown). AreShownTo s facts (count + 1) new all) (sym is_next) record {
       consistent = consistent;
+      some = still_some old new more so_far.some;
       as_many = rw (length_push list x) (rw so_far.as_many refl);
       each = λ k g y at there. by k g y at (at_push list x k y there);
     }
@@ -81,6 +86,7 @@ pub all_shown : (s : Spec) (facts : List Fact) (count : ℕ) (completions : List
     → count ≡ length facts → AreShownTo s facts count completions list → AreShown s facts completions list
 all_shown s facts count completions list all is = record {
   consistent = is.consistent;
+  some = is.some;
   per_fact = is.as_many ∙ all;
   each = is.each;
 }

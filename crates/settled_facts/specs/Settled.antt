@@ -1,5 +1,5 @@
 -- What is found of facts: in which listed completion each fails, or that it holds in every consistent one.
-use Rattle.std.specs.Prelude.{◌≡◌, ℕ, List, All, Some, length, slice_get}
+use Rattle.std.specs.Prelude.{◌≡◌, ◌<◌, ℕ, List, All, Some, length, slice_get}
 use Rattle.fact_trials.specs.Trials.{IsSpent}
 use Rattle.posed_facts.specs.Facts.{FactIn}
 use Rattle.posed_facts.specs.Questions.{fact_question}
@@ -26,9 +26,10 @@ abbrev pub IsShown : Spec → List Rankings → Fact → Shown → Type 0
 IsShown s completions f shown.Holds = EachConsistent s (FactIn s.relations f)
 IsShown s completions f (shown.FailsIn place) = FailsAt s.relations completions f place
 
--- the listed completions are consistent, and of each fact it is shown in which it fails, if it does in any
+-- the listed completions are consistent and not none, and of each fact it is shown in which it fails, if it does in any
 pub record AreShown (s : Spec) (facts : List Fact) (completions : List Rankings) (list : List Shown) : Type 0 where
   pub consistent : All (IsConsistent s) completions
+  pub some : 0 < length completions
   pub per_fact : length list ≡ length facts
   pub each : (k : ℕ) (f : Fact) (x : Shown) → slice_get facts k ≡ Some f → slice_get list k ≡ Some x
       → IsShown s completions f x

@@ -72,6 +72,7 @@ pub record Extends (old new : List Rankings) : Type 0 where
 pub record AreShownTo (s : Spec) (facts : List Fact) (count : ℕ) (completions : List Rankings) (list : List Shown) : Type 0
   where
     pub consistent : All (IsConsistent s) completions
+    pub some : 0 < length completions
     pub as_many : length list ≡ count
     pub each : (k : ℕ) (f : Fact) (x : Shown) → slice_get facts k ≡ Some f → slice_get list k ≡ Some x
         → IsShown s completions f x

@@ -51,6 +51,8 @@ mod logs;
 #[cfg(test)]
 mod outside;
 #[cfg(test)]
+mod possible;
+#[cfg(test)]
 mod queries;
 #[cfg(test)]
 mod questions;

@@ -4,7 +4,7 @@ use Rattle.currency_cli.proofs.program.run.Goals as goal
 use Rattle.currency_cli.proofs.JobsDone.{done_reads, sink_failed, is_done, is_undecided, prefix_written, refusal_not_zero, refusal_not_three, refusal_not_eight, refusal_not_ten, is_inconsistent}
 use Rattle.currency_cli.proofs.Exact.{comes_to, comes_to_its_own}
 use Rattle.currency_cli.proofs.Refusals.{refused, words_refused, are_words, done_not_two, names_unread}
-use Rattle.currency_cli.proofs.Replies.{answered, blamed, explained, recorded, verified, listed}
+use Rattle.currency_cli.proofs.Replies.{answered, blamed, explained, imagined, recorded, verified, listed}
 
 -- ---- the job was done
 
@@ -113,6 +113,18 @@ returns-in-Ok-clause-blamed g c =
 pub returns-in-Err-clause-blamed : goal.returns-in-Err-clause-blamed
 returns-in-Err-clause-blamed g c =
     blamed c.one_read.ensures.specs (g.S.Shelf.texts c.args.shelf.now) _ (map (λ w. string_bytes w) c.args.words.now)
+    (Err c.in-Err.trouble) _ _ _ _ _ _ c.refuse.result c.in-Err.ensures.due c.in-Err.ensures.read_fault c.refuse.ensures
+
+pub returns-in-Ok-clause-imagined : goal.returns-in-Ok-clause-imagined
+returns-in-Ok-clause-imagined g c =
+    imagined c.one_read.ensures.specs c.one_read.ensures.questions (g.S.Shelf.texts c.args.shelf.now) _
+    (map (λ w. string_bytes w) c.args.words.now)
+    (Ok c.in-Ok.done) _ _ _ _ _ _ c.hand_out.result c.in-Ok.ensures.due c.in-Ok.ensures.read_fault c.hand_out.ensures
+
+pub returns-in-Err-clause-imagined : goal.returns-in-Err-clause-imagined
+returns-in-Err-clause-imagined g c =
+    imagined c.one_read.ensures.specs c.one_read.ensures.questions (g.S.Shelf.texts c.args.shelf.now) _
+    (map (λ w. string_bytes w) c.args.words.now)
     (Err c.in-Err.trouble) _ _ _ _ _ _ c.refuse.result c.in-Err.ensures.due c.in-Err.ensures.read_fault c.refuse.ensures
 
 pub returns-in-Ok-clause-recorded : goal.returns-in-Ok-clause-recorded

@@ -1,4 +1,4 @@
-use Rattle.program_words.specs.Words.{AskFor, ConflictsIn, ExplainFor, GoldenIn, TrialOf}
+use Rattle.program_words.specs.Words.{AskFor, ConflictsIn, ExplainFor, GoldenIn, PossibleFor, TrialOf}
 use Rattle.program_words.proofs.Ranges.{said_in_range}
 use Rattle.program_words.proofs.laws.numbers_are_in_range.Goals as goal
 
@@ -14,4 +14,6 @@ returns c = record {
   conflicts_guide = λ words c is. (said_in_range words (ConflictsIn c) is).guide;
   golden_budget = λ words g is. (said_in_range words (GoldenIn g) is).budget;
   golden_guide = λ words g is. (said_in_range words (GoldenIn g) is).guide;
+  possible_budget = λ words p is. (said_in_range words (PossibleFor p) is).budget;
+  possible_guide = λ words p is. (said_in_range words (PossibleFor p) is).guide;
 }

@@ -72,4 +72,11 @@ returns c = record {
   golden_brief = refl;
   golden_budget_past = refl;
   golden_guide_zero = refl;
+  possible = refl;
+  possible_options = refl;
+  possible_brief_twice = refl;
+  no_possible = refl;
+  possible_missing = refl;
+  possible_budget_past = refl;
+  possible_guide_zero = refl;
 }

@@ -3,7 +3,7 @@ use Rattle.std.proofs.lemmas.Result.{IfOk-weaker}
 use Rattle.clap.specs.Simple.{Shape}
 use Rattle.clap.specs.Words.{App, with_subcommand}
 use Rattle.program_words.specs.Line.{ask_shape, conflicts_shape, explain_shape, forced_shape, golden_shape, line}
-use Rattle.program_words.specs.Line.{trial_shape, verify_shape}
+use Rattle.program_words.specs.Line.{possible_shape, trial_shape, verify_shape}
 use Rattle.program_words.proofs.line.line.Goals as goal
 
 -- one more subcommand after those that are known
@@ -20,5 +20,6 @@ returns c =
     let explains = then explain_shape (c.in_ok-with_explain.ensures explain_shape c.explain.ensures.shape) tries in
     let conflicting =
     then conflicts_shape (c.in_ok-with_conflicts.ensures conflicts_shape c.conflicts.ensures.shape) explains in
-    IfOk-weaker c.with_subcommand-7.result _ _ (λ r h. then golden_shape h conflicting)
-    (c.with_subcommand-7.ensures golden_shape c.golden.ensures.shape)
+    let finds = then golden_shape (c.in_ok-with_golden.ensures golden_shape c.golden.ensures.shape) conflicting in
+    IfOk-weaker c.with_subcommand-8.result _ _ (λ r h. then possible_shape h finds)
+    (c.with_subcommand-8.ensures possible_shape c.possible.ensures.shape)

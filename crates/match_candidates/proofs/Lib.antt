@@ -1,0 +1,12 @@
+mod Among
+mod Ascending
+mod Bindings
+mod Branches
+mod Claimed
+mod Collecting
+mod Had
+mod Listed
+mod Meanings
+mod RowsThere
+mod Values
+mod Whole

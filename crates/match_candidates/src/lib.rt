@@ -1,0 +1,15 @@
+//! The matches of a query that some completion of a specification may have, and what each claims of current values.
+#![tactic(auto)]
+
+mod at;
+mod binding;
+mod branching;
+mod claims;
+mod comparisons;
+mod listing;
+mod match_set;
+mod relation_table;
+mod search;
+
+pub use claims::{MatchClaims, claims_of};
+pub use listing::{MatchList, matches};

@@ -1,0 +1,7 @@
+mod Adding
+mod Counting
+mod Headless
+pub mod Jobs
+pub mod Replies
+pub mod Tellings
+mod Written

@@ -1,0 +1,8 @@
+mod Lists
+mod Listed
+mod Placing
+mod Deciding
+mod Turned
+mod Findings
+mod Telling
+mod Settling

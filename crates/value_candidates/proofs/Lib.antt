@@ -1,0 +1,4 @@
+pub mod Lists
+pub mod Marking
+pub mod Ranking
+pub mod Placing
