@@ -21,7 +21,7 @@ import subprocess
 import tempfile
 import time
 
-from runs import ROOT, build, end, timed
+from runs import ROOT, build, end, table, timed
 
 SEARCH = ROOT / "crates" / "bench_ask" / "out" / "bench_ask"
 # the words of that program beside which commands
@@ -57,12 +57,6 @@ copy mirror into view (e) from item (c) using "copy.csv";
 def rank(entity, row):
     """The place of a row in the hidden order of its entity."""
     return (3 * row + entity) % ENTITY
-
-
-def table(path, header, records):
-    with open(path, "w") as out:
-        out.write(header + "\n")
-        out.writelines(record + "\n" for record in records)
 
 
 def given_of(entity):

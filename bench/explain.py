@@ -12,7 +12,7 @@ printed, and the bytes of the text, with those beside its first completion. Wher
 import itertools
 import tempfile
 
-from runs import build, end, timed
+from runs import build, end, table, timed
 
 SIZES = [1_000, 10_000, 100_000]
 ENTITY = 8
@@ -27,12 +27,6 @@ orders item from "given.csv";
 rule follow on item (s, t): if s before t in b then s before t in c;
 copy mirror into view (d) from item (c) using "copy.csv";
 """
-
-
-def table(path, header, records):
-    with open(path, "w") as out:
-        out.write(header + "\n")
-        out.writelines(record + "\n" for record in records)
 
 
 def write_documents(folder, rows, given, more=()):

@@ -13,7 +13,7 @@ import csv
 import io
 import tempfile
 
-from runs import build, end, timed
+from runs import build, end, table, timed
 
 SIZES = [1_000, 10_000, 100_000]
 ENTITY = 8
@@ -28,12 +28,6 @@ rule up on item (s, t): if s.a < t.a then s before t in a;
 rule follow on item (s, t): if s before t in a then s before t in b;
 copy mirror into view (d) from item (d) using "copy.csv";
 """
-
-
-def table(path, header, records):
-    with open(path, "w") as out:
-        out.write(header + "\n")
-        out.writelines(record + "\n" for record in records)
 
 
 def write_documents(folder, rows, given=False):

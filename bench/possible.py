@@ -10,7 +10,7 @@ many are not, and how many completions are listed. Where a case is above a mark,
 import tempfile
 
 from golden import write_documents
-from runs import build, end, timed
+from runs import build, end, table, timed
 
 SIZES = [1_000, 10_000, 100_000]
 # the most seconds at the greatest N, megabytes, how the time per row may grow, and how many completions may be listed
@@ -25,9 +25,7 @@ def values(folder, rows):
 
 
 def matches(folder, rows):
-    with open(f"{folder}/item.csv", "w") as out:
-        out.write("id,eid,a\n")
-        out.writelines(f"i{row},e{row},{row}\n" for row in range(rows))
+    table(f"{folder}/item.csv", "id,eid,a", (f"i{row},e{row},{row}" for row in range(rows)))
     with open(f"{folder}/s", "w") as out:
         out.write('relation item from "item.csv" row id entity eid (a: int);\n')
     with open(f"{folder}/q", "w") as out:

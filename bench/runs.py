@@ -44,6 +44,13 @@ def timed(folder, words, statuses=(0,)):
     return spent, usage.ru_maxrss / 1024, text
 
 
+def table(path, header, records):
+    """Writes a table: its header, and a line for each record."""
+    with open(path, "w") as out:
+        out.write(header + "\n")
+        out.writelines(record + "\n" for record in records)
+
+
 def end(above):
     """Tells what is beyond its mark, and ends with status 1 where something is."""
     for line in above:

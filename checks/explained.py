@@ -210,9 +210,23 @@ def questions(spec, chance):
         yield "same R;\n", current
 
 
+def begin():
+    """How many specifications the words of the command line ask for, and what they are drawn with."""
+    words = sys.argv[1:]
+    many = int(words[0]) if words else 300
+    seed = int(words[1]) if len(words) > 1 else 1
+    return many, random.Random(seed)
+
+
+def end(counts, wrong):
+    """Tells how much of each kind was seen and how much was wrong, and ends with status 1 where something was."""
+    print(", ".join(f"{count} {kind}" for kind, count in counts.items()) + f", {wrong} wrong")
+    sys.exit(1 if wrong else 0)
+
+
 def main():
-    many, seed = (int(word) for word in (sys.argv[1:] + ["300", "1"][len(sys.argv) - 1:])[:2])
-    chance, counts, wrong = random.Random(seed), {"explained": 0, "inconsistent": 0, "no unit": 0, "conflicts": 0}, 0
+    many, chance = begin()
+    counts, wrong = {"explained": 0, "inconsistent": 0, "no unit": 0, "conflicts": 0}, 0
 
     def note(cause, spec, words, text):
         nonlocal wrong
@@ -254,8 +268,7 @@ def main():
             status, text = run(folder, "conflicts", "s")
             counts["conflicts"] += int(text.splitlines()[1].split()[1][:-1]) if status == 0 else 0
             note(f"status {status}" if status else conflicts_are_right(spec, text), spec, ["conflicts", "s"], text)
-    print(", ".join(f"{count} {kind}" for kind, count in counts.items()) + f", {wrong} wrong")
-    sys.exit(1 if wrong else 0)
+    end(counts, wrong)
 
 
 if __name__ == "__main__":

@@ -9,11 +9,9 @@ Usage: checks/golden.py [HOW MANY [SEED]]; 300 and 1 where none is said. The exi
 import csv
 import io
 import pathlib
-import random
-import sys
 import tempfile
 
-from explained import ATTRS, Spec, run
+from explained import ATTRS, Spec, begin, end, run
 
 
 def due(spec, rel, completions):
@@ -31,8 +29,8 @@ def due(spec, rel, completions):
 
 
 def main():
-    many, seed = (int(word) for word in (sys.argv[1:] + ["300", "1"][len(sys.argv) - 1:])[:2])
-    chance, counts, wrong = random.Random(seed), {"records": 0, "open attributes": 0, "inconsistent": 0}, 0
+    many, chance = begin()
+    counts, wrong = {"records": 0, "open attributes": 0, "inconsistent": 0}, 0
     with tempfile.TemporaryDirectory() as name:
         folder = pathlib.Path(name)
         for _ in range(many):
@@ -48,8 +46,7 @@ def main():
                 if said != wanted:
                     wrong += 1
                     print(f"golden s {rel}: {said}, due is {wanted}\n{(folder / 's').read_text()}")
-    print(", ".join(f"{count} {kind}" for kind, count in counts.items()) + f", {wrong} wrong")
-    sys.exit(1 if wrong else 0)
+    end(counts, wrong)
 
 
 if __name__ == "__main__":

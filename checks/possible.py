@@ -10,12 +10,10 @@ shared with the program.
 Usage: checks/possible.py [HOW MANY [SEED]]; 300 and 1 where none is said. The exit status is 1 where something is wrong."""
 import itertools
 import pathlib
-import random
 import re
-import sys
 import tempfile
 
-from explained import ATTRS, Spec, run
+from explained import ATTRS, Spec, begin, end, run
 
 # disjuncts as lists of atoms; an atom has its relation and its places, of which the first is the entity's; a text in quotes is a
 # name, digits are a value, and "_" is neither
@@ -131,8 +129,8 @@ def wrong(spec, folder, found, completions, text, brief):
 
 
 def main():
-    many, seed = (int(word) for word in (sys.argv[1:] + ["300", "1"][len(sys.argv) - 1:])[:2])
-    chance, counts, bad = random.Random(seed), {"possible": 0, "impossible": 0, "inconsistent": 0}, 0
+    many, chance = begin()
+    counts, bad = {"possible": 0, "impossible": 0, "inconsistent": 0}, 0
     with tempfile.TemporaryDirectory() as name:
         folder = pathlib.Path(name)
         for _ in range(many):
@@ -155,8 +153,7 @@ def main():
             if completions:
                 for _, holds in found:
                     counts["possible" if any(map(holds, completions)) else "impossible"] += 1
-    print(", ".join(f"{count} {kind}" for kind, count in counts.items()) + f", {bad} wrong")
-    sys.exit(1 if bad else 0)
+    end(counts, bad)
 
 
 if __name__ == "__main__":
