@@ -361,7 +361,7 @@ def terminals(made):
         check("usage: currency ask" in in_terminal(words, folder)[1], f"{words} at a terminal")
     check(run(["help", "golden"], folder)[1].startswith(b"usage: currency golden SPEC RELATION"), "help golden")
     check(run(["--version"], folder)[1].startswith(b"currency "), "--version")
-    check(run(["-C", "none", "forced", "s"], folder)[0] == 1, "-C with no such folder")
+    check(run(["-C", "none", "forced", "s"], folder)[0] == 126, "-C with no such folder")
     twice = ["-C", folder.parent, "-C", folder.name, "forced", "s"]
     check(run(twice, made)[1] == run(["forced", "s"], folder)[1], "-C twice")
     (folder / "--explain-errors").write_bytes((folder / "p").read_bytes())

@@ -23,6 +23,8 @@ ENDS = {
     8: "the output could not be written",
     9: "out of memory",
 }
+# the status where the program cannot be run; 1 would be an answer of no
+UNABLE = 126
 # how long nothing has come before the time is shown, in seconds
 SILENCE = 3
 
@@ -63,7 +65,7 @@ def build(home):
         except KeyboardInterrupt:
             interrupted = True
     if status or interrupted:
-        sys.exit(status or 130)
+        sys.exit(UNABLE if status == 1 else status or 130)
 
 
 def install(home, program, prefix):
@@ -218,6 +220,10 @@ def answer(words, home, program, due):
     """The status of the script for these words."""
     try:
         words, asked = taken(words)
+    except OSError as error:
+        tell(error)
+        return UNABLE
+    try:
         status = own(words, home, program, due) if words or os.isatty(1) else None
     except BrokenPipeError:
         die(signal.SIGPIPE)

@@ -7,7 +7,7 @@ import difflib
 COMMANDS = {
     "ask": (
         "SPEC QUESTION",
-        ("--budget", "--brief", "--guide"),
+        ("--budget", "--brief", "--verdict", "--csv", "--exit", "--guide"),
         """answers a question about a specification by a report: the verdict, completions that show what holds in
 some consistent completion, and a derivation of what holds in all of them""",
     ),
@@ -28,7 +28,7 @@ an empty field where two are possible, and the names of these attributes""",
     ),
     "possible": (
         "SPEC QUESTION",
-        ("--budget", "--brief", "--guide"),
+        ("--budget", "--brief", "--csv", "--guide"),
         """lists what some consistent completion has of what is asked (pairs, current values, matches of a query), each
 with such a completion, and what none has, with a report that shows it (--brief leaves these reports out)""",
     ),
@@ -43,6 +43,9 @@ OWN = {
 OPTIONS = {
     "--budget": ("--budget N", "how many clauses may be learned, 1 to 10000000 (100000 where none is said)"),
     "--brief": ("--brief", "leaves the derivation out"),
+    "--verdict": ("--verdict", "tells the verdict with its items alone"),
+    "--exit": ("--exit", "ends with status 1 where the verdict is inconsistent, not certain or not same"),
+    "--csv": ("--csv", "gives the answers of a query as CSV; of possible each with whether it is certain"),
     "--guide": ("--guide K", "keeps one of the four guides that steer the search, 1 to 4"),
 }
 BEFORE = """before the command, and --explain-errors behind it too:
@@ -51,7 +54,7 @@ BEFORE = """before the command, and --explain-errors behind it too:
 """
 STATUSES = """SPEC, QUESTION and REPORT are files; the tables that they name stand where the program is run.
 
-status 0 done    2 words refused    3 undecided    4 report refused    5 document refused    6 limit exceeded
+status 0 done    1 no (with --exit)    2 words refused    3 undecided    4 report refused    5 document refused    6 limit exceeded
        7 a file could not be read    8 the output could not be written    9 want of memory
        10 no consistent history, of which no table could tell
 """

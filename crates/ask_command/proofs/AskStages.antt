@@ -2,7 +2,7 @@
 use Rattle.std.proofs.Common.{◌≡◌, ℕ, List, Option, Some, None, IfOk, IfErr, IfSome, Result, Ok, Err, inl, inr, refl, sym, ap, subst}
 use Rattle.ask_command.specs.Asked.{IsAnswered, IsAskDue, IsAnswerTold}
 use Rattle.command_stages.proofs.Outcomes.{done_apart, same_done}
-use Rattle.command_stages.specs.Endings.{ending_of}
+use Rattle.ask_command.specs.Forms.{ask_ending, asked_done, form_text}
 use Rattle.command_stages.specs.Named.{IsSettled, IsDetermined}
 use Rattle.command_stages.specs.Stages.{IsSpecRead, IsQuestionRead}
 use Rattle.command_stages.specs.declared.done.Done.{Done}
@@ -10,16 +10,16 @@ use Rattle.command_stages.specs.declared.trouble.Trouble.{Trouble}
 use Rattle.command_stages.specs.declared.trouble.Trouble.TheVariants as trouble
 use Rattle.currency_ask.specs.Answered.{HasTooMany}
 use Rattle.program_words.specs.Words.{AskSaid}
-use Rattle.report_model.specs.Verdicts.{is_decided, kind_of}
+use Rattle.report_model.specs.Verdicts.{kind_of}
 use Rattle.report_model.specs.declared.report.Report.{Report}
 use Rattle.spec_model.specs.Completion.{Rankings}
 use Rattle.spec_model.specs.Spec.{Spec}
 use Rattle.spec_model.specs.declared.question.Question.{Question}
-use Rattle.told_answers.specs.Answers.{IsAnswer, answer_done, answer_text}
+use Rattle.told_answers.specs.Answers.{IsAnswer}
 
 -- a report that is told is an answer
 pub answered : (s : Spec) (a : AskSaid) (q : Question) (r : Report) (outcome : Result Done Trouble) → IsAnswer s q a.budget r
-    → IfOk outcome (λ d. d ≡ answer_done s.relations a.brief r)
+    → IfOk outcome (λ d. d ≡ asked_done s.relations a r)
     → IfErr outcome (λ e. e ≡ trouble.NoMemory) → IsSettled outcome → IsAnswered s a q outcome
 answered s a q r (Ok d) answer told memory settled = inl (r, answer, ap Ok told)
 answered s a q r (Err e) answer told memory settled = absurd (subst IsDetermined memory settled)
@@ -33,7 +33,7 @@ not_answered s a q e told determined =
 
 answer_told : (told : List (List ℕ × List ℕ)) (a : AskSaid) (s : Spec) (q : Question) (r : Report) → IsSpecRead told a.spec (Ok s)
     → IsQuestionRead told s.relations a.question (Ok q) → IsAnswer s q a.budget r
-    → IsAnswerTold told a (answer_text s.relations a.brief r) (ending_of (is_decided (kind_of r.verdict)))
+    → IsAnswerTold told a (form_text s.relations a.form r) (ask_ending a.exit (kind_of r.verdict))
 answer_told told a s q r spec question answer = record {
   spec = s;
   question = q;

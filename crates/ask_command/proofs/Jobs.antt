@@ -1,46 +1,110 @@
 -- What `ask` told, by the status it ended with.
-use Rattle.std.proofs.Common.{◌≡◌, ℕ, Bool, true, false, List, refl, subst, sym, arith}
-use Rattle.ask_command.specs.Asked.{IsAnswerTold, IsAskSpent}
-use Rattle.command_stages.specs.Endings.{IsOfQuestion, ending_of, ending_status}
+use Rattle.std.proofs.Common.{◌≡◌, ◌⊎◌, ℕ, Bool, true, false, cond, List, refl, subst, sym, arith, inl, inr}
+use Rattle.std.specs.Prelude.{◌&&◌}
+use Rattle.ask_command.specs.Asked.{IsAnswerTold, IsAskDenied, IsAskSpent}
+use Rattle.ask_command.specs.Forms.{ask_ending, is_no}
+use Rattle.command_stages.specs.Endings.{IsOfDenial, IsOfQuestion, ending_of, ending_status}
 use Rattle.command_stages.specs.declared.done.Ending.{Ending}
 use Rattle.command_stages.specs.declared.done.Ending.TheVariants as ending
 use Rattle.program_words.specs.Words.{AskSaid}
 use Rattle.report_model.specs.Verdicts.{is_decided, kind_of}
+use Rattle.report_model.specs.declared.verdict.Kind.{Kind}
 use Rattle.told_answers.proofs.Spent.{short}
 
-ends_as_question : (decided : Bool) → IsOfQuestion (ending_of decided)
-ends_as_question true = tt
-ends_as_question false = tt
+-- a question ends so, whether or not the status tells an answer of no
+abbrev pub IsOfAsk : Ending → Type 0
+IsOfAsk e = IsOfQuestion e ⊎ IsOfDenial e
+
+pub ends_as_asked : (exit : Bool) (k : Kind) → IsOfAsk (ask_ending exit k)
+ends_as_asked exit k = by (exit && is_no k) (is_decided k)
+  where
+    by : (denied decided : Bool) → IsOfAsk (cond denied ending.Denied (ending_of decided))
+    by true decided = inr tt
+    by false true = inl tt
+    by false false = inl tt
 
 -- an answer ends as a question does
-pub of_question : (told : List (List ℕ × List ℕ)) (a : AskSaid) (text : List ℕ) (e : Ending) → IsAnswerTold told a text e
-    → IsOfQuestion e
-of_question told a text e h = subst IsOfQuestion (sym h.ended) (ends_as_question (is_decided (kind_of h.report.verdict)))
+pub of_ask : (told : List (List ℕ × List ℕ)) (a : AskSaid) (text : List ℕ) (e : Ending) → IsAnswerTold told a text e
+    → IsOfAsk e
+of_ask told a text e h = subst IsOfAsk (sym h.ended) (ends_as_asked a.exit (kind_of h.report.verdict))
 
-is_undecided : (decided : Bool) → ending.Undecided ≡ ending_of decided → decided ≡ false
-is_undecided true e = absurd (apart e)
+neither : ⊥ ⊎ ⊥ → ⊥
+neither (inl h) = h
+neither (inr h) = h
+
+undecided_apart : ending.Undecided ≡ ending.Decided → ⊥
+undecided_apart e = cc
+
+undecided_no_denial : ending.Undecided ≡ ending.Denied → ⊥
+undecided_no_denial e = cc
+
+denied_apart : ending.Denied ≡ ending.Decided → ⊥
+denied_apart e = cc
+
+is_undecided : (exit : Bool) (k : Kind) → ending.Undecided ≡ ask_ending exit k → is_decided k ≡ false
+is_undecided exit k e = by (exit && is_no k) (is_decided k) e
   where
-    apart : ending.Undecided ≡ ending.Decided → ⊥
-    apart e = cc
-is_undecided false e = refl
+    by : (denied decided : Bool) → ending.Undecided ≡ cond denied ending.Denied (ending_of decided) → decided ≡ false
+    by true decided e = absurd (undecided_no_denial e)
+    by false true e = absurd (undecided_apart e)
+    by false false e = refl
+
+is_denied : (exit : Bool) (k : Kind) → ending.Denied ≡ ask_ending exit k → (exit ≡ true) × (is_no k ≡ true)
+is_denied exit k e = by exit (is_no k) (is_decided k) e
+  where
+    by : (exit negative decided : Bool) → ending.Denied ≡ cond (exit && negative) ending.Denied (ending_of decided)
+        → (exit ≡ true) × (negative ≡ true)
+    by true true decided e = (refl, refl)
+    by true false true e = absurd (denied_apart e)
+    by true false false e = absurd (undecided_no_denial (sym e))
+    by false negative true e = absurd (denied_apart e)
+    by false negative false e = absurd (undecided_no_denial (sym e))
 
 pub decided_told : (told : List (List ℕ × List ℕ)) (a : AskSaid) (text : List ℕ) (e : Ending) → ending_status e ≡ 0
     → IsAnswerTold told a text e
     → IsAnswerTold told a text ending.Decided
 decided_told told a text ending.Decided zero h = h
+decided_told told a text ending.Denied zero h = absurd (omega (arith, zero))
 decided_told told a text ending.Undecided zero h = absurd (omega (arith, zero))
-decided_told told a text ending.Told zero h = absurd (of_question told a text ending.Told h)
-decided_told told a text ending.Tabled zero h = absurd (of_question told a text ending.Tabled h)
-decided_told told a text ending.Inconsistent zero h = absurd (of_question told a text ending.Inconsistent h)
-decided_told told a text ending.Open zero h = absurd (of_question told a text ending.Open h)
+decided_told told a text ending.Told zero h = absurd (neither (of_ask told a text ending.Told h))
+decided_told told a text ending.Tabled zero h = absurd (neither (of_ask told a text ending.Tabled h))
+decided_told told a text ending.Inconsistent zero h = absurd (neither (of_ask told a text ending.Inconsistent h))
+decided_told told a text ending.Open zero h = absurd (neither (of_ask told a text ending.Open h))
+
+pub denied_told : (told : List (List ℕ × List ℕ)) (a : AskSaid) (text : List ℕ) (e : Ending) → ending_status e ≡ 1
+    → IsAnswerTold told a text e
+    → IsAskDenied told a text
+denied_told told a text ending.Denied one h =
+    let is = is_denied a.exit (kind_of h.report.verdict) h.ended in
+    (h, is.0, is.1)
+denied_told told a text ending.Decided one h = absurd (omega (arith, one))
+denied_told told a text ending.Undecided one h = absurd (omega (arith, one))
+denied_told told a text ending.Told one h = absurd (omega (arith, one))
+denied_told told a text ending.Tabled one h = absurd (omega (arith, one))
+denied_told told a text ending.Inconsistent one h = absurd (omega (arith, one))
+denied_told told a text ending.Open one h = absurd (omega (arith, one))
 
 pub spent_told : (told : List (List ℕ × List ℕ)) (a : AskSaid) (text : List ℕ) (e : Ending) → ending_status e ≡ 3
     → IsAnswerTold told a text e
     → IsAskSpent told a text
 spent_told told a text ending.Decided three h = absurd (omega (arith, three))
-spent_told told a text ending.Told three h = absurd (of_question told a text ending.Told h)
-spent_told told a text ending.Tabled three h = absurd (of_question told a text ending.Tabled h)
-spent_told told a text ending.Inconsistent three h = absurd (of_question told a text ending.Inconsistent h)
-spent_told told a text ending.Open three h = absurd (of_question told a text ending.Open h)
-spent_told told a text ending.Undecided three h =
-    (h, short h.spec h.question a.budget h.report h.answer (is_undecided (is_decided (kind_of h.report.verdict)) h.ended))
+spent_told told a text ending.Denied three h = absurd (omega (arith, three))
+spent_told told a text ending.Told three h = absurd (omega (arith, three))
+spent_told told a text ending.Tabled three h = absurd (omega (arith, three))
+spent_told told a text ending.Inconsistent three h = absurd (omega (arith, three))
+spent_told told a text ending.Open three h = absurd (neither (of_ask told a text ending.Open h))
+spent_told told a text ending.Undecided three h = (
+  h,
+  short h.spec h.question a.budget h.report h.answer (is_undecided a.exit (kind_of h.report.verdict) h.ended),
+)
+
+-- no question ends with the status of a table that could not be told of
+pub not_bare : (told : List (List ℕ × List ℕ)) (a : AskSaid) (text : List ℕ) (e : Ending) → ending_status e ≡ 10
+    → IsAnswerTold told a text e → ⊥
+not_bare told a text ending.Inconsistent ten h = neither (of_ask told a text ending.Inconsistent h)
+not_bare told a text ending.Decided ten h = omega (arith, ten)
+not_bare told a text ending.Denied ten h = omega (arith, ten)
+not_bare told a text ending.Undecided ten h = omega (arith, ten)
+not_bare told a text ending.Told ten h = omega (arith, ten)
+not_bare told a text ending.Tabled ten h = omega (arith, ten)
+not_bare told a text ending.Open ten h = omega (arith, ten)

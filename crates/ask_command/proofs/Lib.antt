@@ -1,3 +1,4 @@
 pub mod AskStages
+pub mod OneAnswer
 pub mod Jobs
 pub mod Replies

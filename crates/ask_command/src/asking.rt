@@ -5,13 +5,14 @@ ghost use Rattle.command_stages.specs.Named.{IsSettled, IsReadFault, IsReadFault
 ghost use Rattle.currency_edge.specs.Fault.{Rose};
 ghost use Rattle.spec_model.specs.Questions.{IsQuestionOn};
 
+use crate::telling::told_as_asked;
 use command_stages::{Done, Trouble, read_specification, read_the_question};
 use currency_edge::Shelf;
 use program_words::Ask;
 use solver_guides::Guides;
 use spec_model::{Question, Specification};
 use std::alloc::Global;
-use told_answers::{report_on, told_report};
+use told_answers::report_on;
 
 // The job of `ask`: a report that answers the question, as a text.
 fn reply(
@@ -28,7 +29,7 @@ fn reply(
     ensures not_words { IfErr result (λ e. e ≢ Trouble.Words) }
 {
     match report_on(alloc, spec, question, asked.budget, guides) {
-        Ok(report) => told_report(alloc, spec, asked.brief, &report),
+        Ok(report) => told_as_asked(alloc, spec, &asked, &report),
         Err(trouble) => Err(trouble),
     }
 }

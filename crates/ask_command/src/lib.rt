@@ -2,5 +2,6 @@
 #![tactic(auto)]
 
 mod asking;
+mod telling;
 
 pub use asking::ask_documents;

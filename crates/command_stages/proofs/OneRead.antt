@@ -88,7 +88,7 @@ spec_read_one laws told name =
     (then_one (IsSpecTree name (document told name)) (IsSpecBound told name)
     (spec_tree_one laws name (document told name)) (spec_bound_one laws told name))
 
-question_tree_one : Readings → (name bytes : List ℕ) → IsOne (IsQuestionTree name bytes)
+pub question_tree_one : Readings → (name bytes : List ℕ) → IsOne (IsQuestionTree name bytes)
 question_tree_one laws name bytes a b (inl h) (inl k) = h.2 ∙ ap Ok (laws.question_tree bytes h.0 k.0 h.1 k.1) ∙ sym k.2
 question_tree_one laws name bytes a b (inl h) (inr k) = absurd (laws.question_not_both bytes h.0 k.0 h.1 k.1)
 question_tree_one laws name bytes a b (inr h) (inl k) = absurd (laws.question_not_both bytes k.0 h.0 k.1 h.1)

@@ -1,7 +1,7 @@
 -- Outcomes that are alike, and what each says.
-use Rattle.std.proofs.Common.{◌≡◌, ◌≢◌, ◌∙◌, Bool, true, false, IfErr, MatchResult, Result, Ok, Err, refl, sym, subst}
+use Rattle.std.proofs.Common.{◌≡◌, ◌≢◌, ◌∙◌, Bool, true, false, IfErr, MatchResult, Result, Ok, Err, inl, inr, refl, sym, subst}
 use Rattle.command_stages.specs.Alike.{AreAlike, EndAlike}
-use Rattle.command_stages.specs.Endings.{IsOfQuestion, IsOfTable, ending_of}
+use Rattle.command_stages.specs.Endings.{IsOfAnswers, IsOfQuestion, IsOfTable, ending_of}
 use Rattle.command_stages.specs.Named.{IsReadFault}
 use Rattle.command_stages.specs.Stages.{Then}
 use Rattle.command_stages.specs.declared.done.Done.{Done}
@@ -22,7 +22,8 @@ done_apart d e same = cc
 end_alike : (e : Ending) → EndAlike e e
 end_alike ending.Told = refl
 end_alike ending.Decided = tt
-end_alike ending.Undecided = tt
+end_alike ending.Denied = tt
+end_alike ending.Undecided = inl tt
 end_alike ending.Tabled = tt
 end_alike ending.Inconsistent = tt
 end_alike ending.Open = tt
@@ -41,7 +42,8 @@ is_of_question false = tt
 questions_end_alike : (d e : Ending) → IsOfQuestion d → IsOfQuestion e → EndAlike d e
 questions_end_alike ending.Told e h k = absurd h
 questions_end_alike ending.Decided e h k = k
-questions_end_alike ending.Undecided e h k = k
+questions_end_alike ending.Denied e h k = absurd h
+questions_end_alike ending.Undecided e h k = inl k
 questions_end_alike ending.Tabled e h k = absurd h
 questions_end_alike ending.Inconsistent e h k = absurd h
 questions_end_alike ending.Open e h k = absurd h
@@ -49,33 +51,46 @@ questions_end_alike ending.Open e h k = absurd h
 tables_end_alike : (d e : Ending) → IsOfTable d → IsOfTable e → EndAlike d e
 tables_end_alike ending.Told e h k = absurd h
 tables_end_alike ending.Decided e h k = absurd h
+tables_end_alike ending.Denied e h k = absurd h
 tables_end_alike ending.Undecided e h k = absurd h
 tables_end_alike ending.Tabled e h k = k
 tables_end_alike ending.Inconsistent e h k = k
 tables_end_alike ending.Open e h k = k
 
+-- what is done ends alike
+pub done_alike : (d e : Done) (a b : Result Done Trouble) → EndAlike d.ending e.ending → a ≡ Ok d → b ≡ Ok e → AreAlike a b
+done_alike d e a b alike h k =
+    subst (λ (o : Result Done Trouble). AreAlike o b) (sym h)
+    (subst (λ (o : Result Done Trouble). AreAlike (Ok d) o) (sym k) alike)
+
 -- two answers
 pub answers_alike : (d e : Done) (a b : Result Done Trouble) → IsOfQuestion d.ending → IsOfQuestion e.ending
     → a ≡ Ok d → b ≡ Ok e → AreAlike a b
-answers_alike d e a b first second h k =
-    subst (λ (o : Result Done Trouble). AreAlike o b) (sym h)
-    (subst (λ (o : Result Done Trouble). AreAlike (Ok d) o) (sym k) (questions_end_alike d.ending e.ending first second))
+answers_alike d e a b first second = done_alike d e a b (questions_end_alike d.ending e.ending first second)
 
 -- two tables
 pub tables_alike : (d e : Done) (a b : Result Done Trouble) → IsOfTable d.ending → IsOfTable e.ending
     → a ≡ Ok d → b ≡ Ok e → AreAlike a b
-tables_alike d e a b first second h k =
-    subst (λ (o : Result Done Trouble). AreAlike o b) (sym h)
-    (subst (λ (o : Result Done Trouble). AreAlike (Ok d) o) (sym k) (tables_end_alike d.ending e.ending first second))
+tables_alike d e a b first second = done_alike d e a b (tables_end_alike d.ending e.ending first second)
+
+-- a question looks for answers
+pub of_answers : (e : Ending) → IsOfQuestion e → IsOfAnswers e
+of_answers ending.Told h = h
+of_answers ending.Decided h = h
+of_answers ending.Denied h = h
+of_answers ending.Undecided h = h
+of_answers ending.Tabled h = absurd h
+of_answers ending.Inconsistent h = h
+of_answers ending.Open h = absurd h
 
 -- an answer, and that there are too many
-pub answer_or_limit : (d : Done) (a b : Result Done Trouble) → IsOfQuestion d.ending → a ≡ Ok d
+pub answer_or_limit : (d : Done) (a b : Result Done Trouble) → IsOfAnswers d.ending → a ≡ Ok d
     → b ≡ Err (trouble.Limit 3) → AreAlike a b
 answer_or_limit d a b of h k =
     subst (λ (o : Result Done Trouble). AreAlike o b) (sym h)
     (subst (λ (o : Result Done Trouble). AreAlike (Ok d) o) (sym k) (of, refl))
 
-pub limit_or_answer : (d : Done) (a b : Result Done Trouble) → IsOfQuestion d.ending → a ≡ Err (trouble.Limit 3)
+pub limit_or_answer : (d : Done) (a b : Result Done Trouble) → IsOfAnswers d.ending → a ≡ Err (trouble.Limit 3)
     → b ≡ Ok d → AreAlike a b
 limit_or_answer d a b of h k =
     subst (λ (o : Result Done Trouble). AreAlike o b) (sym h)

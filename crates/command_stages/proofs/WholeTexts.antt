@@ -2,9 +2,12 @@
 use Rattle.std.proofs.Common.{◌≡◌, ◌≤◌, ℕ, List, length, Option, Some, None, IfSome, IfOk, Result, Ok, Err, subst, inr}
 use Rattle.currency_edge.specs.Shelf.{document}
 use Rattle.spec_bind.specs.Bound.{IsSpecBound as IsBound}
-use Rattle.command_stages.specs.Stages.{Within, IsSpecTree}
-use Rattle.command_stages.specs.Trees.{IsTreeOf}
-use Rattle.command_stages.specs.declared.read_spec.ReadSpec.{ReadSpec}
+use Rattle.question_bind.specs.Bound.{IsQuestionBound}
+use Rattle.spec_model.specs.declared.relation.Relation.{Relation}
+use Rattle.command_stages.specs.Stages.{Within, IsQuestionTree, IsSpecTree}
+use Rattle.command_stages.specs.Trees.{IsQuestionTreeOf, IsTreeOf}
+use Rattle.command_stages.specs.declared.with_tree.ReadQuestion.{ReadQuestion}
+use Rattle.command_stages.specs.declared.with_tree.ReadSpec.{ReadSpec}
 use Rattle.command_stages.specs.declared.trouble.Trouble.{Trouble}
 
 pub of_document : {A : Type 0} (told : Option (List (List ℕ × List ℕ))) (name bytes : List ℕ) (bound : ℕ)
@@ -30,5 +33,18 @@ of_whole_tree told name bytes (Err e) whole reads bound = tt
 of_whole_tree None name bytes (Ok read) whole reads bound = tt
 of_whole_tree (Some t) name bytes (Ok read) whole reads bound = record {
   reads = subst (λ (b : List ℕ). IsSpecTree name b (Ok read.tree)) whole reads;
+  bound = bound;
+}
+
+-- the same of a question
+pub of_whole_question : (told : Option (List (List ℕ × List ℕ))) (relations : List Relation) (name bytes : List ℕ)
+    (outcome : Result ReadQuestion Trouble)
+    → IfSome told (λ t. bytes ≡ document t name) → IfOk outcome (λ read. IsQuestionTree name bytes (Ok read.tree))
+    → IfOk outcome (λ read. IfSome told (λ t. IsQuestionBound t relations read.tree (Ok read.question)))
+    → IfOk outcome (λ read. IfSome told (λ t. IsQuestionTreeOf t relations name read.tree read.question))
+of_whole_question told relations name bytes (Err e) whole reads bound = tt
+of_whole_question None relations name bytes (Ok read) whole reads bound = tt
+of_whole_question (Some t) relations name bytes (Ok read) whole reads bound = record {
+  reads = subst (λ (b : List ℕ). IsQuestionTree name b (Ok read.tree)) whole reads;
   bound = bound;
 }

@@ -2,12 +2,13 @@
 use Rattle.std.specs.Prelude.{ℕ, Bool, true, false, List}
 use Rattle.command_stages.specs.declared.done.Done.{Done}
 use Rattle.command_stages.specs.declared.done.Ending.{Ending}
-use Rattle.command_stages.specs.declared.done.Ending.TheVariants.{Told, Decided, Undecided, Tabled, Inconsistent, Open}
+use Rattle.command_stages.specs.declared.done.Ending.TheVariants.{Told, Decided, Denied, Undecided, Tabled, Inconsistent, Open}
 
 -- the status, the text being written
 abbrev pub ending_status : Ending → ℕ
 ending_status Told = 0
 ending_status Decided = 0
+ending_status Denied = 1
 ending_status Undecided = 3
 ending_status Tabled = 0
 ending_status Inconsistent = 10
@@ -18,23 +19,45 @@ abbrev pub ending_of : Bool → Ending
 ending_of true = Decided
 ending_of false = Undecided
 
--- a question ends so
+-- a question ends so, where the status tells no answer of no
 abbrev pub IsOfQuestion : Ending → Type 0
 IsOfQuestion Told = ⊥
 IsOfQuestion Decided = Unit {0}
+IsOfQuestion Denied = ⊥
 IsOfQuestion Undecided = Unit {0}
 IsOfQuestion Tabled = ⊥
 IsOfQuestion Inconsistent = ⊥
 IsOfQuestion Open = ⊥
 
+-- a question whose answer is no ends so, where the status tells that
+abbrev pub IsOfDenial : Ending → Type 0
+IsOfDenial Told = ⊥
+IsOfDenial Decided = ⊥
+IsOfDenial Denied = Unit {0}
+IsOfDenial Undecided = Unit {0}
+IsOfDenial Tabled = ⊥
+IsOfDenial Inconsistent = ⊥
+IsOfDenial Open = ⊥
+
 -- a command that gives a table ends so
 abbrev pub IsOfTable : Ending → Type 0
 IsOfTable Told = ⊥
 IsOfTable Decided = ⊥
+IsOfTable Denied = ⊥
 IsOfTable Undecided = ⊥
 IsOfTable Tabled = Unit {0}
 IsOfTable Inconsistent = Unit {0}
 IsOfTable Open = Unit {0}
+
+-- a command that looks for answers of a query ends so, where there is a consistent completion or none is known
+abbrev pub IsOfAnswers : Ending → Type 0
+IsOfAnswers Told = ⊥
+IsOfAnswers Decided = Unit {0}
+IsOfAnswers Denied = ⊥
+IsOfAnswers Undecided = Unit {0}
+IsOfAnswers Tabled = Unit {0}
+IsOfAnswers Inconsistent = ⊥
+IsOfAnswers Open = Unit {0}
 
 -- a text that there is just to tell
 abbrev pub told_text : List ℕ → Done

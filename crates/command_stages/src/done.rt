@@ -10,6 +10,8 @@ pub enum Ending {
     Told,
     /// A question is decided, or all that were asked are.
     Decided,
+    /// A question is decided, the answer is no, and the status is to tell that.
+    Denied,
     /// The budget was spent without a verdict.
     Undecided,
     /// What was asked for is given as a table.
@@ -28,6 +30,7 @@ impl Ending {
         match self {
             Ending::Told => 0,
             Ending::Decided => 0,
+            Ending::Denied => 1,
             Ending::Undecided => 3,
             Ending::Tabled => 0,
             Ending::Inconsistent => 10,

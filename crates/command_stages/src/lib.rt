@@ -5,17 +5,17 @@
 mod done;
 mod laws;
 mod read;
-mod read_spec;
 mod stages;
 mod texts;
 mod trouble;
 mod troubles;
+mod with_tree;
 
 pub use done::{Done, Ending};
 pub use laws::one_read;
 pub use read::read_bytes;
-pub use read_spec::ReadSpec;
-pub use stages::{read_specification, read_the_question, read_with_tree};
+pub use stages::{read_question_with_tree, read_specification, read_the_question, read_with_tree};
 pub use texts::{bytes_of, text_of};
 pub use trouble::{Check, Trouble};
 pub use troubles::refused;
+pub use with_tree::{ReadQuestion, ReadSpec};

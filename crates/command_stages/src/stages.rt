@@ -1,16 +1,17 @@
 ghost use Rattle.std.specs.Prelude.{◌≡◌, ◌≢◌, ℕ, List, IfErr, ◌≤◌, IfOk, IfSome, Ok};
 ghost use Rattle.currency_edge.specs.Fault.{Rose};
 ghost use Rattle.spec_model.specs.Questions.{IsQuestionOn};
+ghost use Rattle.question_bind.specs.Bound.{AskAlike, IsQuestionBound};
 ghost use Rattle.spec_bind.specs.Bound.{IsSpecBound as IsBound};
 ghost use Rattle.bound_spec.specs.Growth.{IsWithinLimits};
 ghost use Rattle.command_stages.specs.Stages.{IsSpecTree, IsSpecSaid, IsSpecRead, IsQuestionTree, IsQuestionSaid, IsQuestionRead};
-ghost use Rattle.command_stages.specs.Trees.{spec_result, IsTreeOf};
+ghost use Rattle.command_stages.specs.Trees.{spec_result, IsTreeOf, question_result, IsQuestionTreeOf};
 ghost use Rattle.command_stages.specs.Documents.{IsSaidTableDue, IsSpecDocumentDue, IsQuestionSaidTableDue, IsQuestionDocumentDue};
 ghost use Rattle.command_stages.specs.Named.{IsSettled, IsReadFault, IsReadFaultOf};
 
 use crate::read::{TEXT_BOUND, read_bytes};
 use crate::troubles::{of_binding, of_text};
-use crate::{ReadSpec, Trouble};
+use crate::{ReadQuestion, ReadSpec, Trouble};
 use currency_edge::Shelf;
 use question_bind::bind_question;
 use question_syntax::{QuestionTree, read_question};
@@ -111,19 +112,23 @@ fn question_tree(alloc: Global, name: &str, bytes: &[u8]) -> Result<QuestionTree
     }
 }
 
-// The question that a text says of a specification, with the tables that it names.
+// The question that a text says of a specification, with the tables that it names and the tree of the text.
 fn question_said<S: Shelf>(
     alloc: Global,
     shelf: &mut S,
     spec: &Specification,
     name: &str,
     bytes: &[u8],
-) -> Result<Question, Trouble>
+) -> Result<ReadQuestion, Trouble>
     ensures kept { S.texts shelf.new ≡ S.texts shelf.old }
     ensures later { S.faults shelf.old ≤ S.faults shelf.new }
     ensures said { IsSettled result → IfSome (S.texts shelf.old)
-        (λ told. IsQuestionSaid told spec.now.relations name.now bytes.now result) }
-    ensures fits { IfOk result (IsQuestionOn spec.now.relations) }
+        (λ told. IsQuestionSaid told spec.now.relations name.now bytes.now (question_result result)) }
+    ensures tree { IfOk result (λ read. IsQuestionTree name.now bytes.now (Ok read.tree)) }
+    ensures bound { IfOk result (λ read. IfSome (S.texts shelf.old)
+        (λ told. IsQuestionBound told spec.now.relations read.tree (Ok read.question))) }
+    ensures fits { IfOk result (λ read. IsQuestionOn spec.now.relations read.question) }
+    ensures alike { IfOk result (λ read. AskAlike read.tree read.question) }
     ensures read_fault { IsReadFault result → Rose (S.faults shelf.old) (S.faults shelf.new) }
     ensures unread { (n : List ℕ) → IsReadFaultOf result n
         → IfSome (S.texts shelf.old) (λ told. IsQuestionSaidTableDue told spec.now.relations name.now bytes.now n) }
@@ -134,9 +139,33 @@ fn question_said<S: Shelf>(
         Err(trouble) => return Err(trouble),
     };
     match bind_question(alloc, spec, &tree, shelf) {
-        Ok(question) => Ok(question),
+        Ok(question) => Ok(ReadQuestion { tree, question }),
         Err(fault) => Err(of_binding(alloc, name, fault)),
     }
+}
+
+/// The second stage, by which the question comes with the tree of its text.
+pub fn read_question_with_tree<S: Shelf>(
+    alloc: Global,
+    shelf: &mut S,
+    spec: &Specification,
+    name: &str,
+) -> Result<ReadQuestion, Trouble>
+    ensures kept { S.texts shelf.new ≡ S.texts shelf.old }
+    ensures later { S.faults shelf.old ≤ S.faults shelf.new }
+    ensures stage { IsSettled result → IfSome (S.texts shelf.old)
+        (λ told. IsQuestionRead told spec.now.relations name.now (question_result result)) }
+    ensures tree { IfOk result (λ read. IfSome (S.texts shelf.old)
+        (λ told. IsQuestionTreeOf told spec.now.relations name.now read.tree read.question)) }
+    ensures fits { IfOk result (λ read. IsQuestionOn spec.now.relations read.question) }
+    ensures alike { IfOk result (λ read. AskAlike read.tree read.question) }
+    ensures read_fault { IsReadFault result → Rose (S.faults shelf.old) (S.faults shelf.new) }
+    ensures unread { (n : List ℕ) → IsReadFaultOf result n
+        → IfSome (S.texts shelf.old) (λ told. IsQuestionDocumentDue told spec.now.relations name.now n) }
+    ensures not_words { IfErr result (λ e. e ≢ Trouble.Words) }
+{
+    let bytes = read_bytes(alloc, shelf, name, TEXT_BOUND)?;
+    question_said(alloc, shelf, spec, name, bytes.as_slice())
 }
 
 /// The second stage: the question on a specification, with its tables.
@@ -156,6 +185,6 @@ pub fn read_the_question<S: Shelf>(
         → IfSome (S.texts shelf.old) (λ told. IsQuestionDocumentDue told spec.now.relations name.now n) }
     ensures not_words { IfErr result (λ e. e ≢ Trouble.Words) }
 {
-    let bytes = read_bytes(alloc, shelf, name, TEXT_BOUND)?;
-    question_said(alloc, shelf, spec, name, bytes.as_slice())
+    let ReadQuestion { question, .. } = read_question_with_tree(alloc, shelf, spec, name)?;
+    Ok(question)
 }

@@ -27,6 +27,7 @@ decided_told told c text ending.Tabled zero h = absurd (of_question told c text 
 decided_told told c text ending.Inconsistent zero h = absurd (of_question told c text ending.Inconsistent h)
 decided_told told c text ending.Open zero h = absurd (of_question told c text ending.Open h)
 decided_told told c text ending.Decided zero h = h
+decided_told told c text ending.Denied zero h = absurd (of_question told c text ending.Denied h)
 decided_told told c text ending.Undecided zero h = absurd (omega (arith, zero))
 
 pub spent_told : (told : List (List ℕ × List ℕ)) (c : ConflictsSaid) (text : List ℕ) (end : Ending) → ending_status end ≡ 3
@@ -36,4 +37,5 @@ spent_told told c text ending.Tabled three h = absurd (of_question told c text e
 spent_told told c text ending.Inconsistent three h = absurd (of_question told c text ending.Inconsistent h)
 spent_told told c text ending.Open three h = absurd (of_question told c text ending.Open h)
 spent_told told c text ending.Decided three h = absurd (omega (arith, three))
+spent_told told c text ending.Denied three h = absurd (of_question told c text ending.Denied h)
 spent_told told c text ending.Undecided three h = h

@@ -1,3 +1,4 @@
 mod Mapped
 mod PutSources
 mod SameValues
+pub mod TakenSources

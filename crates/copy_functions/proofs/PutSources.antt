@@ -1,5 +1,5 @@
 -- A list by rows with one source row more is determined by its length and what stands at each row.
-use Rattle.std.proofs.Common.{◌≡◌, ◌≢◌, ◌+◌, ◌<◌, ℕ, zero, suc, max, List, [], ◌∷◌, Option, Some, None, length, refl, sym, ap, ap₂, ◌∙◌, arith, ⊎_elim}
+use Rattle.std.proofs.Common.{◌≡◌, ◌+◌, ℕ, zero, suc, max, List, [], ◌∷◌, Option, Some, None, length, refl, sym, ap, ap₂, ◌∙◌, arith, ⊎_elim}
 use Rattle.std.specs.List.{slice_index_or}
 use Rattle.std.proofs.lemmas.Bool.{cases_eq}
 use Rattle.currency_base.specs.declared.ids.RowId.{RowId}
@@ -22,14 +22,14 @@ length_put [] (suc target) source = let h = length_put [] target source in omega
 length_put (x ∷ sources) zero source = omega arith
 length_put (x ∷ sources) (suc target) source = let h = length_put sources target source in omega arith
 
-put_here : (sources : List (Option RowId)) (target : ℕ) (source : RowId) → slice_index_or
+pub put_here : (sources : List (Option RowId)) (target : ℕ) (source : RowId) → slice_index_or
     (put_source sources target source) target None ≡ Some source
 put_here [] zero source = refl
 put_here [] (suc target) source = put_here [] target source
 put_here (x ∷ sources) zero source = refl
 put_here (x ∷ sources) (suc target) source = put_here sources target source
 
-put_other : (sources : List (Option RowId)) (target : ℕ) (source : RowId) (row : ℕ) → (row ≡ target → ⊥)
+pub put_other : (sources : List (Option RowId)) (target : ℕ) (source : RowId) (row : ℕ) → (row ≡ target → ⊥)
     → slice_index_or (put_source sources target source) row None ≡ slice_index_or sources row None
 put_other [] zero source zero apart = absurd (apart refl)
 put_other [] zero source (suc row) apart = refl

@@ -1,5 +1,5 @@
 -- Copy functions: partial maps from rows of one relation to rows of another that have equal values at each place.
-use Rattle.std.specs.Prelude.{◌≡◌, ◌≢◌, ◌<◌, ℕ, zero, suc, List, [], ◌∷◌, Option, Some, None, All, length, slice_get}
+use Rattle.std.specs.Prelude.{◌≡◌, ◌≢◌, ◌<◌, ℕ, zero, suc, List, [], ◌∷◌, Option, Some, None, All, length, slice_get, slice_set}
 use Rattle.std.specs.List.{slice_index_or}
 use Rattle.currency_base.specs.declared.ids.RelId.{RelId}
 use Rattle.currency_base.specs.declared.ids.RowId.{RowId}
@@ -35,6 +35,10 @@ put_source (x ∷ sources) (suc target) source = x ∷ put_source sources target
 -- the copy function that maps one target row more
 abbrev pub with_source : CopyFunction → RowId → RowId → CopyFunction
 with_source copy target source = record copy { sources = put_source copy.sources target.0 source }
+
+-- the copy function that does not map the target row; its list stays as long as it is
+abbrev pub without_source : CopyFunction → RowId → CopyFunction
+without_source copy target = record copy { sources = slice_set copy.sources target.0 None }
 
 -- the new list has a source row for the target row, and is the old one for each other row
 pub record IsPut (old new : List (Option RowId)) (target source : RowId) : Type 0 where

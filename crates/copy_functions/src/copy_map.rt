@@ -1,6 +1,7 @@
-ghost use Rattle.std.specs.Prelude.{◌≡◌, ◌<◌, ◌+◌, ◌^◌, max, List, [], None, IsSome, IsErrOf, IfErr, OnOk, OnErr, All, length};
+ghost use Rattle.std.specs.Prelude.{◌≡◌, ◌≢◌, ◌<◌, ◌+◌, ◌^◌, max, List, [], Some, None, IsSome, IsErrOf, IfErr, OnOk, OnErr, All, length, slice_set};
+ghost use Rattle.currency_base.specs.declared.ids.RowId.{RowId};
 ghost use Rattle.currency_base.specs.declared.row.Row.{Row};
-ghost use Rattle.copy_functions.specs.Copies.{source_at, values_of, with_source, Maps, IsCopyOf, IsCopied, IsPut};
+ghost use Rattle.copy_functions.specs.Copies.{CopyFunction, source_in, source_at, values_of, with_source, without_source, Maps, IsCopyOf, IsCopied, IsPut};
 ghost use Rattle.copy_functions.specs.Faults.{fault_due, IsDue};
 
 use crate::difference::first_difference;
@@ -139,7 +140,30 @@ impl CopyMap {
         put(&mut self.sources, target, source)?;
         Ok(())
     }
+
+    /// Unmaps a target row, and answers the source row that it was mapped to, if it was mapped. Takes no
+    /// memory. The list by target row stays as long as it is: after a row is mapped and unmapped again it may
+    /// be longer than before, with no source row at its end, and each row is mapped as before.
+    pub fn remove(&mut self, target: RowId) -> Option<RowId>
+        ensures value { self.new ≡ without_source self.old target }
+        ensures was { result ≡ source_at self.old target }
+        ensures unmapped { source_at self.new target ≡ None }
+        ensures others { (row : RowId) → row ≢ target → source_at self.new row ≡ source_at self.old row }
+        ensures copied { (target_rows source_rows : List Row) → IsCopied self.old target_rows source_rows
+            → IsCopied self.new target_rows source_rows }
+    {
+        take_out(&mut self.sources, target)
+    }
 }
+
+/// A law: to map a row that was not mapped and to unmap it again leaves each row mapped as it was; to unmap
+/// a row that was mapped and to map it again leaves the copy function as it was.
+pub fn sources_are_restored()
+    ensures mapped { (copy : CopyFunction) (target source : RowId) → source_at copy target ≡ None
+        → (row : RowId) → source_at (without_source (with_source copy target source) target) row ≡ source_at copy row }
+    ensures unmapped { (copy : CopyFunction) (target source : RowId) → source_at copy target ≡ Some source
+        → with_source (without_source copy target) target source ≡ copy }
+{}
 
 // Sets the source row of a target row. The list grows no further than to that row.
 fn put(sources: &mut Vec<Option<RowId>>, target: RowId, source: RowId) -> Result<(), NoMemory>
@@ -153,4 +177,16 @@ fn put(sources: &mut Vec<Option<RowId>>, target: RowId, source: RowId) -> Result
     }
     sources[place] = Some(source);
     Ok(())
+}
+
+// Takes out the source row of a target row. The list stays as long as it is.
+fn take_out(sources: &mut Vec<Option<RowId>>, target: RowId) -> Option<RowId>
+    ensures value { sources.new.items ≡ slice_set sources.old.items target.0 None }
+    ensures was { result ≡ source_in sources.old.items target }
+{
+    let place = target.0 as usize;
+    if place >= sources.len() {
+        return None;
+    }
+    sources[place].take()
 }

@@ -9,6 +9,6 @@ mod difference;
 mod fault;
 mod place;
 
-pub use copy_map::{CopyList, CopyMap};
+pub use copy_map::{CopyList, CopyMap, sources_are_restored};
 pub use fault::CopyFault;
 pub use place::{Place, PlaceList};

@@ -2,7 +2,7 @@
 use Rattle.std.proofs.Common.{◌≡◌, ◌⊎◌, ℕ, List, Option, Some, None, IfSome, Result, Ok, Err, ◌∙◌, ap, subst, sym, refl, inl, inr}
 use Rattle.currency_edge.specs.Fault.{Rose}
 use Rattle.command_stages.specs.Alike.{AreAlike, EndAlike}
-use Rattle.command_stages.specs.Endings.{IsOfQuestion, IsOfTable, ending_status}
+use Rattle.command_stages.specs.Endings.{IsOfAnswers, IsOfDenial, IsOfQuestion, IsOfTable, ending_status}
 use Rattle.command_stages.specs.declared.done.Ending.{Ending}
 use Rattle.command_stages.specs.declared.done.Ending.TheVariants as ending
 use Rattle.currency_cli.specs.Due.{IsDue}
@@ -21,36 +21,65 @@ OneDue = (told : List (List ℕ × List ℕ)) (count : ℕ) (words : List (List 
 
 -- ---- the outcome that was come to is like the one that is due
 
-zero_or_three : (e : Ending) (status : ℕ) → IsOfQuestion e → status ≡ ending_status e → (status ≡ 0) ⊎ (status ≡ 3)
+zero_or_three : (e : Ending) (status : ℕ) → IsOfAnswers e → status ≡ ending_status e → (status ≡ 0) ⊎ (status ≡ 3)
 zero_or_three ending.Told status of is = absurd of
 zero_or_three ending.Decided status of is = inl is
+zero_or_three ending.Denied status of is = absurd of
 zero_or_three ending.Undecided status of is = inr is
-zero_or_three ending.Tabled status of is = absurd of
+zero_or_three ending.Tabled status of is = inl is
 zero_or_three ending.Inconsistent status of is = absurd of
-zero_or_three ending.Open status of is = absurd of
+zero_or_three ending.Open status of is = inr is
+
+-- where a limit on answers is exceeded over one completion
+six_of_answers : (e : Ending) (status : ℕ) → IsOfAnswers e → status ≡ 6 → HasEndStatus e status
+six_of_answers ending.Told status of is = absurd of
+six_of_answers ending.Decided status of is = inr (inr is)
+six_of_answers ending.Denied status of is = absurd of
+six_of_answers ending.Undecided status of is = inr (inr (inr is))
+six_of_answers ending.Tabled status of is = inr (inr (inr is))
+six_of_answers ending.Inconsistent status of is = absurd of
+six_of_answers ending.Open status of is = inr (inr (inr is))
 
 any_of_question : (e : Ending) (status : ℕ) → IsOfQuestion e → (status ≡ 0) ⊎ ((status ≡ 3) ⊎ (status ≡ 6))
     → HasEndStatus e status
 any_of_question ending.Told status of is = absurd of
 any_of_question ending.Decided status of is = is
-any_of_question ending.Undecided status of is = is
+any_of_question ending.Denied status of is = absurd of
+any_of_question ending.Undecided status of is = inr is
 any_of_question ending.Tabled status of is = absurd of
 any_of_question ending.Inconsistent status of is = absurd of
 any_of_question ending.Open status of is = absurd of
+
+any_of_denial : (e : Ending) (status : ℕ) → IsOfDenial e → (status ≡ 1) ⊎ (status ≡ 3) → HasEndStatus e status
+any_of_denial ending.Told status of is = absurd of
+any_of_denial ending.Decided status of is = absurd of
+any_of_denial ending.Denied status of is = is
+any_of_denial ending.Undecided status of (inl one) = inl one
+any_of_denial ending.Undecided status of (inr three) = inr (inr (inl three))
+any_of_denial ending.Tabled status of is = absurd of
+any_of_denial ending.Inconsistent status of is = absurd of
+any_of_denial ending.Open status of is = absurd of
 
 any_of_table : (e : Ending) (status : ℕ) → IsOfTable e → (status ≡ 0) ⊎ ((status ≡ 3) ⊎ (status ≡ 10))
     → HasEndStatus e status
 any_of_table ending.Told status of is = absurd of
 any_of_table ending.Decided status of is = absurd of
+any_of_table ending.Denied status of is = absurd of
 any_of_table ending.Undecided status of is = absurd of
-any_of_table ending.Tabled status of is = is
+any_of_table ending.Tabled status of (inl zero) = inl zero
+any_of_table ending.Tabled status of (inr (inl three)) = inr (inl three)
+any_of_table ending.Tabled status of (inr (inr ten)) = inr (inr (inl ten))
 any_of_table ending.Inconsistent status of is = is
-any_of_table ending.Open status of is = is
+any_of_table ending.Open status of (inl zero) = inl zero
+any_of_table ending.Open status of (inr (inl three)) = inr (inl three)
+any_of_table ending.Open status of (inr (inr ten)) = inr (inr (inl ten))
 
 end_status : (d e : Ending) (status : ℕ) → EndAlike d e → status ≡ ending_status d → HasEndStatus e status
 end_status ending.Told e status alike is = subst (λ (x : Ending). HasEndStatus x status) (sym alike) is
 end_status ending.Decided e status alike is = any_of_question e status alike (inl is)
-end_status ending.Undecided e status alike is = any_of_question e status alike (inr (inl is))
+end_status ending.Denied e status alike is = any_of_denial e status alike (inl is)
+end_status ending.Undecided e status (inl alike) is = any_of_question e status alike (inr (inl is))
+end_status ending.Undecided e status (inr alike) is = any_of_denial e status alike (inr is)
 end_status ending.Tabled e status alike is = any_of_table e status alike (inl is)
 end_status ending.Inconsistent e status alike is = any_of_table e status alike (inr (inr is))
 end_status ending.Open e status alike is = any_of_table e status alike (inr (inl is))
@@ -59,7 +88,7 @@ has_status : (got outcome : Result Done Trouble) (status : ℕ) → AreAlike got
     → HasStatus outcome status
 has_status (Ok d) (Ok e) status alike is = end_status d.ending e.ending status alike is
 has_status (Ok d) (Err e) status alike is = inr (alike.1, zero_or_three d.ending status alike.0 is)
-has_status (Err e) (Ok d) status alike is = any_of_question d.ending status alike.0 (inr (inr (is ∙ ap trouble_status alike.1)))
+has_status (Err e) (Ok d) status alike is = six_of_answers d.ending status alike.0 (is ∙ ap trouble_status alike.1)
 has_status (Err e) (Err f) status alike is = inl (is ∙ ap trouble_status alike)
 
 -- an outcome whose text met a failing sink: a refusal keeps its status

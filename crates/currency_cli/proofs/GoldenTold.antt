@@ -19,7 +19,7 @@ ends_as_table s column r (golden.Records table) = tt
 ends_as_table s column r golden.Inconsistent = tt
 ends_as_table s column r (golden.Undecided p report) = tt
 
-of_table : (told : List (List ℕ × List ℕ)) (g : GoldenSaid) (text : List ℕ) (e : Ending) → IsGoldenTold told g text e → IsOfTable e
+pub of_table : (told : List (List ℕ × List ℕ)) (g : GoldenSaid) (text : List ℕ) (e : Ending) → IsGoldenTold told g text e → IsOfTable e
 of_table told g text e h =
     subst IsOfTable (sym (ap (λ (d : Done). d.ending) (same_done (record { text = text; ending = e }) _ h.golden.comes)))
     (ends_as_table h.spec (column_in h.tree.statements h.golden.relation.name) h.golden.relation h.golden.found)
@@ -31,6 +31,7 @@ tabled_told told g text ending.Inconsistent zero h = absurd (omega (arith, zero)
 tabled_told told g text ending.Open zero h = absurd (omega (arith, zero))
 tabled_told told g text ending.Told zero h = absurd (of_table told g text ending.Told h)
 tabled_told told g text ending.Decided zero h = absurd (of_table told g text ending.Decided h)
+tabled_told told g text ending.Denied zero h = absurd (of_table told g text ending.Denied h)
 tabled_told told g text ending.Undecided zero h = absurd (of_table told g text ending.Undecided h)
 
 pub open_told : (told : List (List ℕ × List ℕ)) (g : GoldenSaid) (text : List ℕ) (e : Ending) → ending_status e ≡ 3
@@ -40,6 +41,7 @@ open_told told g text ending.Inconsistent three h = absurd (omega (arith, three)
 open_told told g text ending.Tabled three h = absurd (omega (arith, three))
 open_told told g text ending.Told three h = absurd (of_table told g text ending.Told h)
 open_told told g text ending.Decided three h = absurd (of_table told g text ending.Decided h)
+open_told told g text ending.Denied three h = absurd (of_table told g text ending.Denied h)
 open_told told g text ending.Undecided three h = absurd (of_table told g text ending.Undecided h)
 
 pub bare_told : (told : List (List ℕ × List ℕ)) (g : GoldenSaid) (text : List ℕ) (e : Ending) → ending_status e ≡ 10
@@ -49,4 +51,5 @@ bare_told told g text ending.Open ten h = absurd (omega (arith, ten))
 bare_told told g text ending.Tabled ten h = absurd (omega (arith, ten))
 bare_told told g text ending.Told ten h = absurd (of_table told g text ending.Told h)
 bare_told told g text ending.Decided ten h = absurd (of_table told g text ending.Decided h)
+bare_told told g text ending.Denied ten h = absurd (of_table told g text ending.Denied h)
 bare_told told g text ending.Undecided ten h = absurd (of_table told g text ending.Undecided h)

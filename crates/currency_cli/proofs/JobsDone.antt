@@ -2,24 +2,27 @@
 use Rattle.std.proofs.Common.{◌≡◌, ◌∙◌, ℕ, List, Option, Some, None, IfSome, Ok, Err, inl, inr, sym, ap, arith, subst}
 use Rattle.std.specs.Io.KnownBytes.{Appends}
 use Rattle.ask_command.proofs.Jobs as ask
-use Rattle.command_stages.specs.Endings.{IsOfQuestion, ending_status}
+use Rattle.command_stages.specs.Endings.{IsOfQuestion, IsOfTable, ending_status}
 use Rattle.conflicts_command.proofs.Jobs as conflicts
 use Rattle.explain_command.proofs.Jobs as explain
 use Rattle.currency_cli.proofs.GoldenTold as golden
+use Rattle.certain_table.proofs.Jobs as certain_table
 use Rattle.possible_command.proofs.Jobs as possible
+use Rattle.possible_table.proofs.Jobs as possible_table
 use Rattle.command_stages.specs.Texts.{trouble_status}
 use Rattle.command_stages.specs.declared.done.Done.{Done}
 use Rattle.command_stages.specs.declared.done.Ending.{Ending}
 use Rattle.command_stages.specs.declared.done.Ending.TheVariants as ending
 use Rattle.command_stages.specs.declared.trouble.Trouble.{Trouble}
 use Rattle.command_stages.specs.declared.trouble.Trouble.TheVariants as trouble
-use Rattle.currency_cli.specs.Ends.{EndsWith, IsBare, IsInconsistent, IsJobDone, IsDone, IsSpent, IsUndecided}
+use Rattle.currency_cli.specs.Ends.{EndsWith, IsBare, IsDenied, IsInconsistent, IsJobDone, IsDone, IsNo, IsSpent, IsUndecided}
 use Rattle.command_stages.specs.Outcomes.{output_of, status_of}
 use Rattle.currency_cli.specs.Told.{IsTold, IsToldFor}
 use Rattle.currency_edge.specs.Fault.{Rose}
 use Rattle.currency_edge.specs.Sink.{AppendsPrefix}
 use Rattle.forced_command.specs.Forced.{AreForcedListed}
-use Rattle.program_words.specs.Words.{CommandSaid, AskFor, VerifyOf, ForcedOf, TrialOf, ExplainFor, ConflictsIn, GoldenIn, PossibleFor}
+use Rattle.program_words.specs.Words.{AskFor, CertainTableFor, CommandSaid, ConflictsIn, ExplainFor, ForcedOf, GoldenIn}
+use Rattle.program_words.specs.Words.{PossibleFor, PossibleTableFor, TrialOf, VerifyOf}
 use Rattle.trial_command.proofs.Replies as trial
 
 -- ---- the text
@@ -41,6 +44,7 @@ done_not_eight d h = by d.ending h
     by : (e : Ending) → ending_status e ≡ 8 → ⊥
     by ending.Told h = omega (arith, h)
     by ending.Decided h = omega (arith, h)
+    by ending.Denied h = omega (arith, h)
     by ending.Undecided h = omega (arith, h)
     by ending.Tabled h = omega (arith, h)
     by ending.Inconsistent h = omega (arith, h)
@@ -60,6 +64,7 @@ done_not_seven d h = by d.ending h
     by : (e : Ending) → ending_status e ≡ 7 → ⊥
     by ending.Told h = omega (arith, h)
     by ending.Decided h = omega (arith, h)
+    by ending.Denied h = omega (arith, h)
     by ending.Undecided h = omega (arith, h)
     by ending.Tabled h = omega (arith, h)
     by ending.Inconsistent h = omega (arith, h)
@@ -77,7 +82,7 @@ sink_failed old new wb wn d status (inl h) eight = absurd (done_not_eight d (sym
 sink_failed old new wb wn d status (inr (inl h)) eight = h.1
 sink_failed old new wb wn d status (inr (inr h)) eight = absurd (omega (arith, h.0, eight))
 
--- a refusal has another status than 0, 3 and 8
+-- a refusal has another status than 0, 1, 3, 8 and 10
 no_zero : (e : Trouble) → trouble_status e ≡ 0 → ⊥
 no_zero trouble.Words h = omega (arith, h)
 no_zero (trouble.Unshown c d l) h = omega (arith, h)
@@ -86,6 +91,15 @@ no_zero (trouble.CopyDiffers d l t s) h = omega (arith, h)
 no_zero (trouble.Limit k) h = omega (arith, h)
 no_zero (trouble.ReadFault name) h = omega (arith, h)
 no_zero trouble.NoMemory h = omega (arith, h)
+
+no_one : (e : Trouble) → trouble_status e ≡ 1 → ⊥
+no_one trouble.Words h = omega (arith, h)
+no_one (trouble.Unshown c d l) h = omega (arith, h)
+no_one (trouble.Refused c d l) h = omega (arith, h)
+no_one (trouble.CopyDiffers d l t s) h = omega (arith, h)
+no_one (trouble.Limit k) h = omega (arith, h)
+no_one (trouble.ReadFault name) h = omega (arith, h)
+no_one trouble.NoMemory h = omega (arith, h)
 
 no_three : (e : Trouble) → trouble_status e ≡ 3 → ⊥
 no_three trouble.Words h = omega (arith, h)
@@ -124,6 +138,10 @@ pub refusal_not_zero : (old new : Option (List ℕ)) (wb wn : ℕ) (e : Trouble)
     (Err e) status → status ≡ 0 → ⊥
 refusal_not_zero old new wb wn e status ends = refusal_not old new wb wn e status 0 ends (no_zero e) (λ h. omega (arith, h))
 
+pub refusal_not_one : (old new : Option (List ℕ)) (wb wn : ℕ) (e : Trouble) (status : ℕ) → EndsWith old new wb wn
+    (Err e) status → status ≡ 1 → ⊥
+refusal_not_one old new wb wn e status ends = refusal_not old new wb wn e status 1 ends (no_one e) (λ h. omega (arith, h))
+
 pub refusal_not_three : (old new : Option (List ℕ)) (wb wn : ℕ) (e : Trouble) (status : ℕ) → EndsWith old new wb wn
     (Err e) status → status ≡ 3 → ⊥
 refusal_not_three old new wb wn e status ends = refusal_not old new wb wn e status 3 ends (no_three e) (λ h. omega (arith, h))
@@ -148,6 +166,8 @@ job_at told (ExplainFor e) d zero h = explain.decided_told told e d.text d.endin
 job_at told (ConflictsIn c) d zero h = conflicts.decided_told told c d.text d.ending zero h
 job_at told (GoldenIn g) d zero h = golden.tabled_told told g d.text d.ending zero h
 job_at told (PossibleFor p) d zero h = possible.decided_told told p d.text d.ending zero h
+job_at told (CertainTableFor t) d zero h = certain_table.tabled_told told t d.text d.ending zero h
+job_at told (PossibleTableFor t) d zero h = possible_table.tabled_told told t d.text d.ending zero h
 
 job : (texts : Option (List (List ℕ × List ℕ))) (c : CommandSaid) (d : Done) → status_of (Ok d) ≡ 0 → IfSome texts
     (λ told. IsTold told c d)
@@ -171,6 +191,62 @@ is_done texts count words old new wb wn d status t ends zero =
       written = ended.1;
     }
 
+-- ---- status 1
+
+-- no other question, no table and nothing that is just told ends so
+no_denial : (e : Ending) → IsOfQuestion e → ending_status e ≡ 1 → ⊥
+no_denial ending.Told of one = of
+no_denial ending.Decided of one = omega (arith, one)
+no_denial ending.Denied of one = of
+no_denial ending.Undecided of one = omega (arith, one)
+no_denial ending.Tabled of one = of
+no_denial ending.Inconsistent of one = of
+no_denial ending.Open of one = of
+
+no_table_denies : (e : Ending) → IsOfTable e → ending_status e ≡ 1 → ⊥
+no_table_denies ending.Told of one = of
+no_table_denies ending.Decided of one = of
+no_table_denies ending.Denied of one = of
+no_table_denies ending.Undecided of one = of
+no_table_denies ending.Tabled of one = omega (arith, one)
+no_table_denies ending.Inconsistent of one = omega (arith, one)
+no_table_denies ending.Open of one = omega (arith, one)
+
+no_at : (told : List (List ℕ × List ℕ)) (c : CommandSaid) (d : Done) → status_of (Ok d) ≡ 1 → IsTold told c d
+    → IsNo told c (output_of (Ok d))
+no_at told (AskFor a) d one h = ask.denied_told told a d.text d.ending one h
+no_at told (VerifyOf v) d one h = absurd (omega (arith, one, ap (λ (x : Done). ending_status x.ending) h.2))
+no_at told (ForcedOf name) d one h = absurd (omega (arith, one, ap (λ (x : Done). ending_status x.ending) h.2))
+no_at told (TrialOf size) d one h = absurd (no_denial d.ending (trial.of_question size d.text d.ending h) one)
+no_at told (ExplainFor e) d one h = absurd (no_denial d.ending (explain.of_question told e d.text d.ending h) one)
+no_at told (ConflictsIn c) d one h = absurd (no_denial d.ending (conflicts.of_question told c d.text d.ending h) one)
+no_at told (GoldenIn g) d one h = absurd (no_table_denies d.ending (golden.of_table told g d.text d.ending h) one)
+no_at told (PossibleFor p) d one h = absurd (no_denial d.ending (possible.of_question told p d.text d.ending h) one)
+no_at told (CertainTableFor t) d one h =
+    absurd (no_table_denies d.ending (certain_table.ends_as_table told t d.text d.ending h) one)
+no_at told (PossibleTableFor t) d one h =
+    absurd (no_table_denies d.ending (possible_table.of_table told t d.text d.ending h) one)
+
+no_told : (texts : Option (List (List ℕ × List ℕ))) (c : CommandSaid) (d : Done) → status_of (Ok d) ≡ 1
+    → IfSome texts (λ told. IsTold told c d) → IfSome texts (λ told. IsNo told c (output_of (Ok d)))
+no_told None c d one h = tt
+no_told (Some told) c d one h = no_at told c d one h
+
+pub is_denied : (texts : Option (List (List ℕ × List ℕ))) (count : ℕ) (words : List (List ℕ))
+    (old new : Option (List ℕ)) (wb wn : ℕ) (d : Done) (status : ℕ)
+    → IsToldFor texts count words d → EndsWith old new wb wn (Ok d) status → status ≡ 1 → IsDenied texts count words old new
+is_denied texts count words old new wb wn d status t ends one =
+    let ended : (status ≡ status_of (Ok d)) × Appends old new (output_of (Ok d)) =
+    written old new wb wn d status ends (not_at status 1 8 one (λ h. omega (arith, h)))
+    (not_at status 1 9 one (λ h. omega (arith, h))) in
+    record {
+      command = t.command;
+      said = t.said;
+      text = output_of (Ok d);
+      told = no_told texts t.command d (sym ended.0 ∙ one) t.told;
+      written = ended.1;
+    }
+
 -- ---- status 3
 
 spent_at : (told : List (List ℕ × List ℕ)) (c : CommandSaid) (d : Done) → status_of (Ok d) ≡ 3 → IsTold told c d
@@ -183,6 +259,8 @@ spent_at told (ExplainFor e) d three h = explain.spent_told told e d.text d.endi
 spent_at told (ConflictsIn c) d three h = conflicts.spent_told told c d.text d.ending three h
 spent_at told (GoldenIn g) d three h = golden.open_told told g d.text d.ending three h
 spent_at told (PossibleFor p) d three h = possible.spent_told told p d.text d.ending three h
+spent_at told (CertainTableFor t) d three h = certain_table.open_told told t d.text d.ending three h
+spent_at told (PossibleTableFor t) d three h = possible_table.open_told told t d.text d.ending three h
 
 spent : (texts : Option (List (List ℕ × List ℕ))) (c : CommandSaid) (d : Done) → status_of (Ok d) ≡ 3 → IfSome texts
     (λ told. IsTold told c d)
@@ -212,6 +290,7 @@ is_undecided texts count words old new wb wn d status t ends three =
 no_question : (e : Ending) → IsOfQuestion e → ending_status e ≡ 10 → ⊥
 no_question ending.Told of ten = of
 no_question ending.Decided of ten = omega (arith, ten)
+no_question ending.Denied of ten = of
 no_question ending.Undecided of ten = omega (arith, ten)
 no_question ending.Tabled of ten = of
 no_question ending.Inconsistent of ten = of
@@ -219,7 +298,7 @@ no_question ending.Open of ten = of
 
 bare_at : (told : List (List ℕ × List ℕ)) (c : CommandSaid) (d : Done) → status_of (Ok d) ≡ 10 → IsTold told c d
     → IsBare told c (output_of (Ok d))
-bare_at told (AskFor a) d ten h = absurd (no_question d.ending (ask.of_question told a d.text d.ending h) ten)
+bare_at told (AskFor a) d ten h = absurd (ask.not_bare told a d.text d.ending ten h)
 bare_at told (VerifyOf v) d ten h = absurd (omega (arith, ten, ap (λ (x : Done). ending_status x.ending) h.2))
 bare_at told (ForcedOf name) d ten h = absurd (omega (arith, ten, ap (λ (x : Done). ending_status x.ending) h.2))
 bare_at told (TrialOf size) d ten h = absurd (no_question d.ending (trial.of_question size d.text d.ending h) ten)
@@ -227,6 +306,8 @@ bare_at told (ExplainFor e) d ten h = absurd (no_question d.ending (explain.of_q
 bare_at told (ConflictsIn c) d ten h = absurd (no_question d.ending (conflicts.of_question told c d.text d.ending h) ten)
 bare_at told (GoldenIn g) d ten h = golden.bare_told told g d.text d.ending ten h
 bare_at told (PossibleFor p) d ten h = absurd (no_question d.ending (possible.of_question told p d.text d.ending h) ten)
+bare_at told (CertainTableFor t) d ten h = certain_table.bare_told told t d.text d.ending ten h
+bare_at told (PossibleTableFor t) d ten h = possible_table.bare_told told t d.text d.ending ten h
 
 bare : (texts : Option (List (List ℕ × List ℕ))) (c : CommandSaid) (d : Done) → status_of (Ok d) ≡ 10
     → IfSome texts (λ told. IsTold told c d) → IfSome texts (λ told. IsBare told c (output_of (Ok d)))

@@ -4,19 +4,22 @@ use Rattle.ask_command.proofs.Replies.{ask_like}
 use Rattle.command_stages.proofs.OneRead.{IsOne}
 use Rattle.command_stages.proofs.Outcomes.{IsLike, same_alike}
 use Rattle.command_stages.specs.Alike.{AreAlike}
-use Rattle.command_stages.specs.Stages.{IsSpecRead, IsQuestionRead}
+use Rattle.command_stages.specs.Stages.{IsSpecRead, IsQuestionRead, IsQuestionTree}
 use Rattle.command_stages.specs.declared.done.Done.{Done}
 use Rattle.command_stages.specs.declared.trouble.Trouble.{Trouble}
 use Rattle.command_stages.specs.declared.trouble.Trouble.TheVariants as trouble
 use Rattle.conflicts_command.proofs.Replies.{conflicts_like}
 use Rattle.golden_command.proofs.Replies.{golden_like}
+use Rattle.certain_table.proofs.Replies.{certain_like}
 use Rattle.possible_command.proofs.Replies.{possible_like}
+use Rattle.possible_table.proofs.Replies.{possible_table_like}
 use Rattle.currency_cli.specs.Due.{IsDueFor, IsDue}
 use Rattle.currency_cli.specs.Words.{command_for}
 use Rattle.explain_command.proofs.Replies.{explain_like}
 use Rattle.forced_command.proofs.Replies.{forced_like}
 use Rattle.spec_model.specs.declared.relation.Relation.{Relation}
-use Rattle.program_words.specs.Words.{VerifySaid, CommandSaid, AskFor, VerifyOf, ForcedOf, TrialOf, ExplainFor, ConflictsIn, GoldenIn, PossibleFor}
+use Rattle.program_words.specs.Words.{AskFor, CertainTableFor, CommandSaid, ConflictsIn, ExplainFor, ForcedOf, GoldenIn}
+use Rattle.program_words.specs.Words.{PossibleFor, PossibleTableFor, TrialOf, VerifyOf, VerifySaid}
 use Rattle.trial_command.proofs.Replies.{trial_like}
 use Rattle.trial_documents.specs.Documents.{documents}
 use Rattle.verify_command.specs.Judged.{IsVerifyDue}
@@ -26,6 +29,7 @@ pub record Laws : Type 0 where
   pub specs : (told : List (List ℕ × List ℕ)) (name : List ℕ) → IsOne (IsSpecRead told name)
   pub questions : (told : List (List ℕ × List ℕ)) (relations : List Relation) (name : List ℕ)
       → IsOne (IsQuestionRead told relations name)
+  pub trees : (name bytes : List ℕ) → IsOne (IsQuestionTree name bytes)
   pub verdicts : (told : List (List ℕ × List ℕ)) (v : VerifySaid) → IsOne (IsVerifyDue told v)
 
 for_command : Laws → (told : List (List ℕ × List ℕ)) (c : CommandSaid) → IsLike (IsDueFor told c)
@@ -37,6 +41,9 @@ for_command laws told (ExplainFor e) a b h k = explain_like laws.specs laws.ques
 for_command laws told (ConflictsIn c) a b h k = conflicts_like laws.specs told c a b h k
 for_command laws told (GoldenIn g) a b h k = golden_like laws.specs told g a b h k
 for_command laws told (PossibleFor p) a b h k = possible_like laws.specs laws.questions told p a b h k
+for_command laws told (CertainTableFor t) a b h k = certain_like laws.trees laws.specs laws.questions told t a b h k
+for_command laws told (PossibleTableFor t) a b h k =
+    possible_table_like laws.trees laws.specs laws.questions told t a b h k
 
 for_words : Laws → (told : List (List ℕ × List ℕ)) (o : Option CommandSaid) (a b : Result Done Trouble)
     → MatchOption o (a ≡ Err trouble.Words) (λ c. IsDueFor told c a) → MatchOption o (b ≡ Err trouble.Words)

@@ -33,6 +33,7 @@ its_own old new wb wn e status (inr (inr h)) refusal = absurd (other status 9 h.
 not_done : (e : Ending) (status : ℕ) → status ≡ ending_status e → IsRefusal status → ⊥
 not_done ending.Told status is refusal = other status 0 is (omega arith) (omega arith) (omega arith) (omega arith) refusal
 not_done ending.Decided status is refusal = other status 0 is (omega arith) (omega arith) (omega arith) (omega arith) refusal
+not_done ending.Denied status is refusal = other status 1 is (omega arith) (omega arith) (omega arith) (omega arith) refusal
 not_done ending.Undecided status is refusal = other status 3 is (omega arith) (omega arith) (omega arith) (omega arith) refusal
 not_done ending.Tabled status is refusal = other status 0 is (omega arith) (omega arith) (omega arith) (omega arith) refusal
 not_done ending.Inconsistent status is refusal =

@@ -1,7 +1,10 @@
 -- Where the documents of a command are read, its job is done, or what hinders it is told.
 use Rattle.std.proofs.Common.{◌≡◌, ◌⊎◌, ◌∙◌, ℕ, List, Option, Some, None, IfSome, MatchOption, Result, Ok, Err, ap, subst, inl, inr}
+use Rattle.answer_tables.proofs.Stages.{query_due}
 use Rattle.ask_command.proofs.Replies.{answer_due, answer_comes}
-use Rattle.ask_command.specs.Asked.{IsAskDue}
+use Rattle.certain_table.proofs.Replies.{certain_comes}
+use Rattle.certain_table.specs.Table.{ComesToTable, IsCertainTableDue, IsCertainTableOf}
+use Rattle.ask_command.specs.Asked.{ComesToAsked, IsAskDue}
 use Rattle.command_stages.specs.Named.{IsSettled, IsReadFault}
 use Rattle.command_stages.specs.Stages.{IsSpecRead, IsQuestionRead}
 use Rattle.command_stages.specs.declared.done.Done.{Done}
@@ -14,7 +17,10 @@ use Rattle.golden_command.specs.Asked.{relation_named}
 use Rattle.golden_command.specs.Golden.{IsGoldenDue, IsGoldenFound}
 use Rattle.possible_command.proofs.Replies.{ComesToPossible, possible_comes, possible_due}
 use Rattle.possible_command.specs.Possible.{IsPossibleDue}
+use Rattle.possible_table.proofs.Replies.{possible_table_comes}
+use Rattle.possible_table.specs.Table.{ComesToPossibleTable, IsPossibleTableDue, IsPossibleTableOf}
 use Rattle.possible_values.specs.Candidates.{HasTooManyCandidates}
+use Rattle.query_model.specs.declared.query.Query.{Query}
 use Rattle.currency_cli.proofs.Exact.{own_status}
 use Rattle.currency_cli.specs.Due.{IsDue, IsDueFor}
 use Rattle.currency_cli.specs.Ends.{EndsWith}
@@ -26,11 +32,13 @@ use Rattle.currency_cli.proofs.Explains.{explanation_due, explanation_comes}
 use Rattle.explain_command.specs.Explained.{IsExplainDue}
 use Rattle.forced_command.proofs.Replies.{told_due}
 use Rattle.forced_command.specs.Forced.{IsForcedDue, IsForcedTold}
-use Rattle.program_words.specs.Words.{AskSaid, ConflictsSaid, ExplainSaid, GoldenSaid, PossibleSaid, VerifySaid, CommandSaid}
-use Rattle.program_words.specs.Words.{AskFor, ConflictsIn, ExplainFor, GoldenIn, PossibleFor, VerifyOf, ForcedOf}
+use Rattle.program_words.specs.Words.{AskSaid, CommandSaid, ConflictsSaid, ExplainSaid, GoldenSaid, PossibleSaid, TableSaid}
+use Rattle.program_words.specs.Words.{AskFor, CertainTableFor, ConflictsIn, ExplainFor, ForcedOf, GoldenIn, PossibleFor}
+use Rattle.program_words.specs.Words.{PossibleTableFor, VerifyOf, VerifySaid}
 use Rattle.report_model.specs.declared.verdict.Kind.{Kind}
 use Rattle.spec_model.specs.Spec.{Spec}
 use Rattle.spec_model.specs.declared.question.Question.{Question}
+use Rattle.spec_model.specs.declared.question.Question.TheVariants as asked
 use Rattle.spec_model.specs.declared.relation.Relation.{Relation}
 use Rattle.told_answers.specs.Answers.{ComesToAnswer}
 use Rattle.verify_command.proofs.Judging.{verify_judged}
@@ -64,7 +72,7 @@ pub answered : OneSpec → OneQuestion → (texts : Option (List (List ℕ × Li
     → EndsWith old new wb wn got status
     → (Rose rb rn → ⊥) → (Rose wb wn → ⊥) → (a : AskSaid) → command_for count words ≡ Some (AskFor a) → (s : Spec) (q : Question)
     → IfSome texts (λ told. IsSpecRead told a.spec (Ok s) → IsQuestionRead told s.relations a.question (Ok q)
-    → ComesToAnswer s q status)
+    → ComesToAsked s a q status)
 answered one_spec one_question None count words got old new rb rn wb wn status due rose ends reads writes a said s q = tt
 answered one_spec one_question (Some told) count words got old new rb rn wb wn status due rose ends reads writes a
     said s q = λ spec question.
@@ -72,11 +80,11 @@ answered one_spec one_question (Some told) count words got old new rb rn wb wn s
   where
     of : IsSpecRead told a.spec (Ok s) → IsQuestionRead told s.relations a.question (Ok q) →
         (IsSettled got × (status ≡ status_of got)) ⊎ (status ≡ 9)
-        → ComesToAnswer s q status
+        → ComesToAsked s a q status
     of spec question (inl own) =
         answer_comes s a q got status (answer_due one_spec one_question told a s q got spec question
         (ask_due told count words a got said (due own.0))) own.1
-    of spec question (inr nine) = inr (inr (inr nine))
+    of spec question (inr nine) = inr (inr (inr (inr nine)))
 
 -- ---- verify
 
@@ -267,3 +275,64 @@ imagined one_spec one_question (Some told) count words got old new rb rn wb wn s
         decided_or_limit s q status (possible_comes s p q got status (possible_due one_spec one_question told p s q got spec question
         (imagine_due told count words p got said (due own.0))) own.1)
     of spec question (inr nine) = inr (inr (inr nine))
+
+-- ---- tables of answers
+
+certain_table_due : (told : List (List ℕ × List ℕ)) (count : ℕ) (words : List (List ℕ)) (t : TableSaid) (got : Result Done Trouble)
+    → command_for count words ≡ Some (CertainTableFor t) → IsDue told count words got → IsCertainTableDue told t got
+certain_table_due told count words t got said due =
+    subst (λ (o : Option CommandSaid). MatchOption o (got ≡ Err trouble.Words) (λ x. IsDueFor told x got)) said due
+
+pub tabled : OneSpec → OneQuestion → (texts : Option (List (List ℕ × List ℕ))) (count : ℕ) (words : List (List ℕ))
+    (got : Result Done Trouble)
+    (old new : Option (List ℕ)) (rb rn wb wn status : ℕ)
+    → (IsSettled got → IfSome texts (λ told. IsDue told count words got)) → (IsReadFault got → Rose rb rn)
+    → EndsWith old new wb wn got status
+    → (Rose rb rn → ⊥) → (Rose wb wn → ⊥) → (t : TableSaid) → command_for count words ≡ Some (CertainTableFor t)
+    → (s : Spec) (query : Query)
+    → IfSome texts (λ told. IsSpecRead told t.spec (Ok s)
+    → IsQuestionRead told s.relations t.question (Ok (asked.Answers query))
+    → ComesToTable s (asked.Answers query) status ⊎ (status ≡ 9))
+tabled one_spec one_question None count words got old new rb rn wb wn status due rose ends reads writes t said s query = tt
+tabled one_spec one_question (Some told) count words got old new rb rn wb wn status due rose ends reads writes t said s
+    query = λ spec question.
+    of spec question (own_status got old new rb rn wb wn status rose ends reads writes)
+  where
+    of : IsSpecRead told t.spec (Ok s) → IsQuestionRead told s.relations t.question (Ok (asked.Answers query))
+        → (IsSettled got × (status ≡ status_of got)) ⊎ (status ≡ 9)
+        → ComesToTable s (asked.Answers query) status ⊎ (status ≡ 9)
+    of spec question (inl own) =
+        let job = query_due told t (IsCertainTableOf t.budget) one_spec one_question s query got spec question
+        (certain_table_due told count words t got said (due own.0)) in
+        inl (certain_comes t.budget s (asked.Answers query) job.0 got status job.1 own.1)
+    of spec question (inr nine) = inr nine
+
+possible_table_due : (told : List (List ℕ × List ℕ)) (count : ℕ) (words : List (List ℕ)) (t : TableSaid) (got : Result Done Trouble)
+    → command_for count words ≡ Some (PossibleTableFor t) → IsDue told count words got → IsPossibleTableDue told t got
+possible_table_due told count words t got said due =
+    subst (λ (o : Option CommandSaid). MatchOption o (got ≡ Err trouble.Words) (λ x. IsDueFor told x got)) said due
+
+pub possibly_tabled : OneSpec → OneQuestion → (texts : Option (List (List ℕ × List ℕ))) (count : ℕ) (words : List (List ℕ))
+    (got : Result Done Trouble)
+    (old new : Option (List ℕ)) (rb rn wb wn status : ℕ)
+    → (IsSettled got → IfSome texts (λ told. IsDue told count words got)) → (IsReadFault got → Rose rb rn)
+    → EndsWith old new wb wn got status
+    → (Rose rb rn → ⊥) → (Rose wb wn → ⊥) → (t : TableSaid) → command_for count words ≡ Some (PossibleTableFor t)
+    → (s : Spec) (query : Query)
+    → IfSome texts (λ told. IsSpecRead told t.spec (Ok s)
+    → IsQuestionRead told s.relations t.question (Ok (asked.Answers query))
+    → ComesToPossibleTable s (asked.Answers query) status ⊎ (status ≡ 9))
+possibly_tabled one_spec one_question None count words got old new rb rn wb wn status due rose ends reads writes t said s
+    query = tt
+possibly_tabled one_spec one_question (Some told) count words got old new rb rn wb wn status due rose ends reads writes t
+    said s query = λ spec question.
+    of spec question (own_status got old new rb rn wb wn status rose ends reads writes)
+  where
+    of : IsSpecRead told t.spec (Ok s) → IsQuestionRead told s.relations t.question (Ok (asked.Answers query))
+        → (IsSettled got × (status ≡ status_of got)) ⊎ (status ≡ 9)
+        → ComesToPossibleTable s (asked.Answers query) status ⊎ (status ≡ 9)
+    of spec question (inl own) =
+        let job = query_due told t (IsPossibleTableOf t.budget) one_spec one_question s query got spec question
+        (possible_table_due told count words t got said (due own.0)) in
+        inl (possible_table_comes t.budget s (asked.Answers query) job.0 got status job.1 own.1)
+    of spec question (inr nine) = inr nine

@@ -1,6 +1,8 @@
 -- What is due for words and told documents: the words, and then what is due for the command that they say.
 use Rattle.std.specs.Prelude.{◌≡◌, ℕ, List, Result, Err, MatchOption}
+use Rattle.answer_tables.specs.Asked.{IsTableDocumentDue}
 use Rattle.ask_command.specs.Asked.{IsAskDue, IsAskDocumentDue}
+use Rattle.certain_table.specs.Table.{IsCertainTableDue}
 use Rattle.command_stages.specs.Documents.{IsSpecDocumentDue}
 use Rattle.command_stages.specs.declared.done.Done.{Done}
 use Rattle.command_stages.specs.declared.trouble.Trouble.{Trouble}
@@ -11,7 +13,9 @@ use Rattle.explain_command.specs.Explained.{IsExplainDue, IsExplainDocumentDue}
 use Rattle.forced_command.specs.Forced.{IsForcedDue}
 use Rattle.golden_command.specs.Golden.{IsGoldenDue}
 use Rattle.possible_command.specs.Possible.{IsPossibleDocumentDue, IsPossibleDue}
-use Rattle.program_words.specs.Words.{CommandSaid, AskFor, VerifyOf, ForcedOf, TrialOf, ExplainFor, ConflictsIn, GoldenIn, PossibleFor}
+use Rattle.possible_table.specs.Table.{IsPossibleTableDue}
+use Rattle.program_words.specs.Words.{AskFor, CertainTableFor, CommandSaid, ConflictsIn, ExplainFor, ForcedOf, GoldenIn}
+use Rattle.program_words.specs.Words.{PossibleFor, PossibleTableFor, TrialOf, VerifyOf}
 use Rattle.trial_command.specs.Trial.{IsTrialDue}
 use Rattle.verify_command.specs.Judged.{IsVerifyDue, IsVerifyDocumentDue}
 
@@ -25,6 +29,8 @@ IsDueFor told (ExplainFor e) outcome = IsExplainDue told e outcome
 IsDueFor told (ConflictsIn c) outcome = IsConflictsDue told c outcome
 IsDueFor told (GoldenIn g) outcome = IsGoldenDue told g outcome
 IsDueFor told (PossibleFor p) outcome = IsPossibleDue told p outcome
+IsDueFor told (CertainTableFor t) outcome = IsCertainTableDue told t outcome
+IsDueFor told (PossibleTableFor t) outcome = IsPossibleTableDue told t outcome
 
 -- what is due for words, where so many guides are handed in
 abbrev pub IsDue : List (List ℕ × List ℕ) → ℕ → List (List ℕ) → Result Done Trouble → Type 0
@@ -41,6 +47,8 @@ IsDocumentDue told (ExplainFor e) name = IsExplainDocumentDue told e name
 IsDocumentDue told (ConflictsIn c) name = IsSpecDocumentDue told c.spec name
 IsDocumentDue told (GoldenIn g) name = IsSpecDocumentDue told g.spec name
 IsDocumentDue told (PossibleFor p) name = IsPossibleDocumentDue told p name
+IsDocumentDue told (CertainTableFor t) name = IsTableDocumentDue told t name
+IsDocumentDue told (PossibleTableFor t) name = IsTableDocumentDue told t name
 
 -- a document of this name is due to be read for these words
 abbrev pub IsReadDue : List (List ℕ × List ℕ) → ℕ → List (List ℕ) → List ℕ → Type 0

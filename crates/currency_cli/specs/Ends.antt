@@ -1,12 +1,13 @@
 -- How the program ends: with which status, and what its sink got.
 use Rattle.std.specs.Prelude.{◌≡◌, ◌⊎◌, ℕ, List, Option, Some, IfSome, Result, Ok, Err}
 use Rattle.std.specs.Io.KnownBytes.{Appends}
-use Rattle.ask_command.specs.Asked.{IsAnswerTold, IsAskSpent}
+use Rattle.ask_command.specs.Asked.{IsAnswerTold, IsAskDenied, IsAskSpent}
+use Rattle.certain_table.specs.Table.{IsCertainTabled, IsTableBare, IsTableShort}
 use Rattle.command_stages.specs.Outcomes.{output_of, status_of}
 use Rattle.command_stages.specs.Texts.{trouble_text, trouble_status}
 use Rattle.command_stages.specs.declared.done.Done.{Done}
 use Rattle.command_stages.specs.declared.done.Ending.{Ending}
-use Rattle.command_stages.specs.declared.done.Ending.TheVariants.{Told, Decided, Undecided, Tabled, Inconsistent, Open}
+use Rattle.command_stages.specs.declared.done.Ending.TheVariants.{Told, Decided, Denied, Undecided, Tabled, Inconsistent, Open}
 use Rattle.command_stages.specs.declared.trouble.Trouble.{Trouble}
 use Rattle.command_stages.specs.declared.trouble.Trouble.TheVariants.{Limit, ReadFault}
 use Rattle.conflicts_command.specs.Found.{AreConflictsTold}
@@ -18,7 +19,9 @@ use Rattle.explain_command.specs.Explained.{IsExplainTold}
 use Rattle.forced_command.specs.Forced.{AreForcedListed}
 use Rattle.golden_command.specs.Golden.{IsGoldenTold}
 use Rattle.possible_command.specs.Possible.{IsPossibleTold}
-use Rattle.program_words.specs.Words.{CommandSaid, AskFor, VerifyOf, ForcedOf, TrialOf, ExplainFor, ConflictsIn, GoldenIn, PossibleFor}
+use Rattle.possible_table.specs.Table.{IsPossibleTableBare, IsPossibleTableShort, IsPossibleTabled}
+use Rattle.program_words.specs.Words.{AskFor, CertainTableFor, CommandSaid, ConflictsIn, ExplainFor, ForcedOf, GoldenIn}
+use Rattle.program_words.specs.Words.{PossibleFor, PossibleTableFor, TrialOf, VerifyOf}
 use Rattle.report_model.specs.declared.verdict.Kind.{Kind}
 use Rattle.trial_command.specs.Trial.{IsTrialTold, IsTrialSpent}
 use Rattle.verify_command.specs.Judged.{accepted_text}
@@ -48,6 +51,8 @@ IsJobDone told (ExplainFor e) text = IsExplainTold told e text Decided
 IsJobDone told (ConflictsIn c) text = AreConflictsTold told c text Decided
 IsJobDone told (GoldenIn g) text = IsGoldenTold told g text Tabled
 IsJobDone told (PossibleFor p) text = IsPossibleTold told p text Decided
+IsJobDone told (CertainTableFor t) text = IsCertainTabled told t text
+IsJobDone told (PossibleTableFor t) text = IsPossibleTabled told t text
 
 -- the words say a command whose job is done: the documents show what is told, and the sink got the text
 pub record IsDone (texts : Option (List (List ℕ × List ℕ))) (count : ℕ) (words : List (List ℕ))
@@ -56,6 +61,20 @@ pub record IsDone (texts : Option (List (List ℕ × List ℕ))) (count : ℕ) (
   pub said : command_for count words ≡ Some command
   pub text : List ℕ
   pub done : IfSome texts (λ told. IsJobDone told command text)
+  pub written : Appends old new text
+
+-- the answer to a question is no, and the words ask for a status that tells it
+abbrev pub IsNo : List (List ℕ × List ℕ) → CommandSaid → List ℕ → Type 0
+IsNo told (AskFor a) text = IsAskDenied told a text
+IsNo told command text = ⊥
+
+-- the words say a question of which that is so: the sink got the text of its answer
+pub record IsDenied (texts : Option (List (List ℕ × List ℕ))) (count : ℕ) (words : List (List ℕ))
+    (old new : Option (List ℕ)) : Type 0 where
+  pub command : CommandSaid
+  pub said : command_for count words ≡ Some command
+  pub text : List ℕ
+  pub told : IfSome texts (λ told. IsNo told command text)
   pub written : Appends old new text
 
 -- a question of the command was not decided: this is the whole report, whose log has as many counted steps as the
@@ -67,6 +86,8 @@ IsSpent told (ExplainFor e) text = IsExplainTold told e text Undecided
 IsSpent told (ConflictsIn c) text = AreConflictsTold told c text Undecided
 IsSpent told (GoldenIn g) text = IsGoldenTold told g text Open
 IsSpent told (PossibleFor p) text = IsPossibleTold told p text Undecided
+IsSpent told (CertainTableFor t) text = IsTableShort told t text
+IsSpent told (PossibleTableFor t) text = IsPossibleTableShort told t text
 IsSpent told command text = ⊥
 
 -- the words ask a question that was not decided: the sink got the whole report
@@ -81,6 +102,8 @@ pub record IsUndecided (texts : Option (List (List ℕ × List ℕ))) (count : �
 -- a table was asked for, and there is no consistent completion of which it could tell
 abbrev pub IsBare : List (List ℕ × List ℕ) → CommandSaid → List ℕ → Type 0
 IsBare told (GoldenIn g) text = IsGoldenTold told g text Inconsistent
+IsBare told (CertainTableFor t) text = IsTableBare told t text
+IsBare told (PossibleTableFor t) text = IsPossibleTableBare told t text
 IsBare told command text = ⊥
 
 -- the words ask for a table of which that is so: the sink got the text that says it
@@ -94,15 +117,17 @@ pub record IsInconsistent (texts : Option (List (List ℕ × List ℕ))) (count 
 
 -- ---- the other way round
 
--- a job that ends so has this status: an answer may be decided or not, and a query may have more answers over one completion than
--- are gone through, and fewer over another; a table may be whole or not, or there is nothing that it could tell of
+-- a job that ends so has this status: an answer may be decided or not, with a no that the status tells or without one, and a query
+-- may have more answers over one completion than are gone through, and fewer over another; a table may be whole or not, or there is nothing that it could tell of, or, where it is
+-- one of answers, they are too many over one completion
 abbrev pub HasEndStatus : Ending → ℕ → Type 0
 HasEndStatus Told status = status ≡ 0
 HasEndStatus Decided status = (status ≡ 0) ⊎ ((status ≡ 3) ⊎ (status ≡ 6))
-HasEndStatus Undecided status = (status ≡ 0) ⊎ ((status ≡ 3) ⊎ (status ≡ 6))
-HasEndStatus Tabled status = (status ≡ 0) ⊎ ((status ≡ 3) ⊎ (status ≡ 10))
+HasEndStatus Denied status = (status ≡ 1) ⊎ (status ≡ 3)
+HasEndStatus Undecided status = (status ≡ 1) ⊎ ((status ≡ 0) ⊎ ((status ≡ 3) ⊎ (status ≡ 6)))
+HasEndStatus Tabled status = (status ≡ 0) ⊎ ((status ≡ 3) ⊎ ((status ≡ 10) ⊎ (status ≡ 6)))
 HasEndStatus Inconsistent status = (status ≡ 0) ⊎ ((status ≡ 3) ⊎ (status ≡ 10))
-HasEndStatus Open status = (status ≡ 0) ⊎ ((status ≡ 3) ⊎ (status ≡ 10))
+HasEndStatus Open status = (status ≡ 0) ⊎ ((status ≡ 3) ⊎ ((status ≡ 10) ⊎ (status ≡ 6)))
 
 -- an outcome has a status, its text being written
 abbrev pub HasStatus : Result Done Trouble → ℕ → Type 0

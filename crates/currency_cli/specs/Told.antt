@@ -1,6 +1,7 @@
 -- What is told where a command comes to something.
 use Rattle.std.specs.Prelude.{◌≡◌, ℕ, List, Option, Some, IfSome, Ok}
 use Rattle.ask_command.specs.Asked.{IsAnswerTold}
+use Rattle.certain_table.specs.Table.{IsCertainTableTold}
 use Rattle.command_stages.specs.declared.done.Done.{Done}
 use Rattle.conflicts_command.specs.Found.{AreConflictsTold}
 use Rattle.currency_cli.specs.Words.{command_for}
@@ -8,7 +9,9 @@ use Rattle.explain_command.specs.Explained.{IsExplainTold}
 use Rattle.forced_command.specs.Forced.{AreForcedTold}
 use Rattle.golden_command.specs.Golden.{IsGoldenTold}
 use Rattle.possible_command.specs.Possible.{IsPossibleTold}
-use Rattle.program_words.specs.Words.{CommandSaid, AskFor, VerifyOf, ForcedOf, TrialOf, ExplainFor, ConflictsIn, GoldenIn, PossibleFor}
+use Rattle.possible_table.specs.Table.{IsPossibleTableTold}
+use Rattle.program_words.specs.Words.{AskFor, CertainTableFor, CommandSaid, ConflictsIn, ExplainFor, ForcedOf, GoldenIn}
+use Rattle.program_words.specs.Words.{PossibleFor, PossibleTableFor, TrialOf, VerifyOf}
 use Rattle.trial_command.specs.Trial.{IsTrialDue}
 use Rattle.verify_command.specs.Shown.{IsVerifyTold}
 
@@ -22,6 +25,8 @@ IsTold told (ExplainFor e) d = IsExplainTold told e d.text d.ending
 IsTold told (ConflictsIn c) d = AreConflictsTold told c d.text d.ending
 IsTold told (GoldenIn g) d = IsGoldenTold told g d.text d.ending
 IsTold told (PossibleFor p) d = IsPossibleTold told p d.text d.ending
+IsTold told (CertainTableFor t) d = IsCertainTableTold told t d.text d.ending
+IsTold told (PossibleTableFor t) d = IsPossibleTableTold told t d.text d.ending
 
 -- words say a command that came to this
 pub record IsToldFor (texts : Option (List (List ℕ × List ℕ))) (count : ℕ) (words : List (List ℕ)) (d : Done) : Type 0 where

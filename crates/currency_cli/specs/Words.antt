@@ -1,6 +1,7 @@
 -- The commands that words say, where so many guides are handed in.
 use Rattle.std.specs.Prelude.{◌≤◌, ℕ, Bool, true, List, Option, Some, None, nat_le, option_and_then, if◌then◌else◌}
-use Rattle.program_words.specs.Words.{CommandSaid, AskFor, VerifyOf, ForcedOf, TrialOf, ExplainFor, ConflictsIn, GoldenIn, PossibleFor, command_of}
+use Rattle.program_words.specs.Words.{AskFor, CertainTableFor, CommandSaid, ConflictsIn, ExplainFor, ForcedOf, GoldenIn}
+use Rattle.program_words.specs.Words.{PossibleFor, PossibleTableFor, TrialOf, VerifyOf, command_of}
 
 -- the guide that is to be kept, if one is, is among so many, counted from 1
 abbrev pub is_guide : ℕ → Option ℕ → Bool
@@ -17,6 +18,8 @@ with_guides count (ExplainFor e) = if is_guide count e.guide then Some (ExplainF
 with_guides count (ConflictsIn c) = if is_guide count c.guide then Some (ConflictsIn c) else None
 with_guides count (GoldenIn g) = if is_guide count g.guide then Some (GoldenIn g) else None
 with_guides count (PossibleFor p) = if is_guide count p.guide then Some (PossibleFor p) else None
+with_guides count (CertainTableFor t) = if is_guide count t.guide then Some (CertainTableFor t) else None
+with_guides count (PossibleTableFor t) = if is_guide count t.guide then Some (PossibleTableFor t) else None
 
 -- the numbers of a command are in their ranges
 abbrev pub IsInRange : CommandSaid → Type 0
@@ -26,6 +29,8 @@ IsInRange (ExplainFor e) = (1 ≤ e.unit) × (e.budget ≤ 10000000)
 IsInRange (ConflictsIn c) = c.budget ≤ 10000000
 IsInRange (GoldenIn g) = g.budget ≤ 10000000
 IsInRange (PossibleFor p) = p.budget ≤ 10000000
+IsInRange (CertainTableFor t) = t.budget ≤ 10000000
+IsInRange (PossibleTableFor t) = t.budget ≤ 10000000
 IsInRange other = Unit {0}
 
 -- the command that words say where so many guides are handed in; none where they are refused

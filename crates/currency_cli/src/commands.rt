@@ -11,6 +11,7 @@ ghost use Rattle.command_stages.specs.Named.{IsSettled, IsReadFault, IsReadFault
 
 use crate::words::command_kept;
 use ask_command::ask_documents;
+use certain_table::certain_documents;
 use command_stages::{Done, Trouble};
 use conflicts_command::conflicts_document;
 use currency_edge::Shelf;
@@ -18,6 +19,7 @@ use explain_command::explain_documents;
 use forced_command::forced_document;
 use golden_command::golden_document;
 use possible_command::possible_documents;
+use possible_table::possible_table_documents;
 use program_words::Command;
 use solver_guides::Guides;
 use std::alloc::Global;
@@ -51,6 +53,8 @@ fn outcome_of<S: Shelf>(
         Command::Conflicts(asked) => conflicts_document(alloc, shelf, asked, guides),
         Command::Golden(asked) => golden_document(alloc, shelf, asked, guides),
         Command::Possible(asked) => possible_documents(alloc, shelf, asked, guides),
+        Command::CertainTable(asked) => certain_documents(alloc, shelf, asked, guides),
+        Command::PossibleTable(asked) => possible_table_documents(alloc, shelf, asked, guides),
     }
 }
 

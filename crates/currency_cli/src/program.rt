@@ -1,24 +1,12 @@
-ghost use Rattle.std.specs.Prelude.{◌≡◌, ◌≢◌, ◌⊎◌, ℕ, List, IfSome, None, Some, Ok, Err, Result, map, string_bytes};
+ghost use Rattle.std.specs.Prelude.{◌≡◌, None, Ok, Err, map, string_bytes};
+ghost use Rattle.command_stages.specs.declared.done.Done.{Done};
+ghost use Rattle.currency_cli.specs.Clauses.{Answered, Blames, Complete, Ends, Exact, Explains, Imagines, Listed, PossiblyTables};
+ghost use Rattle.currency_cli.specs.Clauses.{Records, Refused, Steady, Tables, Tries, Verified, WordsRefused};
+ghost use Rattle.currency_cli.specs.Ends.{EndsWith, IsDenied, IsDone, IsInconsistent, IsUndecided, NamesUnread};
+ghost use Rattle.currency_cli.specs.Words.{command_for};
 ghost use Rattle.currency_edge.specs.Fault.{Rose};
 ghost use Rattle.currency_edge.specs.Sink.{AppendsPrefix};
-ghost use Rattle.command_stages.specs.Stages.{IsSpecRead, IsQuestionRead};
-ghost use Rattle.report_stages.specs.Judged.{IsReportRead};
-ghost use Rattle.told_answers.specs.Answers.{ComesToAnswer};
-ghost use Rattle.currency_cli.specs.Due.{IsDue, IsReadDue};
-ghost use Rattle.currency_cli.specs.Ends.{EndsWith, ComesTo, HasStatus, IsRefusal, RefusalDue, IsDone, IsInconsistent, IsUndecided, NamesUnread};
-ghost use Rattle.command_stages.specs.Named.{IsSettled, IsReadFault, IsReadFaultOf};
-ghost use Rattle.currency_cli.specs.Words.{command_for};
-ghost use Rattle.command_stages.specs.declared.done.Done.{Done};
-ghost use Rattle.golden_command.specs.Asked.{relation_named};
-ghost use Rattle.possible_values.specs.Candidates.{HasTooManyCandidates};
-ghost use Rattle.program_words.specs.Words.{AskSaid, ConflictsSaid, ExplainSaid, GoldenSaid, PossibleSaid, VerifySaid};
-ghost use Rattle.program_words.specs.Words.{AskFor, ConflictsIn, ExplainFor, GoldenIn, PossibleFor, VerifyOf, ForcedOf, TrialOf};
-ghost use Rattle.currency_report.specs.declared.report.ReadReport.{ReadReport};
-ghost use Rattle.trial_command.specs.Trial.{IsTrialDue};
 ghost use Rattle.solver_guides.specs.Rings.{count_of};
-ghost use Rattle.spec_model.specs.Spec.{Spec};
-ghost use Rattle.spec_model.specs.declared.question.Question.{Question};
-ghost use Rattle.command_stages.specs.declared.trouble.Trouble.{Trouble};
 
 use crate::commands::outcome;
 use crate::laws::one_due;
@@ -60,13 +48,14 @@ fn refuse<K: Sink>(alloc: Global, out: &mut K, trouble: &Trouble) -> u8
 /// | status | comes |
 /// |---|---|
 /// | 0 | the job was done: it is decided, the report shows its verdict, or what was asked for is listed |
+/// | 1 | the answer is no, and the words ask for a status that tells it |
 /// | 2 | the words are no command, or keep a guide that is not there |
 /// | 3 | the budget is spent; the text is the whole report, which says `undecided` |
 /// | 4 | the report does not show its verdict |
 /// | 5 | a document is refused |
 /// | 6 | a limit is exceeded |
 /// | 7 | the shelf could not give a document |
-/// | 8 | the sink could not take the text of status 0, 3 or 10 |
+/// | 8 | the sink could not take the text of status 0, 1, 3 or 10 |
 /// | 9 | want of memory |
 /// | 10 | a table was asked for, and there is no consistent completion of which it could tell |
 pub fn run<S: Shelf, K: Sink>(
@@ -77,87 +66,65 @@ pub fn run<S: Shelf, K: Sink>(
     guides: &mut Guides,
 ) -> u8
     // Whatever comes, it is what is due for the words and the told documents, with its text and status.
-    ensures ends { (outcome : Result Done Trouble)
-        × (IsSettled outcome → IfSome (S.texts shelf.old) (λ told. IsDue told (count_of guides.old)
-        (map (λ w. string_bytes w) words.now) outcome))
-        × (IsReadFault outcome → Rose (S.faults shelf.old) (S.faults shelf.new))
-        × ((n : List ℕ) → IsReadFaultOf outcome n → IfSome (S.texts shelf.old)
-        (λ told. IsReadDue told (count_of guides.old) (map (λ w. string_bytes w) words.now) n))
-        × EndsWith (K.written out.old) (K.written out.new) (K.faults out.old) (K.faults out.new) outcome result }
+    ensures ends { Ends (S.texts shelf.old) (count_of guides.old) (map (λ w. string_bytes w) words.now) (S.faults shelf.old)
+        (S.faults shelf.new) (K.written out.old) (K.written out.new) (K.faults out.old) (K.faults out.new) result }
 
     // The other way round: where an outcome is due, the answer is its status, unless the outside fails.
-    ensures exact { (outcome : Result Done Trouble) → IfSome (S.texts shelf.old) (λ told.
-        IsDue told (count_of guides.old) (map (λ w. string_bytes w) words.now) outcome
-        → ComesTo outcome (S.faults shelf.old) (S.faults shelf.new) (K.faults out.old) (K.faults out.new) result) }
+    ensures exact { Exact (S.texts shelf.old) (count_of guides.old) (map (λ w. string_bytes w) words.now) (S.faults shelf.old)
+        (S.faults shelf.new) (K.faults out.old) (K.faults out.new) result }
+    ensures complete { Steady (S.faults shelf.old) (S.faults shelf.new) (K.faults out.old) (K.faults out.new)
+        (Complete (S.texts shelf.old) (count_of guides.old) (map (λ w. string_bytes w) words.now) result) }
 
-    ensures complete { (Rose (S.faults shelf.old) (S.faults shelf.new) → ⊥) → (Rose (K.faults out.old) (K.faults out.new) → ⊥)
-        → (outcome : Result Done Trouble) → IfSome (S.texts shelf.old) (λ told.
-        IsDue told (count_of guides.old) (map (λ w. string_bytes w) words.now) outcome → HasStatus outcome result ⊎
-        (result ≡ 9)) }
-
-    // A question about a specification is answered, where both are read, whichever of the four it is; unless it is a
-    // query that has more than 1,000,000 answers over a consistent completion.
-    ensures answered { (Rose (S.faults shelf.old) (S.faults shelf.new) → ⊥) → (Rose (K.faults out.old) (K.faults out.new) → ⊥)
-        → (a : AskSaid) → command_for (count_of guides.old) (map (λ w. string_bytes w) words.now) ≡ Some (AskFor a)
-        → (s : Spec) (question : Question) → IfSome (S.texts shelf.old) (λ told.
-        IsSpecRead told a.spec (Ok s) → IsQuestionRead told s.relations a.question (Ok question)
-        → ComesToAnswer s question result) }
+    // Where both are read, a question about a specification is answered, whichever of the four it is; unless it is a query that
+    // has more than 1,000,000 answers over a consistent completion.
+    ensures answered { Steady (S.faults shelf.old) (S.faults shelf.new) (K.faults out.old) (K.faults out.new)
+        (Answered (S.texts shelf.old) (count_of guides.old) (map (λ w. string_bytes w) words.now) result) }
 
     // A report on a specification and a question is judged, where all three are read.
-    ensures verified { (Rose (S.faults shelf.old) (S.faults shelf.new) → ⊥) → (Rose (K.faults out.old) (K.faults out.new) → ⊥)
-        → (v : VerifySaid) → command_for (count_of guides.old) (map (λ w. string_bytes w) words.now) ≡ Some (VerifyOf v)
-        → (s : Spec) (question : Question) (r : ReadReport) → IfSome (S.texts shelf.old) (λ told.
-        IsSpecRead told v.spec (Ok s) → IsQuestionRead told s.relations v.question (Ok question)
-        → IsReportRead told s.relations v.report (Ok r)
-        → (result ≡ 0) ⊎ ((result ≡ 4) ⊎ (result ≡ 9))) }
+    ensures verified { Steady (S.faults shelf.old) (S.faults shelf.new) (K.faults out.old) (K.faults out.new)
+        (Verified (S.texts shelf.old) (count_of guides.old) (map (λ w. string_bytes w) words.now) result) }
 
     // The forced pairs of a specification are listed, where it is read.
-    ensures listed { (Rose (S.faults shelf.old) (S.faults shelf.new) → ⊥) → (Rose (K.faults out.old) (K.faults out.new) → ⊥)
-        → (name : List ℕ) → command_for (count_of guides.old) (map (λ w. string_bytes w) words.now) ≡ Some (ForcedOf name)
-        → (s : Spec) → IfSome (S.texts shelf.old) (λ told. IsSpecRead told name (Ok s) → (result ≡ 0) ⊎ (result ≡ 9)) }
+    ensures listed { Steady (S.faults shelf.old) (S.faults shelf.new) (K.faults out.old) (K.faults out.new)
+        (Listed (S.texts shelf.old) (count_of guides.old) (map (λ w. string_bytes w) words.now) result) }
 
     // A unit of the answer is explained, where both are read, unless the query has too many answers.
-    ensures explained { (Rose (S.faults shelf.old) (S.faults shelf.new) → ⊥) → (Rose (K.faults out.old) (K.faults out.new) → ⊥)
-        → (e : ExplainSaid) → command_for (count_of guides.old) (map (λ w. string_bytes w) words.now) ≡ Some (ExplainFor e)
-        → (s : Spec) (question : Question) → IfSome (S.texts shelf.old) (λ told.
-        IsSpecRead told e.spec (Ok s) → IsQuestionRead told s.relations e.question (Ok question)
-        → ComesToAnswer s question result) }
+    ensures explained { Steady (S.faults shelf.old) (S.faults shelf.new) (K.faults out.old) (K.faults out.new)
+        (Explains (S.texts shelf.old) (count_of guides.old) (map (λ w. string_bytes w) words.now) result) }
 
     // The conflicts of a specification are listed, where it is read, unless a budget is spent.
-    ensures blamed { (Rose (S.faults shelf.old) (S.faults shelf.new) → ⊥) → (Rose (K.faults out.old) (K.faults out.new) → ⊥)
-        → (c : ConflictsSaid) → command_for (count_of guides.old) (map (λ w. string_bytes w) words.now) ≡ Some (ConflictsIn c)
-        → (s : Spec) → IfSome (S.texts shelf.old) (λ told. IsSpecRead told c.spec (Ok s)
-        → (result ≡ 0) ⊎ ((result ≡ 3) ⊎ (result ≡ 9))) }
+    ensures blamed { Steady (S.faults shelf.old) (S.faults shelf.new) (K.faults out.old) (K.faults out.new)
+        (Blames (S.texts shelf.old) (count_of guides.old) (map (λ w. string_bytes w) words.now) result) }
 
     // The golden records of a relation are told, where the specification is read and has it, unless a budget is spent, or there
     // is no consistent completion.
-    ensures recorded { (Rose (S.faults shelf.old) (S.faults shelf.new) → ⊥) → (Rose (K.faults out.old) (K.faults out.new) → ⊥)
-        → (g : GoldenSaid) → command_for (count_of guides.old) (map (λ w. string_bytes w) words.now) ≡ Some (GoldenIn g)
-        → (s : Spec) (rel : ℕ) → IfSome (S.texts shelf.old) (λ told. IsSpecRead told g.spec (Ok s)
-        → relation_named s.relations g.relation ≡ Some rel
-        → (result ≡ 0) ⊎ ((result ≡ 3) ⊎ ((result ≡ 10) ⊎ (result ≡ 9)))) }
+    ensures recorded { Steady (S.faults shelf.old) (S.faults shelf.new) (K.faults out.old) (K.faults out.new)
+        (Records (S.texts shelf.old) (count_of guides.old) (map (λ w. string_bytes w) words.now) result) }
 
     // What may hold is told, where the specification and the question are read, unless a budget is spent, or the query has more
     // matches than are gone through.
-    ensures imagined { (Rose (S.faults shelf.old) (S.faults shelf.new) → ⊥) → (Rose (K.faults out.old) (K.faults out.new) → ⊥)
-        → (p : PossibleSaid) → command_for (count_of guides.old) (map (λ w. string_bytes w) words.now) ≡ Some (PossibleFor p)
-        → (s : Spec) (question : Question) → IfSome (S.texts shelf.old) (λ told.
-        IsSpecRead told p.spec (Ok s) → IsQuestionRead told s.relations p.question (Ok question)
-        → (result ≡ 0) ⊎ ((result ≡ 3) ⊎ (((result ≡ 6) × HasTooManyCandidates s.relations question) ⊎ (result ≡ 9)))) }
+    ensures imagined { Steady (S.faults shelf.old) (S.faults shelf.new) (K.faults out.old) (K.faults out.new)
+        (Imagines (S.texts shelf.old) (count_of guides.old) (map (λ w. string_bytes w) words.now) result) }
+
+    // The certain answers of a query are told as a table, where the specification and a question that asks one are read, unless
+    // the budget is spent, there are too many over a consistent completion, or there is none.
+    ensures tabled { Steady (S.faults shelf.old) (S.faults shelf.new) (K.faults out.old) (K.faults out.new)
+        (Tables (S.texts shelf.old) (count_of guides.old) (map (λ w. string_bytes w) words.now) result) }
+
+    // So are the possible answers, unless the query has more matches than are gone through.
+    ensures possibly_tabled { Steady (S.faults shelf.old) (S.faults shelf.new) (K.faults out.old) (K.faults out.new)
+        (PossiblyTables (S.texts shelf.old) (count_of guides.old) (map (λ w. string_bytes w) words.now) result) }
 
     // `trial` reads nothing of the shelf: whatever that tells, what the program comes to is due for the generated documents.
-    ensures tried { (size : ℕ) → command_for (count_of guides.old) (map (λ w. string_bytes w) words.now) ≡ Some (TrialOf size)
-        → (outcome : Result Done Trouble) × (IsSettled outcome → IsTrialDue size outcome) × (IsReadFault outcome → ⊥)
-        × EndsWith (K.written out.old) (K.written out.new) (K.faults out.old) (K.faults out.new) outcome result }
+    ensures tried { Tries (count_of guides.old) (map (λ w. string_bytes w) words.now) (K.written out.old) (K.written out.new)
+        (K.faults out.old) (K.faults out.new) result }
 
     // A refusal of the words, a document, a bound or the report is due.
-    ensures refused { IsRefusal result → IfSome (S.texts shelf.old) (λ told.
-        RefusalDue told (count_of guides.old) (map (λ w. string_bytes w) words.now) result) }
+    ensures refused { Refused (S.texts shelf.old) (count_of guides.old) (map (λ w. string_bytes w) words.now) result }
 
     // The words, and how many guides are handed in, decide whether they are refused.
     ensures words { result ≡ 2 → command_for (count_of guides.old) (map (λ w. string_bytes w) words.now) ≡ None }
-    ensures words_refused { command_for (count_of guides.old) (map (λ w. string_bytes w) words.now) ≡ None →
-        (result ≡ 2) ⊎ (result ≡ 9) }
+    ensures words_refused { WordsRefused (count_of guides.old) (map (λ w. string_bytes w) words.now) result }
 
     // The job was done. Each decided verdict that is printed is right: the listed completions and the derivation show it, and
     // `verify` accepts the whole report. No report whose decided verdict is wrong is accepted, whoever made it. What explains
@@ -165,9 +132,15 @@ pub fn run<S: Shelf, K: Sink>(
     // are listed as conflicts are exactly the inconsistent ones, each with what explains it; a value stands in a golden record
     // exactly where it is the current one in every consistent completion, and an attribute is named as open exactly where two
     // values are possible; of the candidates of a question exactly those are told as possible that hold in some consistent
-    // completion, each with a listed one in which it does.
+    // completion, each with a listed one in which it does; a table of answers has exactly the tuples that are answers over the
+    // current instance of every consistent completion, or of some, and then says of each whether it is one over every.
     ensures done { result ≡ 0
         → IsDone (S.texts shelf.old) (count_of guides.old) (map (λ w. string_bytes w) words.now) (K.written out.old)
+        (K.written out.new) }
+
+    // The answer to the question is no, and the words ask for a status that tells it: the text is that of an answer which is right.
+    ensures denied { result ≡ 1
+        → IsDenied (S.texts shelf.old) (count_of guides.old) (map (λ w. string_bytes w) words.now) (K.written out.old)
         (K.written out.new) }
 
     // The budget is spent: so many clauses were learned, each new, and unit propagation does not refute them. It is less than

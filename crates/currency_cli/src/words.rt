@@ -39,6 +39,8 @@ fn keep_for(guides: &mut Guides, command: &Command<'_>) -> bool
         Command::Conflicts(asked) => keep_guide(guides, asked.guide),
         Command::Golden(asked) => keep_guide(guides, asked.guide),
         Command::Possible(asked) => keep_guide(guides, asked.guide),
+        Command::CertainTable(asked) => keep_guide(guides, asked.guide),
+        Command::PossibleTable(asked) => keep_guide(guides, asked.guide),
     }
 }
 

@@ -46,6 +46,7 @@ decided_told documents e text ending.Tabled zero h = absurd (of_question documen
 decided_told documents e text ending.Inconsistent zero h = absurd (of_question documents e text ending.Inconsistent h)
 decided_told documents e text ending.Open zero h = absurd (of_question documents e text ending.Open h)
 decided_told documents e text ending.Decided zero h = h
+decided_told documents e text ending.Denied zero h = absurd (of_question documents e text ending.Denied h)
 decided_told documents e text ending.Undecided zero h = absurd (omega (arith, zero))
 
 pub spent_told : (documents : List (List ℕ × List ℕ)) (e : ExplainSaid) (text : List ℕ) (end : Ending)
@@ -55,4 +56,5 @@ spent_told documents e text ending.Tabled three h = absurd (of_question document
 spent_told documents e text ending.Inconsistent three h = absurd (of_question documents e text ending.Inconsistent h)
 spent_told documents e text ending.Open three h = absurd (of_question documents e text ending.Open h)
 spent_told documents e text ending.Decided three h = absurd (omega (arith, three))
+spent_told documents e text ending.Denied three h = absurd (of_question documents e text ending.Denied h)
 spent_told documents e text ending.Undecided three h = h

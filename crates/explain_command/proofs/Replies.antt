@@ -1,7 +1,7 @@
 -- What is due for a unit differs in no more than what explains it.
 use Rattle.std.proofs.Common.{◌≡◌, ◌⊎◌, ◌∙◌, ℕ, List, Result, Ok, Err, inl, inr, refl, subst, sym}
 use Rattle.command_stages.proofs.OneRead.{IsOne}
-use Rattle.command_stages.proofs.Outcomes.{IsLike, answer_or_limit, answers_alike, limit_or_answer, same_alike, then_like}
+use Rattle.command_stages.proofs.Outcomes.{IsLike, answer_or_limit, answers_alike, limit_or_answer, of_answers, same_alike, then_like}
 use Rattle.command_stages.specs.Alike.{AreAlike}
 use Rattle.command_stages.specs.Endings.{IsOfQuestion}
 use Rattle.command_stages.specs.Stages.{IsSpecRead, IsQuestionRead}
@@ -31,8 +31,8 @@ either s unit (explained.Open spent) = inl (_, tt, refl)
 
 alike : (a b : Result Done Trouble) → IsAnswerOrLimit a → IsAnswerOrLimit b → AreAlike a b
 alike a b (inl h) (inl k) = answers_alike h.0 k.0 a b h.1 k.1 h.2 k.2
-alike a b (inl h) (inr k) = answer_or_limit h.0 a b h.1 h.2 k
-alike a b (inr h) (inl k) = limit_or_answer k.0 a b k.1 h k.2
+alike a b (inl h) (inr k) = answer_or_limit h.0 a b (of_answers h.0.ending h.1) h.2 k
+alike a b (inr h) (inl k) = limit_or_answer k.0 a b (of_answers k.0.ending k.1) h k.2
 alike a b (inr h) (inr k) = same_alike a b (h ∙ sym k)
 
 pub explanation_like : (s : Spec) (e : ExplainSaid) (q : Question) → IsLike (IsExplanationOf s e q)

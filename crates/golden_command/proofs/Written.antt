@@ -14,13 +14,6 @@ pub text_is : (w v : Writing) (pieces : List Piece) → v ≡ start → w ≡ wr
 text_is w v pieces begun wrote =
     ap (λ (x : Writing). x.text) (wrote ∙ ap (λ (x : Writing). writes_all x pieces) begun) ∙ text_written pieces
 
--- a text, a report after it, and an end
-pub ended : (front report end into text bytes whole : List ℕ) → into ≡ front → text ≡ into ++ report → bytes ≡ end
-    → whole ≡ text ++ bytes → whole ≡ front ++ (report ++ end)
-ended front report end into text bytes whole first then last all =
-    all ∙ ap (λ (x : List ℕ). x ++ bytes) (then ∙ ap (λ (x : List ℕ). x ++ report) first)
-    ∙ ap (λ (x : List ℕ). (front ++ report) ++ x) last ∙ append_assoc front report end
-
 -- what is left begins with the item that is read
 left_more : {A : Type 0} (xs : List A) (i : ℕ) (x : A) → slice_get xs i ≡ Some x → drop i xs ≡ x ∷ drop (i + 1) xs
 left_more xs i x at =

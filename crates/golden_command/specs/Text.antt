@@ -1,10 +1,8 @@
 -- The text of golden records, and what they come to.
-use Rattle.std.specs.Prelude.{◌+◌, ℕ, pos, negsuc, List, [], ◌∷◌, ◌++◌, Option, None, Some, codes, map}
-use Rattle.std.specs.Fmt.{decimal}
+use Rattle.std.specs.Prelude.{◌+◌, ℕ, List, [], ◌∷◌, ◌++◌, Option, None, Some, codes, map}
 use Rattle.command_stages.specs.declared.done.Done.{Done}
 use Rattle.command_stages.specs.declared.done.Ending.TheVariants as ending
 use Rattle.currency_base.specs.declared.value.Value.{Value}
-use Rattle.currency_base.specs.declared.value.Value.TheVariants as value
 use Rattle.denial_rules.specs.Instances.{field_value}
 use Rattle.golden_values.specs.declared.field.Field.{Field}
 use Rattle.golden_values.specs.declared.field.Field.TheVariants as field
@@ -12,12 +10,13 @@ use Rattle.golden_values.specs.declared.field.Golden.{Golden}
 use Rattle.golden_values.specs.declared.field.Golden.TheVariants as golden
 use Rattle.golden_values.specs.declared.field.Posed.{Posed}
 use Rattle.golden_values.specs.declared.field.Posed.TheVariants as posed
-use Rattle.fact_write.specs.Pieces.{fact_pieces}
-use Rattle.item_write.specs.Pieces.{head_pieces}
+use Rattle.fact_write.specs.Open.{open_text}
 use Rattle.log_write.specs.Pieces.{symbol, word}
+use Rattle.record_text.specs.Fields.{value_bytes}
 use Rattle.record_text.specs.Text.{records_text}
 use Rattle.report_model.specs.declared.report.Report.{Report}
-use Rattle.report_write.specs.Pieces.{name, report_pieces}
+use Rattle.posed_facts.specs.declared.fact.Fact.{Fact}
+use Rattle.report_write.specs.Pieces.{name}
 use Rattle.spec_model.specs.declared.relation.Attr.{Attr}
 use Rattle.spec_model.specs.declared.relation.Relation.{Relation}
 use Rattle.currency_base.specs.declared.row.Row.{Row}
@@ -25,12 +24,6 @@ use Rattle.text_write.specs.Pieces.{Piece, text_of}
 use Rattle.spec_model.specs.Spec.{Spec}
 
 -- ---- records
-
--- a value as a field: a text as it is, a number by its digits
-abbrev pub value_bytes : Value → List ℕ
-value_bytes (value.Text bytes) = bytes
-value_bytes (value.Int (pos n)) = decimal n
-value_bytes (value.Int (negsuc n)) = 45 ∷ decimal (n + 1)
 
 -- a value that may not be there
 abbrev pub bytes_of : Option Value → List ℕ
@@ -84,16 +77,14 @@ inconsistent_pieces = word (codes "currency") ++ word (codes "brief") ++ word (c
 abbrev pub inconsistent_text : List ℕ
 inconsistent_text = text_of inconsistent_pieces
 
--- the question on which a budget was spent
-abbrev pub posed_pieces : Spec → Posed → List Piece
-posed_pieces s posed.Consistent = word (codes "consistent") ++ symbol (codes ";")
-posed_pieces s (posed.Fact f) = fact_pieces s.relations f
+-- the fact on whose question a budget was spent, if it was not whether there is a consistent completion
+abbrev pub posed_fact : Posed → Option Fact
+posed_fact posed.Consistent = None
+posed_fact (posed.Fact f) = Some f
 
 -- the text where the budget is spent: the question, the report that says so, and the end
 abbrev pub undecided_text : Spec → Posed → Report → List ℕ
-undecided_text s p report =
-    text_of (head_pieces (codes "possible") ++ word (codes "question") ++ posed_pieces s p)
-    ++ (text_of (report_pieces s.relations report) ++ codes "end;\n")
+undecided_text s p report = open_text s.relations (posed_fact p) report
 
 -- ---- what it comes to
 

@@ -5,6 +5,7 @@ ghost use Rattle.spec_syntax.specs.declared.trees.StatementTree.{StatementTree a
 ghost use Rattle.golden_command.specs.Asked.{column_in, relation_named};
 
 use currency_base::{ByteList, Name, NoMemory};
+use record_text::bytes_of;
 use spec_model::Relation;
 use spec_syntax::{SpecTree, StatementTree};
 use std::alloc::Global;
@@ -50,13 +51,4 @@ fn column_here<'a>(statement: &'a StatementTree, relation: &Name) -> Option<&'a 
         }
         _ => None,
     }
-}
-
-/// A list of these bytes.
-pub(crate) fn bytes_of(alloc: Global, bytes: &[u8]) -> Result<ByteList, NoMemory>
-    ensures { IfOk result (λ list. list ≡ bytes.now) }
-{
-    let mut list = Vec::new(alloc);
-    list.extend_from_slice(bytes)?;
-    Ok(ByteList::from_items(list))
 }

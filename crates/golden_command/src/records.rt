@@ -3,15 +3,13 @@
 ghost use Rattle.std.specs.Prelude.{◌≡◌, ◌∷◌, ◌++◌, All, IfOk, OnOk, Some, length, option_map};
 ghost use Rattle.denial_rules.specs.Instances.{field_value};
 ghost use Rattle.golden_command.specs.Text.{field_bytes, fields_from, header_of, open_name, open_names};
-ghost use Rattle.golden_command.specs.Text.{record_of, records_of, value_bytes};
+ghost use Rattle.golden_command.specs.Text.{record_of, records_of};
 ghost use Rattle.text_write.specs.Pieces.{text_of};
 ghost use Rattle.text_write.specs.Spacing.{writes_all};
 
-use crate::asked::bytes_of;
 use currency_base::{ByteList, Name, NoMemory, Row, RowId, Value};
 use golden_values::{Field, FieldList};
-use itoa::Buffer;
-use record_text::{Record, RecordList};
+use record_text::{Record, RecordList, bytes_of, value_bytes};
 use spec_model::{Attr, Relation};
 use std::alloc::Global;
 use text_write::TextWriter;
@@ -102,19 +100,6 @@ fn value_at(rows: &[Row], row: RowId, attr: usize) -> Option<&Value>
     match rows.get(row.0 as usize) {
         Some(row) => row.values.as_slice().get(attr),
         None => None,
-    }
-}
-
-/// A value as a field.
-fn value_bytes(alloc: Global, value: &Value) -> Result<ByteList, NoMemory>
-    ensures { IfOk result (λ bytes. bytes ≡ value_bytes value.now) }
-{
-    match value {
-        Value::Text(text) => bytes_of(alloc, text.bytes()),
-        Value::Int(number) => {
-            let mut buffer = Buffer::new();
-            bytes_of(alloc, buffer.format(*number).as_bytes())
-        }
     }
 }
 

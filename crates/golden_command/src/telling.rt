@@ -1,21 +1,18 @@
 //! What is told of what is found of the entities of a relation.
 
-ghost use Rattle.std.specs.Prelude.{◌≡◌, ◌++◌, All, IfErr, IfOk, OnOk, codes, length};
+ghost use Rattle.std.specs.Prelude.{◌≡◌, All, IfErr, IfOk, OnOk, length};
 ghost use Rattle.golden_command.specs.Text.{golden_done, golden_text, inconsistent_pieces, inconsistent_text};
-ghost use Rattle.golden_command.specs.Text.{posed_pieces, undecided_text};
+ghost use Rattle.golden_command.specs.Text.{undecided_text};
 ghost use Rattle.golden_command.specs.Told.{CanBeTold};
 ghost use Rattle.golden_values.specs.Golden.{IsPosed};
-ghost use Rattle.item_write.specs.Pieces.{head_pieces};
-ghost use Rattle.log_write.specs.Pieces.{symbol, word};
 ghost use Rattle.report_write.specs.Writable.{IsWritableReport};
 ghost use Rattle.text_write.specs.Spacing.{writes_all};
 
 use crate::records::records;
 use command_stages::{Done, Ending, Trouble};
 use currency_base::{ByteList, NoMemory};
-use fact_write::write_fact;
+use fact_write::open_text;
 use golden_values::{FieldTable, Golden, Posed};
-use item_write::{with_report, write_head};
 use record_text::records_text;
 use report_model::Report;
 use spec_model::{Relation, Specification};
@@ -118,55 +115,8 @@ fn undecided(
     requires report { IsWritableReport spec.now.relations report.now }
     ensures { IfOk result (λ text. text ≡ undecided_text spec.now posed.now report.now) }
 {
-    let mut into = TextWriter::new(alloc);
-    write_question(&mut into, spec, posed)?;
-    let mut text = with_report(alloc, into, spec, report)?;
-    append(&mut text, "end;\n".as_bytes())?;
-    Ok(text)
-}
-
-/// Appends bytes.
-fn append(into: &mut ByteList, bytes: &[u8]) -> Result<(), NoMemory>
-    ensures { OnOk result (into.new ≡ into.old ++ bytes.now) }
-{
-    for byte in bytes {
-        into.push(*byte)?;
-    }
-    Ok(())
-}
-
-/// Writes the head of the text, and the question on which the budget was spent.
-#[tactic(auto, using(text_write::proofs::Writings::writes_append))]
-fn write_question(
-    into: &mut TextWriter,
-    spec: &Specification,
-    posed: &Posed,
-) -> Result<(), NoMemory>
-    requires { IsPosed spec.now posed.now }
-    ensures { OnOk result (into.new ≡ writes_all into.old (head_pieces (codes "possible") ++ word (codes "question")
-        ++ posed_pieces spec.now posed.now)) }
-{
-    write_head(into, "possible")?;
-    into.word("question")?;
-    write_posed(into, spec, posed)
-}
-
-/// Writes a question on which a budget was spent.
-fn write_posed(into: &mut TextWriter, spec: &Specification, posed: &Posed) -> Result<(), NoMemory>
-    requires { IsPosed spec.now posed.now }
-    ensures { OnOk result (into.new ≡ writes_all into.old (posed_pieces spec.now posed.now)) }
-{
     match posed {
-        Posed::Consistent => write_consistent(into),
-        Posed::Fact(fact) => write_fact(into, spec, fact),
+        Posed::Consistent => open_text(alloc, spec, None, report),
+        Posed::Fact(fact) => open_text(alloc, spec, Some(fact), report),
     }
-}
-
-/// Writes the question whether there is a consistent completion.
-#[tactic(auto, using(text_write::proofs::Writings::writes_append))]
-fn write_consistent(into: &mut TextWriter) -> Result<(), NoMemory>
-    ensures { OnOk result (into.new ≡ writes_all into.old (word (codes "consistent") ++ symbol (codes ";"))) }
-{
-    into.word("consistent")?;
-    into.symbol(";")
 }

@@ -20,8 +20,8 @@ use std::alloc::Global;
 
 /// The golden records of a relation: for each entity and attribute the value that is current in every consistent completion, or
 /// that two are possible. Of the values of the completion that is found first those are known at once that forced pairs tell, and
-/// each other is settled by itself. Each question that is put on the way has the budget of clauses that may be learned. The guides
-/// steer the search, whatever they pick.
+/// each other is settled by itself. Each question that is put on the way has the budget of clauses that may be learned. The
+/// guides steer the search, whatever they pick.
 pub fn golden(
     alloc: Global,
     spec: &Specification,

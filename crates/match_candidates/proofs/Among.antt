@@ -28,7 +28,8 @@ to_contains (y ∷ ys) x (inr more) = let rest = to_contains ys x more in (suc r
 
 -- ---- a key at its place in the order
 
-pub in_inserted : {A : Type 0} (cmp : A → A → Ordering) → CmpEqualImpliesEq cmp → (xs : List A) (k : A) → Among (insert_key cmp xs k) k
+pub in_inserted : {A : Type 0} (cmp : A → A → Ordering) → CmpEqualImpliesEq cmp → (xs : List A) (k : A)
+    → Among (insert_key cmp xs k) k
 in_inserted cmp exact [] k = inl refl
 in_inserted {A} cmp exact (x ∷ xs) k = by (cmp k x) refl (in_inserted cmp exact xs k)
   where
@@ -49,7 +50,8 @@ kept_inserted {A} cmp (x ∷ xs) k y is = by (cmp k x) is (λ more. kept_inserte
     by Greater (inl same) more = inl same
     by Greater (inr rest) more = inr (more rest)
 
-pub of_inserted : {A : Type 0} (cmp : A → A → Ordering) (xs : List A) (k y : A) → Among (insert_key cmp xs k) y → Among xs y ⊎ (k ≡ y)
+pub of_inserted : {A : Type 0} (cmp : A → A → Ordering) (xs : List A) (k y : A) → Among (insert_key cmp xs k) y
+    → Among xs y ⊎ (k ≡ y)
 of_inserted cmp [] k y (inl same) = inr same
 of_inserted cmp [] k y (inr none) = absurd none
 of_inserted {A} cmp (x ∷ xs) k y is = by (cmp k x) is (λ more. of_inserted cmp xs k y more)

@@ -1,5 +1,5 @@
 -- Values of variables.
-use Rattle.std.proofs.Common.{◌≡◌, ◌<◌, ◌⊎◌, inl, inr, ℕ, zero, suc, List, [], ◌∷◌, map, length, get_or, replicate, Option, None, Some, option_map, slice_get, slice_set, unwrap_or, refl, sym, ap, subst, ◌∙◌, arith}
+use Rattle.std.proofs.Common.{◌≡◌, ◌<◌, ◌⊎◌, inl, inr, ℕ, zero, suc, List, [], ◌∷◌, map, length, replicate, Option, None, Some, option_map, slice_get, slice_set, unwrap_or, refl, sym, ap, ◌∙◌, arith}
 use Rattle.std.proofs.lemmas.Bool.{cases_eq}
 use Rattle.std.proofs.lemmas.List.{length-replicate, length-set}
 use Rattle.std.proofs.lemmas.Option.{none-some, same_Some, slice_get_cases}
@@ -43,21 +43,25 @@ module _ (b : List (Option Value)) (v : ℕ) (unknown : slice_get b v ≡ Some N
         (sym unknown ∙ ap (slice_get b) (sym same) ∙ at))) ∙ at);
   }
 
-  pub agreed_after : (x : Value) (values : List Value) → v < length b → slice_get values v ≡ Some x → Agrees b values → Agrees (slice_set b v (Some x)) values
+  pub agreed_after : (x : Value) (values : List Value) → v < length b → slice_get values v ≡ Some x → Agrees b values
+      → Agrees (slice_set b v (Some x)) values
   agreed_after x values within has is = record {
     as_many = is.as_many ∙ sym (length-set b v (Some x));
     known = λ w y at. by w y at (cases_eq w v);
   }
     where
-      by : (w : ℕ) (y : Value) → slice_get (slice_set b v (Some x)) w ≡ Some (Some y) → (w ≡ v) ⊎ (w ≡ v → ⊥) → slice_get values w ≡ Some y
+      by : (w : ℕ) (y : Value) → slice_get (slice_set b v (Some x)) w ≡ Some (Some y) → (w ≡ v) ⊎ (w ≡ v → ⊥)
+          → slice_get values w ≡ Some y
       by w y at (inl same) =
-          let own : Some (Some x) ≡ Some (Some y) = sym (get_given b v (Some x) within) ∙ ap (slice_get (slice_set b v (Some x))) (sym same) ∙ at in
+          let own : Some (Some x) ≡ Some (Some y) = sym (get_given b v (Some x) within)
+          ∙ ap (slice_get (slice_set b v (Some x))) (sym same) ∙ at in
           ap (slice_get values) same ∙ has ∙ same_Some (Some x) (Some y) own
       by w y at (inr apart) = is.known w y (sym (get_other b v w (Some x) apart) ∙ at)
 
 -- ---- all values are known
 
-pub known_is : (b : List (Option Value)) (values : List Value) → ((v : ℕ) → slice_get b v ≡ Some None → ⊥) → Agrees b values → values ≡ values_of b
+pub known_is : (b : List (Option Value)) (values : List Value) → ((v : ℕ) → slice_get b v ≡ Some None → ⊥)
+    → Agrees b values → values ≡ values_of b
 known_is [] [] full is = refl
 known_is [] (y ∷ ys) full is = absurd (let many = is.as_many in omega (arith, many))
 known_is (o ∷ b) [] full is = absurd (let many = is.as_many in omega (arith, many))
@@ -77,7 +81,8 @@ known_agrees (Some x ∷ b) full =
     let rest = known_agrees b (λ v at. full (suc v) at) in
     record { as_many = ap (λ n. suc n) rest.as_many; known = λ v y at. by rest v y at }
   where
-    by : Agrees b (values_of b) → (v : ℕ) (y : Value) → slice_get (Some x ∷ b) v ≡ Some (Some y) → slice_get (x ∷ values_of b) v ≡ Some y
+    by : Agrees b (values_of b) → (v : ℕ) (y : Value) → slice_get (Some x ∷ b) v ≡ Some (Some y)
+        → slice_get (x ∷ values_of b) v ≡ Some y
     by rest zero y at = same_Some (Some x) (Some y) at
     by rest (suc v) y at = rest.known v y at
 
@@ -89,4 +94,8 @@ none_known (suc n) zero x at = none-some x (same_Some None (Some x) at)
 none_known (suc n) (suc v) x at = none_known n v x at
 
 pub none_agrees : (n : ℕ) (values : List Value) → length values ≡ n → Agrees (replicate n None) values
-none_agrees n values many = record { as_many = many ∙ sym (length-replicate n None); known = λ v x at. absurd (none_known n v x at) }
+none_agrees n values many = record {
+  as_many = many
+      ∙ sym (length-replicate n None);
+  known = λ v x at. absurd (none_known n v x at);
+}

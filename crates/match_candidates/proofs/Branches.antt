@@ -5,14 +5,13 @@ use Rattle.std.proofs.lemmas.Bool.{cases_eq, cases_lt, false≢true}
 use Rattle.std.proofs.lemmas.List.Elements.{All-map, All-weaker}
 use Rattle.std.proofs.lemmas.Option.{none-some, same_Some, slice_get-get_or, slice_get_cases, slice_get_within}
 use Rattle.currency_base.specs.declared.value.Value.{Value}
-use Rattle.query_model.specs.Fitting.{StandsIn}
 use Rattle.query_model.specs.declared.query.Atom.{Atom}
 use Rattle.query_model.specs.declared.query.Term.{Term}
 use Rattle.query_model.specs.declared.query.Term.TheVariants.{Var}
 use Rattle.spec_model.specs.declared.relation.Relation.{Relation}
 use Rattle.ucq_answers.specs.Partly.{value_at}
 use Rattle.match_candidates.specs.Meant.{steps_of}
-use Rattle.match_candidates.specs.Places.{has_at, has_known, term_fits}
+use Rattle.match_candidates.specs.Places.{has_at, has_known}
 use Rattle.match_candidates.specs.Ways.{Agrees, AllStand, AreChoices, AreWays, IsEachWay, IsWay, StandsLater}
 use Rattle.match_candidates.specs.declared.at.At.{At}
 use Rattle.match_candidates.proofs.Among.{Among, from_contains, to_contains}
@@ -28,7 +27,8 @@ contains_map f xs x is = to_contains (map f xs) (f x) (among_map f xs x (from_co
 
 -- ---- a way for each value that is had
 
-module _ (relations : List Relation) (at : At) (b : List (Option Value)) (v : ℕ) (within : v < length b) (unknown : slice_get b v ≡ Some None) where
+module _ (relations : List Relation) (at : At) (b : List (Option Value)) (v : ℕ) (within : v < length b)
+    (unknown : slice_get b v ≡ Some None) where
   abbrev way : Value → List (Option Value)
   way x = slice_set b v (Some x)
 
@@ -54,7 +54,8 @@ module _ (relations : List Relation) (at : At) (b : List (Option Value)) (v : �
   pub each_way : (ways : List (List (Option Value))) → IsEachWay relations at b v ways → AreWays relations at b (Var v) ways
   each_way ways is = record {
     each = subst (All (IsWay relations at b (Var v))) (sym is.are)
-        (All-map (IsWay relations at b (Var v)) way is.list (All-weaker _ (λ x. IsWay relations at b (Var v) (way x)) is_way is.list is.choices.each));
+        (All-map (IsWay relations at b (Var v)) way is.list (All-weaker _ (λ x. IsWay relations at b (Var v)
+        (way x)) is_way is.list is.choices.each));
     all = λ values agrees fits. by values agrees (slice_get values v) refl fits;
   }
     where
@@ -67,7 +68,8 @@ module _ (relations : List Relation) (at : At) (b : List (Option Value)) (v : �
         agreed_after b v unknown x values within has agrees,
       )
 
-pub each_way_at : (relations : List Relation) (at : At) (b : List (Option Value)) (v : ℕ) (t : Term) (ways : List (List (Option Value)))
+pub each_way_at : (relations : List Relation) (at : At) (b : List (Option Value)) (v : ℕ) (t : Term) (ways : List (List
+    (Option Value)))
     → t ≡ Var v → v < length b → value_at b v ≡ None → IsEachWay relations at b v ways → AreWays relations at b t ways
 each_way_at relations at b v t ways same within none is =
     subst (λ u. AreWays relations at b u ways) (sym same) (each_way relations at b v within (is_unknown b v within none) ways is)
@@ -77,7 +79,8 @@ map_twice f g [] = refl
 map_twice f g (x ∷ xs) = ap (λ l. f (g x) ∷ l) (map_twice f g xs)
 
 -- the ways are made of the values that were found
-pub each_of : {R : Type 0} (relations : List Relation) (at : At) (b : List (Option Value)) (v : ℕ) (now : R → Value) (list : List R)
+pub each_of : {R : Type 0} (relations : List Relation) (at : At) (b : List (Option Value)) (v : ℕ) (now : R
+    → Value) (list : List R)
     (ways : List (List (Option Value))) → AreChoices (slice_get relations at.rel.0) at.ent at.place (map now list)
     → ways ≡ map (λ x. slice_set b v (Some (now x))) list → IsEachWay relations at b v ways
 each_of relations at b v now list ways choices made = record {
@@ -99,9 +102,14 @@ past_end xs i none = by (cases_lt i (length xs))
       | inr past ↦ past.0
     ]
 
-pub stands_next : (relations : List Relation) (at : At) (terms : List Term) (atoms : List Atom) (b way : List (Option Value)) (t : Term)
-    → slice_get terms at.place ≡ Some t → IsWay relations at b t way → AllStand at.place terms atoms b → AllStand (at.place + 1) terms atoms way
-stands_next relations at terms atoms b way t here is stand = record { each = λ v none. by v none (stand.each v (is.unknown v none)) }
+pub stands_next : (relations : List Relation) (at : At) (terms : List Term) (atoms : List Atom) (b way : List
+    (Option Value)) (t : Term)
+    → slice_get terms at.place ≡ Some t → IsWay relations at b t way → AllStand at.place terms atoms b
+    → AllStand (at.place + 1) terms atoms way
+stands_next relations at terms atoms b way t here is stand = record {
+  each =
+      λ v none. by v none (stand.each v (is.unknown v none));
+}
   where
     by : (v : ℕ) → slice_get way v ≡ Some None → StandsLater at.place terms atoms v → StandsLater (at.place + 1) terms atoms v
     by v none (inr later) = inr later
@@ -124,15 +132,18 @@ stands_first place terms atoms rest atom b past same stand = record { each = λ 
     in_one v one (inr more) has = inr (record { atom = one; is_atom = to_contains rest one more; stands = has })
 
     by : (v : ℕ) → StandsLater place terms atoms v → StandsLater 0 atom.terms rest v
-    by v (inl at) = let within = slice_get_within terms at.0 (Var v) at.2 in let from = at.1 in absurd (omega (arith, past, within, from))
-    by v (inr later) = in_one v later.atom (from_contains (atom ∷ rest) later.atom (subst (λ l. Contains l later.atom) same later.is_atom)) later.stands
+    by v (inl at) = let within = slice_get_within terms at.0 (Var v) at.2 in let from = at.1 in
+        absurd (omega (arith, past, within, from))
+    by v (inr later) = in_one v later.atom (from_contains (atom ∷ rest) later.atom (subst
+        (λ l. Contains l later.atom) same later.is_atom)) later.stands
 
 pub all_known : (place : ℕ) (terms : List Term) (atoms : List Atom) (b : List (Option Value))
     → length terms ≤ place → atoms ≡ [] → AllStand place terms atoms b → (v : ℕ) → slice_get b v ≡ Some None → ⊥
 all_known place terms atoms b past none stand v unknown = by (stand.each v unknown)
   where
     by : StandsLater place terms atoms v → ⊥
-    by (inl at) = let within = slice_get_within terms at.0 (Var v) at.2 in let from = at.1 in absurd (omega (arith, past, within, from))
+    by (inl at) = let within = slice_get_within terms at.0 (Var v) at.2 in let from = at.1 in
+        absurd (omega (arith, past, within, from))
     by (inr later) = from_contains [] later.atom (subst (λ l. Contains l later.atom) none later.is_atom)
 
 -- ---- steps

@@ -1,6 +1,6 @@
 -- Which atoms have claims: just those that fit their entities.
-use Rattle.std.proofs.Common.{◌≡◌, ◌==◌, ◌&&◌, ◌-◌, ◌+◌, ◌<◌, ◌≤◌, ◌⊎◌, inl, inr, ℕ, zero, suc, Bool, true, false, cond, if◌then◌else◌, List, [], ◌∷◌, ◌++◌, length, Option, None, Some, option_map, option_and_then, slice_get, refl, sym, ap, subst, ◌∙◌, arith}
-use Rattle.std.specs.List.{All, Contains, find}
+use Rattle.std.proofs.Common.{◌≡◌, ◌==◌, ◌&&◌, ◌-◌, ◌+◌, ◌<◌, ℕ, zero, suc, Bool, true, false, cond, List, [], ◌∷◌, ◌++◌, length, Option, None, Some, option_map, option_and_then, slice_get, refl, sym, ap, subst, ◌∙◌, arith}
+use Rattle.std.specs.List.{All, find}
 use Rattle.std.specs.Option.{is_some}
 use Rattle.std.proofs.lemmas.Bool.{eq-eqb, false≢true, ne_eqb}
 use Rattle.std.proofs.lemmas.List.Elements.{All-head, All-tail}
@@ -88,14 +88,18 @@ module _ (rel : RelId) (rows : List Row) (list : List RowId) (values : List Valu
 
 -- ---- places
 
-module _ (relations : List Relation) (rel : RelId) (r : Relation) (ent : EntId) (values : List Value) (there : slice_get relations rel.0 ≡ Some r) where
+module _ (relations : List Relation) (rel : RelId) (r : Relation) (ent : EntId) (values : List Value)
+    (there : slice_get relations rel.0 ≡ Some r) where
   abbrev here : ℕ → At
   here k = record { rel = rel; ent = ent; place = k }
 
   at_place : (k : ℕ) (x : Value) → has_at relations (here k) x ≡ has_in r ent k x
   at_place k x = ap (λ o. has_there o ent k x) there
 
-  in_rows : (k : ℕ) (x : Value) → has_in r ent (suc k) x ≡ is_some (find (has_value r.rows (record { 0 = k }) x) (members r.rows ent.0))
+  in_rows : (k : ℕ) (x : Value) → has_in r ent (suc k) x ≡ is_some (find (has_value r.rows (record {
+    0 =
+        k;
+  }) x) (members r.rows ent.0))
   in_rows k x =
       let later : (suc k == 0) ≡ false = ne_eqb (suc k) 0 (λ same. absurd (omega (arith, same))) in
       let less : suc k - 1 ≡ k = omega arith in
@@ -103,25 +107,30 @@ module _ (relations : List Relation) (rel : RelId) (r : Relation) (ent : EntId) 
 
   had_claimed : (k : ℕ) (x : Value)
       → has_at relations (here (suc k)) x ≡ is_some (claim_of rel r.rows (members r.rows ent.0) (record { 0 = k }) (Some x))
-  had_claimed k x = at_place (suc k) x ∙ in_rows k x ∙ sym (mapped_some _ (find (has_value r.rows (record { 0 = k }) x) (members r.rows ent.0)))
+  had_claimed k x = at_place (suc k) x ∙ in_rows k x
+      ∙ sym (mapped_some _ (find (has_value r.rows (record { 0 = k }) x) (members r.rows ent.0)))
 
   -- a term fits a place just where it has its claim there, or asks for none
   pub place_fits : (k : ℕ) (t : Term)
-      → term_fits relations (here (suc k)) values t ≡ is_some (place_claim rel r.rows (members r.rows ent.0) values (record { 0 = k }) t)
+      → term_fits relations (here (suc k)) values t ≡ is_some (place_claim rel r.rows (members r.rows ent.0) values
+      (record { 0 = k }) t)
   place_fits k (term.Var v) = by (slice_get values v) refl
     where
       by : (o : Option Value) → slice_get values v ≡ o
-          → term_fits relations (here (suc k)) values (term.Var v) ≡ is_some (place_claim rel r.rows (members r.rows ent.0) values (record { 0 = k }) (term.Var v))
+          → term_fits relations (here (suc k)) values (term.Var v) ≡ is_some (place_claim rel r.rows
+          (members r.rows ent.0) values (record { 0 = k }) (term.Var v))
       by None own = rw own refl
       by (Some x) own = rw own (had_claimed k x)
   place_fits k term.Any = refl
   place_fits k (term.Constant c) = had_claimed k c
 
   -- and the name just where it fits
-  pub name_fits : (name : List ℕ) (t : Term) → slice_get r.entities ent.0 ≡ Some name → term_fits relations (here 0) values t ≡ fits values t (Text name)
+  pub name_fits : (name : List ℕ) (t : Term) → slice_get r.entities ent.0 ≡ Some name
+      → term_fits relations (here 0) values t ≡ fits values t (Text name)
   name_fits name (term.Var v) at = by (slice_get values v) refl
     where
-      by : (o : Option Value) → slice_get values v ≡ o → term_fits relations (here 0) values (term.Var v) ≡ fits values (term.Var v) (Text name)
+      by : (o : Option Value) → slice_get values v ≡ o
+          → term_fits relations (here 0) values (term.Var v) ≡ fits values (term.Var v) (Text name)
       by None own = rw own refl
       by (Some x) own = rw own (at_place 0 x ∙ rw at refl)
   name_fits name term.Any at = refl
@@ -137,7 +146,8 @@ both_true : (a b : Bool) → a && b ≡ true → (a ≡ true) × (b ≡ true)
 both_true true b is = (refl, is)
 both_true false b is = absurd (false≢true is)
 
-module _ (relations : List Relation) (values : List Value) (atom : Atom) (r : Relation) (there : slice_get relations atom.relation.0 ≡ Some r)
+module _ (relations : List Relation) (values : List Value) (atom : Atom) (r : Relation)
+    (there : slice_get relations atom.relation.0 ≡ Some r)
     (many : length atom.terms ≡ length r.attrs + 1) (ent : EntId) where
   abbrev start : At
   start = record { rel = atom.relation; ent = ent; place = 0 }
@@ -154,17 +164,20 @@ module _ (relations : List Relation) (values : List Value) (atom : Atom) (r : Re
       fit (suc j) t (omega arith) (ap (λ l. slice_get l (suc j)) all ∙ at) in
       rw none_more (sym (place_fits relations atom.relation r ent values there j t) ∙ one)
 
-  some_if_fit : (terms : List Term) (o : Option (List ℕ)) → atom.terms ≡ terms → slice_get r.entities ent.0 ≡ o → ent.0 < length r.entities
+  some_if_fit : (terms : List Term) (o : Option (List ℕ)) → atom.terms ≡ terms → slice_get r.entities ent.0 ≡ o
+      → ent.0 < length r.entities
       → TermsFit relations start values atom.terms → HasClaims (entity_premises atom.relation values terms r ent)
   some_if_fit [] o all named within fit = absurd (let none = ap (λ (l : List Term). length l) all in omega (arith, many, none))
-  some_if_fit (first ∷ more) None all named within fit = absurd (none-some _ (sym named ∙ slice_get-get_or r.entities ent.0 [] within))
+  some_if_fit (first ∷ more) None all named within fit = absurd (none-some _ (sym named
+      ∙ slice_get-get_or r.entities ent.0 [] within))
   some_if_fit (first ∷ more) (Some name) all named within fit =
       let count : (length more == length r.attrs) ≡ true = eq-eqb (length more) (length r.attrs)
       (let long = ap (λ (l : List Term). length l) all in omega (arith, many, long)) in
       let begins : fits_name values first (slice_get r.entities ent.0) ≡ true = ap (fits_name values first) named
       ∙ (sym (name_fits relations atom.relation r ent values there name first named)
       ∙ fit 0 first (omega arith) (ap (λ l. slice_get l 0) all)) in
-      rw (count, begins) (claims_some atom.relation r.rows (members r.rows ent.0) values [] 0 more (each_claimed first more all fit))
+      rw (count, begins) (claims_some atom.relation r.rows (members r.rows ent.0) values [] 0 more
+      (each_claimed first more all fit))
 
   -- an atom that fits an entity has claims
   pub fit_claims : AtomFits relations values atom ent → HasClaims (atom_claims relations values atom ent)
@@ -173,7 +186,8 @@ module _ (relations : List Relation) (values : List Value) (atom : Atom) (r : Re
       let within : ent.0 < length r.entities = subst (λ (q : Relation). ent.0 < length q.entities) same fits.within in
       subst HasClaims (sym claims_are) (some_if_fit atom.terms (slice_get r.entities ent.0) refl refl within fits.terms)
 
-  fit_if_some : (terms : List Term) (o : Option (List ℕ)) (claims : List Premise) → atom.terms ≡ terms → slice_get r.entities ent.0 ≡ o
+  fit_if_some : (terms : List Term) (o : Option (List ℕ)) (claims : List Premise) → atom.terms ≡ terms
+      → slice_get r.entities ent.0 ≡ o
       → entity_premises atom.relation values terms r ent ≡ Some claims → AtomFits relations values atom ent
   fit_if_some [] o claims all named is = absurd (none-some claims is)
   fit_if_some (first ∷ more) None claims all named is =
@@ -187,7 +201,8 @@ module _ (relations : List Relation) (values : List Value) (atom : Atom) (r : Re
         relation = r;
         is_relation = there;
         within = slice_get_within r.entities ent.0 name named;
-        terms = λ k t from at. by k t (ap (λ l. slice_get l k) (sym all) ∙ at) (sym (ap (fits_name values first) named) ∙ begins.1) parts.1;
+        terms = λ k t from at. by k t (ap (λ l. slice_get l k) (sym all) ∙ at) (sym (ap (fits_name values first) named)
+            ∙ begins.1) parts.1;
       }
     where
       by : (k : ℕ) (t : Term) → slice_get (first ∷ more) k ≡ Some t → fits values first (Text name) ≡ true
@@ -202,7 +217,8 @@ module _ (relations : List Relation) (values : List Value) (atom : Atom) (r : Re
           ∙ (rw none_more at (some_claims atom.relation r.rows (members r.rows ent.0) values [] claims 0 more rest j t at))
 
   -- and one that has claims fits
-  pub claims_fit : (claims : List Premise) → atom_claims relations values atom ent ≡ Some claims → AtomFits relations values atom ent
+  pub claims_fit : (claims : List Premise) → atom_claims relations values atom ent ≡ Some claims
+      → AtomFits relations values atom ent
   claims_fit claims is = fit_if_some atom.terms (slice_get r.entities ent.0) claims refl refl (sym claims_are ∙ is)
 
 -- ---- all atoms
@@ -213,7 +229,8 @@ pub record IsAtomThere (relations : List Relation) (atom : Atom) : Type 0 where
   pub is_relation : slice_get relations atom.relation.0 ≡ Some relation
   pub many : length atom.terms ≡ length relation.attrs + 1
 
-pub all_claims : (relations : List Relation) (values : List Value) (atoms : List Atom) (ents : List EntId) → All (IsAtomThere relations) atoms
+pub all_claims : (relations : List Relation) (values : List Value) (atoms : List Atom) (ents : List EntId)
+    → All (IsAtomThere relations) atoms
     → AtomsFit relations values atoms ents → HasClaims (match_claims relations values atoms ents)
 all_claims relations values [] [] there fit = ([], refl)
 all_claims relations values [] (ent ∷ ents) there fit = absurd fit
@@ -233,7 +250,8 @@ both_some (Some first) None claims is = absurd (none-some claims is)
 both_some (Some first) (Some more) claims is = ((first, refl), (more, refl))
 
 pub all_fit : (relations : List Relation) (values : List Value) (atoms : List Atom) (ents : List EntId) (claims : List Premise)
-    → All (IsAtomThere relations) atoms → match_claims relations values atoms ents ≡ Some claims → AtomsFit relations values atoms ents
+    → All (IsAtomThere relations) atoms → match_claims relations values atoms ents ≡ Some claims
+    → AtomsFit relations values atoms ents
 all_fit relations values [] [] claims there is = tt
 all_fit relations values [] (ent ∷ ents) claims there is = absurd (none-some claims is)
 all_fit relations values (atom ∷ atoms) [] claims there is = absurd (none-some claims is)

@@ -138,8 +138,10 @@ module _ {A : Type 0} (P : A → Match → Type 0) (xs : List A) (old : Bounded)
   of_front R i to m is = to m (record { item = is.item; is_item = contains_front xs i is.item is.is_item; is = is.is })
 
   -- it stops at an item
-  pub by_stop : (R : Match → Type 0) (i : ℕ) (x : A) (mid new : Bounded) (is_full : Bool) → is_full ≡ true → i < length xs → x ≡ get_or xs i x
-      → Adds (ByOne P (take i xs)) old mid false → Adds (P x) mid new is_full → ((m : Match) → ByOne P xs m → R m) → Adds R old new true
+  pub by_stop : (R : Match → Type 0) (i : ℕ) (x : A) (mid new : Bounded) (is_full : Bool) → is_full ≡ true → i < length xs
+      → x ≡ get_or xs i x
+      → Adds (ByOne P (take i xs)) old mid false → Adds (P x) mid new is_full → ((m : Match) → ByOne P xs m → R m)
+      → Adds R old new true
   by_stop R i x mid new is_full closed within at first then_ to =
       adds_stop (ByOne P (take i xs)) (P x) R old mid new is_full closed first then_ both
     where

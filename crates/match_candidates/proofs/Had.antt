@@ -1,22 +1,21 @@
 -- What values an entity has at a place.
-use Rattle.std.proofs.Common.{◌≡◌, ◌==◌, ◌-◌, ◌+◌, ◌<◌, ◌≤◌, ◌⊎◌, inl, inr, ℕ, zero, suc, Bool, true, false, cond, if◌then◌else◌, List, [], ◌∷◌, length, map, Option, None, Some, option_map, slice_get, refl, sym, ap, subst, ◌∙◌, arith}
+use Rattle.std.proofs.Common.{◌≡◌, ◌==◌, ◌-◌, ◌+◌, ◌<◌, ◌≤◌, inl, inr, ℕ, Bool, true, false, cond, List, [], ◌∷◌, length, map, Option, None, Some, option_map, slice_get, refl, sym, ap, subst, ◌∙◌, arith}
 use Rattle.std.specs.List.{All, Contains, find}
 use Rattle.std.specs.Option.{is_some}
 use Rattle.std.proofs.lemmas.Bool.{false≢true, ne_eqb}
-use Rattle.std.proofs.lemmas.List.Elements.{All-cons, All-head, All-nil, All-tail, All-weaker}
+use Rattle.std.proofs.lemmas.List.Elements.{All-cons, All-contains, All-contains_itself, All-head, All-nil, All-tail, All-weaker}
 use Rattle.std.proofs.lemmas.Option.{slice_get-map}
 use Rattle.currency_base.specs.declared.ids.EntId.{EntId}
 use Rattle.currency_base.specs.declared.ids.RowId.{RowId}
 use Rattle.currency_base.specs.declared.row.Row.{Row}
-use Rattle.currency_base.specs.declared.value.Cmp.TheVariants.{Eq}
 use Rattle.currency_base.specs.declared.value.Value.{Value}
 use Rattle.currency_base.specs.declared.value.Value.TheVariants.{Text}
 use Rattle.denial_rules.specs.Instances.{field_value}
 use Rattle.entity_rows.specs.Members.{members, members_from}
 use Rattle.match_premises.specs.Premises.{has_value}
 use Rattle.spec_model.specs.declared.relation.Relation.{Relation}
-use Rattle.match_candidates.specs.Places.{has_in, has_there, is_name}
-use Rattle.match_candidates.specs.Tables.{AreOfRows, one_of}
+use Rattle.match_candidates.specs.Places.{has_in, is_name}
+use Rattle.match_candidates.specs.Tables.{AreOfRows, HaveSame, one_of}
 use Rattle.match_candidates.specs.Ways.{AreChoices}
 use Rattle.match_candidates.proofs.Among.{Among, from_contains, to_contains}
 use Rattle.match_candidates.proofs.Values.{compared_is, is_itself, same_test, tested_same}
@@ -30,7 +29,8 @@ found_one {A} p (y ∷ ys) is = by (p y) refl is (found_one p ys)
     later : (x : A) × Contains ys x × (p x ≡ true) → (x : A) × Contains (y ∷ ys) x × (p x ≡ true)
     later more = (more.0, to_contains (y ∷ ys) more.0 (inr (from_contains ys more.0 more.1)), more.2)
 
-    by : (b : Bool) → p y ≡ b → is_some (cond b (Some y) (find p ys)) ≡ true → (is_some (find p ys) ≡ true → (x : A) × Contains ys x × (p x ≡ true))
+    by : (b : Bool) → p y ≡ b → is_some (cond b (Some y) (find p ys)) ≡ true → (is_some (find p ys) ≡ true
+        → (x : A) × Contains ys x × (p x ≡ true))
         → (x : A) × Contains (y ∷ ys) x × (p x ≡ true)
     by true passes is more = (y, to_contains (y ∷ ys) y (inl refl), passes)
     by false fails is more = later (more is)
@@ -53,7 +53,8 @@ at_attr : (r : Relation) (ent : EntId) (place : ℕ) (x : Value) → (place ≡ 
     → has_in r ent place x ≡ is_some (find (has_value r.rows (record { 0 = place - 1 }) x) (members r.rows ent.0))
 at_attr r ent place x apart = let other : (place == 0) ≡ false = ne_eqb place 0 apart in rw other refl
 
-at_name : (r : Relation) (ent : EntId) (place : ℕ) (x : Value) → place ≡ 0 → has_in r ent place x ≡ is_name (slice_get r.entities ent.0) x
+at_name : (r : Relation) (ent : EntId) (place : ℕ) (x : Value) → place ≡ 0
+    → has_in r ent place x ≡ is_name (slice_get r.entities ent.0) x
 at_name r ent place x first = rw first refl
 
 pub rows_choices : (r : Relation) (ent : EntId) (place : ℕ) (list : List Value) → (place ≡ 0 → ⊥)
@@ -69,7 +70,8 @@ rows_choices r ent place list apart are = record {
         ∙ find_one (has_value r.rows (record { 0 = place - 1 }) x) (members r.rows ent.0) is.0 is.1
         (is_itself (field_value r.rows (Some is.0) (place - 1)) x is.2)
 
-    all : (x : Value) → (row : RowId) × Contains (members r.rows ent.0) row × (has_value r.rows (record { 0 = place - 1 }) x row ≡ true)
+    all : (x : Value) → (row : RowId) × Contains (members r.rows ent.0) row
+        × (has_value r.rows (record { 0 = place - 1 }) x row ≡ true)
         → Contains list x
     all x is = are.all is.0 x is.1 (compared_is (field_value r.rows (Some is.0) (place - 1)) x is.2)
 
@@ -77,7 +79,8 @@ pub name_choices : (r : Relation) (names : List Value) (ent : EntId) (place : �
     → names ≡ map (λ name. Text name) r.entities → list ≡ one_of (slice_get names ent.0) → AreChoices (Some r) ent place list
 name_choices r names ent place list first same is = record {
   each = subst (All (λ x. has_in r ent place x ≡ true)) (sym only) (each (slice_get r.entities ent.0) refl);
-  all = λ x had. subst (λ l. Contains l x) (sym only) (all x (slice_get r.entities ent.0) (sym (at_name r ent place x first) ∙ had));
+  all = λ x had. subst (λ l. Contains l x) (sym only) (all x (slice_get r.entities ent.0) (sym
+      (at_name r ent place x first) ∙ had));
 }
   where
     named : Option (List ℕ) → List Value
@@ -103,18 +106,33 @@ name_choices r names ent place list first same is = record {
 
 -- the same, as they are read from a table
 
-pub choices_by_name : (own r : Relation) (values names : List Value) (ent : EntId) (place : ℕ) (list : List Value) → own ≡ r → names ≡ values
-    → place ≡ 0 → values ≡ map (λ name. Text name) own.entities → list ≡ one_of (slice_get names ent.0) → AreChoices (Some r) ent place list
+pub choices_by_name : (own r : Relation) (values names : List Value) (ent : EntId) (place : ℕ) (list : List Value)
+    → own ≡ r → names ≡ values
+    → place ≡ 0 → values ≡ map (λ name. Text name) own.entities → list ≡ one_of (slice_get names ent.0)
+    → AreChoices (Some r) ent place list
 choices_by_name own r values names ent place list same read first are is =
     subst (λ q. AreChoices (Some q) ent place list) same
     (name_choices own values ent place list first are (is ∙ ap (λ l. one_of (slice_get l ent.0)) read))
 
-pub choices_by_rows : (own r : Relation) (rows : List Row) (ids : List RowId) (ent : EntId) (place : ℕ) (list : List Value) → own ≡ r
-    → rows ≡ own.rows → ids ≡ members r.rows ent.0 → (place ≡ 0 → ⊥) → AreOfRows rows ids (place - 1) list → AreChoices (Some r) ent place list
-choices_by_rows own r rows ids ent place list same read are apart of =
+of_same : (rows : List Row) (ids : List RowId) (attr : ℕ) (list once : List Value) → AreOfRows rows ids attr list
+    → HaveSame list once → AreOfRows rows ids attr once
+of_same rows ids attr list once are same = record {
+  each = All-weaker (Contains once) IsHad (λ x is. All-contains IsHad list x are.each (same.each x is)) once
+      (All-contains_itself once);
+  all = λ row x is at. same.all x (are.all row x is at);
+}
+  where
+    IsHad : Value → Type 0
+    IsHad x = (row : RowId) × Contains ids row × (field_value rows (Some row) attr ≡ Some x)
+
+pub choices_by_rows : (own r : Relation) (rows : List Row) (ids : List RowId) (ent : EntId) (place : ℕ)
+    (found list : List Value) → own ≡ r
+    → rows ≡ own.rows → ids ≡ members r.rows ent.0 → (place ≡ 0 → ⊥) → AreOfRows rows ids (place - 1) found → HaveSame found list
+    → AreChoices (Some r) ent place list
+choices_by_rows own r rows ids ent place found list same read are apart of once =
     rows_choices r ent place list apart
     (subst (λ l. AreOfRows l (members r.rows ent.0) (place - 1) list) (read ∙ ap (λ (q : Relation). q.rows) same)
-    (subst (λ l. AreOfRows rows l (place - 1) list) are of))
+    (subst (λ l. AreOfRows rows l (place - 1) list) are (of_same rows ids (place - 1) found list of once)))
 
 -- ---- entities that are not there
 
@@ -127,5 +145,6 @@ none_from first (row ∷ rows) ent count all past =
     rw other (none_from (first + 1) rows ent count (All-tail (λ (row : Row). row.entity.0 < count) row rows all) past)
 
 -- an entity past the last one has no rows
-pub no_members : (r : Relation) (ent : ℕ) → All (λ row. row.entity.0 < length r.entities) r.rows → length r.entities ≤ ent → members r.rows ent ≡ []
+pub no_members : (r : Relation) (ent : ℕ) → All (λ row. row.entity.0 < length r.entities) r.rows → length r.entities ≤ ent
+    → members r.rows ent ≡ []
 no_members r ent all past = none_from 0 r.rows ent (length r.entities) all past

@@ -1,5 +1,7 @@
+mod AlikeEntries
 mod Among
 mod Ascending
+mod Asked
 mod Bindings
 mod Branches
 mod Claimed
@@ -7,6 +9,7 @@ mod Collecting
 mod Had
 mod Listed
 mod Meanings
+mod Once
 mod RowsThere
 mod Values
 mod Whole

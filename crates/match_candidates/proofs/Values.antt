@@ -1,5 +1,5 @@
 -- When a comparison for equality holds.
-use Rattle.std.proofs.Common.{◌≡◌, true, false, refl, ap, Option, None, Some}
+use Rattle.std.proofs.Common.{◌≡◌, true, refl, ap, Option, None, Some}
 use Rattle.std.specs.Ordering.{ordering_reverse}
 use Rattle.std.specs.declared.cmp.Ordering.{Ordering}
 use Rattle.std.specs.declared.cmp.Ordering.TheVariants.{Less, Equal, Greater}
@@ -15,8 +15,12 @@ reversed_equal Less is = cc
 reversed_equal Equal is = refl
 reversed_equal Greater is = cc
 
+-- a value stands to itself as an equal one
+pub value_same : (v : Value) → value_cmp v v ≡ Equal
+value_same v = reversed_equal (value_cmp v v) (value_antisymm v v)
+
 pub same_test : (v : Value) → value_test Eq v v ≡ true
-same_test v = ap (holds_at Eq) (reversed_equal (value_cmp v v) (value_antisymm v v))
+same_test v = ap (holds_at Eq) (value_same v)
 
 pub tested_same : (a b : Value) → value_test Eq a b ≡ true → a ≡ b
 tested_same a b is = exact_values a b (by (value_cmp a b) is)

@@ -6,7 +6,6 @@ use Rattle.match_premises.specs.Premises.{comparisons_are}
 use Rattle.query_model.specs.declared.query.Atom.{Atom}
 use Rattle.query_model.specs.declared.query.Disjunct.{Disjunct}
 use Rattle.query_model.specs.declared.query.Match.{Match}
-use Rattle.query_model.specs.declared.query.Query.{Query}
 use Rattle.query_model.specs.declared.query.Term.{Term}
 use Rattle.query_model.specs.declared.query.Test.{Test}
 use Rattle.spec_model.specs.declared.relation.Relation.{Relation}
@@ -15,17 +14,36 @@ use Rattle.match_candidates.specs.Places.{AtomsFit, TermsFit}
 use Rattle.match_candidates.specs.Ways.{Agrees}
 use Rattle.match_candidates.specs.declared.at.At.{At}
 
--- a match by the disjunct of this number that goes on from these entities and values: the terms from a place on fit the entity
+-- what is left of a search: the terms of an atom from a place on, and further atoms
+pub record Left : Type 0 where
+  pub at : At
+  pub terms : List Term
+  pub atoms : List Atom
+
+-- after the first term that is left
+abbrev pub next_left : Left → Left
+next_left left = record left { at = record left.at { place = left.at.place + 1 } }
+
+-- all terms of an atom at an entity, and these atoms after it
+abbrev pub first_left : Atom → EntId → List Atom → Left
+first_left atom ent atoms = record {
+  at = record { rel = atom.relation; ent = ent; place = 0 };
+  terms = atom.terms;
+  atoms =
+      atoms;
+}
+
+-- a match by the disjunct of this number that goes on from these entities and values: the terms that are left fit the entity
 -- there, and the atoms that are left fit further entities
-pub record IsMeant (relations : List Relation) (tests : List Test) (number : ℕ) (at : At) (terms : List Term) (atoms : List Atom)
-    (ents : List EntId) (b : List (Option Value)) (m : Match) : Type 0 where
+pub record IsMeant (relations : List Relation) (tests : List Test) (number : ℕ) (left : Left) (ents : List EntId)
+    (b : List (Option Value)) (m : Match) : Type 0 where
   pub is_number : m.disjunct ≡ number
   pub agrees : Agrees b m.values
   pub compared : comparisons_are m.values tests ≡ true
-  pub here : TermsFit relations at m.values terms
+  pub here : TermsFit relations left.at m.values left.terms
   pub more : List EntId
   pub entities : m.entities ≡ ents ++ more
-  pub fitted : AtomsFit relations m.values atoms more
+  pub fitted : AtomsFit relations m.values left.atoms more
 
 -- how many steps atoms take: one for the entity, and one for each place
 abbrev pub steps_of : List Atom → ℕ

@@ -11,8 +11,10 @@ use Rattle.entity_rows.specs.Members.{AreEntityRows}
 use Rattle.query_model.specs.declared.query.Atom.{Atom}
 use Rattle.spec_model.specs.Facts.{IsRelation}
 use Rattle.spec_model.specs.declared.relation.Relation.{Relation}
+use Rattle.match_candidates.specs.Entries.{AreEntries, Indexed}
 use Rattle.match_candidates.specs.Places.{AtomFits}
 use Rattle.match_candidates.specs.Ways.{Agrees}
+use Rattle.match_candidates.specs.declared.place_index.Entry.{Entry}
 
 -- each entity of a relation is listed, and nothing else
 pub record AreEntities (r : Relation) (all : List EntId) : Type 0 where
@@ -39,6 +41,29 @@ pub record IsTable (r : Relation) (values : List Value) (members : List (List Ro
   pub rows : AreEntityRows r.rows (length r.entities) members
   pub all : AreEntities r ents
 
+-- entities of a relation, and indexes of the same relation
+pub record IsIndexed (r : Relation) (all : List Entry) (indexes : List Indexed) : Type 0 where
+  pub entities : AreEntries r 0 all
+  pub same : All (λ index. index.relation ≡ r) indexes
+
+-- the same values stand in both lists
+pub record HaveSame (xs ys : List Value) : Type 0 where
+  pub all : (x : Value) → Contains xs x → Contains ys x
+  pub each : (x : Value) → Contains ys x → Contains xs x
+
+-- an entity is listed
+pub record Lists (entries : List Entry) (ent : EntId) : Type 0 where
+  pub entry : Entry
+  pub is_in : Contains entries entry
+  pub of : entry.ent ≡ ent
+
+-- entities of a relation, among which all are that an atom of it can fit
+pub record AreFor (r : Relation) (atom : Atom) (b : List (Option Value)) (entries : List Entry) : Type 0 where
+  pub within : All (λ entry. entry.ent.0 < length r.entities) entries
+  pub all : (relations : List Relation) (values : List Value) (ent : EntId) → slice_get relations atom.relation.0 ≡ Some r
+      → Agrees b values
+      → AtomFits relations values atom ent → Lists entries ent
+
 -- an entity of a relation that is there
 pub record IsEntityOf (relations : List Relation) (rel : RelId) (ent : EntId) : Type 0 where
   pub relation : Relation
@@ -46,6 +71,6 @@ pub record IsEntityOf (relations : List Relation) (rel : RelId) (ent : EntId) : 
   pub within : ent.0 < length relation.entities
 
 -- entities of an atom's relation, among which all are that it can fit
-pub record AreCandidates (relations : List Relation) (atom : Atom) (b : List (Option Value)) (ents : List EntId) : Type 0 where
-  pub each : All (IsEntityOf relations atom.relation) ents
-  pub all : (values : List Value) (ent : EntId) → Agrees b values → AtomFits relations values atom ent → Contains ents ent
+pub record AreCandidates (relations : List Relation) (atom : Atom) (b : List (Option Value)) (entries : List Entry) : Type 0 where
+  pub each : All (λ entry. IsEntityOf relations atom.relation entry.ent) entries
+  pub all : (values : List Value) (ent : EntId) → Agrees b values → AtomFits relations values atom ent → Lists entries ent

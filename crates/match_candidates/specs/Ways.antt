@@ -21,20 +21,23 @@ pub record AreChoices (of : Option Relation) (ent : EntId) (place : ℕ) (list :
   pub all : (x : Value) → has_there of ent place x ≡ true → Contains list x
 
 -- values with which a search goes on from others: with them the term fits, and has its value, if it is a variable
-pub record IsWay (relations : List Relation) (at : At) (b : List (Option Value)) (t : Term) (way : List (Option Value)) : Type 0 where
+pub record IsWay (relations : List Relation) (at : At) (b : List (Option Value)) (t : Term) (way : List
+    (Option Value)) : Type 0 where
   pub agrees : (values : List Value) → Agrees way values → Agrees b values
   pub fits : (values : List Value) → Agrees way values → term_fits relations at values t ≡ true
   pub unknown : (v : ℕ) → slice_get way v ≡ Some None → slice_get b v ≡ Some None
   pub given : (v : ℕ) → slice_get way v ≡ Some None → t ≡ Var v → ⊥
 
 -- all such ways
-pub record AreWays (relations : List Relation) (at : At) (b : List (Option Value)) (t : Term) (ways : List (List (Option Value))) : Type 0 where
+pub record AreWays (relations : List Relation) (at : At) (b : List (Option Value)) (t : Term) (ways : List (List
+    (Option Value))) : Type 0 where
   pub each : All (IsWay relations at b t) ways
   pub all : (values : List Value) → Agrees b values → term_fits relations at values t ≡ true
       → (way : List (Option Value)) × Contains ways way × Agrees way values
 
 -- one way for each of the values that are had at a place: the term's variable has it
-pub record IsEachWay (relations : List Relation) (at : At) (b : List (Option Value)) (v : ℕ) (ways : List (List (Option Value))) : Type 0 where
+pub record IsEachWay (relations : List Relation) (at : At) (b : List (Option Value)) (v : ℕ) (ways : List (List
+    (Option Value))) : Type 0 where
   pub list : List Value
   pub choices : AreChoices (slice_get relations at.rel.0) at.ent at.place list
   pub are : ways ≡ map (λ x. slice_set b v (Some x)) list

@@ -1,4 +1,4 @@
-ghost use Rattle.std.specs.Prelude.{◌≡◌, ◌<◌, List, Option, Some, None, length, map, replicate, slice_get, slice_set, option_map, unwrap_or, IfOk};
+ghost use Rattle.std.specs.Prelude.{◌≡◌, ◌<◌, Option, Some, None, length, map, replicate, slice_set, option_map, IfOk};
 ghost use Rattle.ucq_answers.specs.Partly.{value_at, values_of};
 
 use currency_base::{NoMemory, Tuple, Value};

@@ -1,10 +1,10 @@
-ghost use Rattle.std.specs.Prelude.{◌≡◌, ◌<◌, ◌∷◌, [], true, if◌then◌else◌, Some, IfOk, length, map, slice_get, slice_set};
+ghost use Rattle.std.specs.Prelude.{◌≡◌, ◌<◌, ◌∷◌, [], if◌then◌else◌, Some, IfOk, length, map, slice_get, slice_set};
 ghost use Rattle.match_candidates.specs.Places.{has_at};
 ghost use Rattle.match_candidates.specs.Ways.{AreChoices, AreWays, IsEachWay};
 
 use crate::at::At;
 use crate::binding::Binding;
-use crate::relation_table::RelationTable;
+use crate::indexed_table::IndexedTable;
 use currency_base::{NoMemory, Value};
 use query_model::Term;
 use std::alloc::Global;
@@ -13,7 +13,7 @@ use std::alloc::Global;
 /// where it is not known one for each value that is had there.
 pub(crate) fn ways<'a>(
     alloc: Global,
-    tables: &'a [RelationTable<'a>],
+    tables: &'a [IndexedTable<'a>],
     at: At,
     term: &Term,
     values: &Binding<'a>,
@@ -36,7 +36,7 @@ pub(crate) fn ways<'a>(
 }
 
 // Is a value had at a place?
-fn has(tables: &[RelationTable], at: At, value: &Value) -> bool
+fn has(tables: &[IndexedTable], at: At, value: &Value) -> bool
     ensures { result ≡ has_at tables.now at value.now }
 {
     match tables.get(at.rel.0 as usize) {
@@ -48,7 +48,7 @@ fn has(tables: &[RelationTable], at: At, value: &Value) -> bool
 // The values that are had at a place.
 fn choices<'a>(
     alloc: Global,
-    tables: &'a [RelationTable<'a>],
+    tables: &'a [IndexedTable<'a>],
     at: At,
 ) -> Result<Vec<&'a Value>, NoMemory>
     ensures { IfOk result (λ list. AreChoices (slice_get tables.now at.rel.0) at.ent at.place (map (λ v. v.now) list.items)) }
@@ -77,7 +77,7 @@ fn same_if<'a>(
 // The values with each that is had at a place for a variable.
 fn each_way<'a>(
     alloc: Global,
-    tables: &'a [RelationTable<'a>],
+    tables: &'a [IndexedTable<'a>],
     at: At,
     var: u32,
     values: &Binding<'a>,

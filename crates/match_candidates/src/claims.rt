@@ -1,11 +1,11 @@
-ghost use Rattle.std.specs.Prelude.{◌≡◌, ◌++◌, IfOk, IfSome, OnOk, Some, length, option_map, slice_get};
+ghost use Rattle.std.specs.Prelude.{◌≡◌, ◌++◌, IfOk, OnOk, Some, length, option_map, slice_get};
 ghost use Rattle.log_axioms.specs.Entities.{AreIndexed};
 ghost use Rattle.log_axioms.specs.Matches.{atom_claims, match_claims};
 ghost use Rattle.match_candidates.specs.Indexed.{AreWithRows};
 ghost use Rattle.match_candidates.specs.Matches.{AreClaimsOf, IsMatch};
 ghost use Rattle.spec_model.specs.Facts.{AreRelations};
 
-use currency_base::{EntId, ItemList, NoMemory, RelId, Value};
+use currency_base::{EntId, NoMemory, RelId, Value};
 use entity_rows::{EntityRows, entity_rows};
 use match_premises::{PremiseList, atom_premises};
 use query_model::{Atom, Match, Query};

@@ -6,9 +6,13 @@ mod binding;
 mod branching;
 mod claims;
 mod comparisons;
+mod indexed_table;
 mod listing;
+mod lookups;
 mod match_set;
+mod place_index;
 mod relation_table;
+mod rest;
 mod search;
 
 pub use claims::{MatchClaims, claims_of};

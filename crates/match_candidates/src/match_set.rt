@@ -2,7 +2,7 @@ ghost use Rattle.std.specs.Prelude.{◌≡◌, ◌<◌, ◌↔◌, [], IsTrue, I
 ghost use Rattle.std.specs.BTreeSet.{insert_key};
 ghost use Rattle.match_candidates.specs.Matches.{MatchesAscend, match_cmp};
 
-use currency_base::{EntId, EntList, ItemList, NoMemory};
+use currency_base::{ItemList, NoMemory};
 use query_model::Match;
 use std::alloc::Global;
 use std::cmp::Ordering;
@@ -58,7 +58,7 @@ impl PartialOrd for Held {
     ghost partial_cmp = { as_partial_cmp match_cmp };
 
     ghost laws = { partial_order_from_own_ties (Prim.search (comparing, rules, match_total))
-        (Prim.search (comparing, rules, match_total)) };
+        (Prim.search (comparing, rules)) };
 
     fn partial_cmp(&self, other: &Held) -> Option<Ordering> {
         Some(self.cmp(other))
@@ -75,9 +75,9 @@ impl Ord for Held {
 
     ghost total = { match_total };
 
-    ghost matches_partial_cmp = { Prim.search (comparing, rules, match_total) };
+    ghost matches_partial_cmp = { Prim.search (comparing, rules) };
 
-    ghost matches_eq = { Prim.search (comparing, rules, match_total) };
+    ghost matches_eq = { Prim.search (comparing, rules) };
 
     fn cmp(&self, other: &Held) -> Ordering {
         order_of(&self.one, &other.one)

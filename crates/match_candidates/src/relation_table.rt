@@ -1,13 +1,13 @@
-ghost use Rattle.std.specs.Prelude.{◌≡◌, ◌==◌, ◌-◌, ◌<◌, if◌then◌else◌, List, Some, IfOk, length, map, option_map, slice_get};
+ghost use Rattle.std.specs.Prelude.{◌≡◌, ◌==◌, ◌-◌, ◌<◌, true, Contains, List, Some, IfOk, map, option_map, slice_get};
 ghost use Rattle.std.specs.List.{find};
 ghost use Rattle.std.specs.Option.{is_some};
 ghost use Rattle.currency_base.specs.declared.value.Value.TheVariants.{Text};
 ghost use Rattle.denial_rules.specs.Instances.{field_value};
 ghost use Rattle.entity_rows.specs.Members.{members};
 ghost use Rattle.match_premises.specs.Premises.{has_value};
-ghost use Rattle.spec_model.specs.Facts.{AreRelations, IsRelation};
+ghost use Rattle.spec_model.specs.Facts.{IsRelation};
 ghost use Rattle.match_candidates.specs.Places.{has_in, is_name};
-ghost use Rattle.match_candidates.specs.Tables.{AreEntities, AreOfRows, IsOnly};
+ghost use Rattle.match_candidates.specs.Tables.{AreEntities, AreOfRows, HaveSame, IsOnly};
 ghost use Rattle.match_candidates.specs.Ways.{AreChoices};
 
 use currency_base::{Cmp, EntId, Name, NameList, NoMemory, Row, RowId, Tuple, Value};
@@ -85,7 +85,8 @@ impl<'a> RelationTable<'a> {
             return name_of(alloc, self.names.as_slice(), ent);
         }
         let rows = self.relation.rows.as_slice();
-        values_of(alloc, rows, self.rows_of(ent), place - 1)
+        let values = values_of(alloc, rows, self.rows_of(ent), place - 1)?;
+        distinct(alloc, values)
     }
 
     /// The rows of an entity.
@@ -209,4 +210,36 @@ fn values_of<'a>(
         }
     }
     Ok(list)
+}
+
+// Values, each once.
+fn distinct<'a>(alloc: Global, values: Vec<&'a Value>) -> Result<Vec<&'a Value>, NoMemory>
+    ensures { IfOk result (λ once. HaveSame (map (λ v. v.now) values.entry.items) (map (λ v. v.now) once.items)) }
+{
+    let mut sorted = values;
+    sorted.sort_unstable();
+    Ok(without_repeats(alloc, &sorted)?)
+}
+
+// Values, of those that are the same and stand beside each other the first alone.
+fn without_repeats<'a>(alloc: Global, values: &[&'a Value]) -> Result<Vec<&'a Value>, NoMemory>
+    ensures { IfOk result (λ once. HaveSame (map (λ v. v.now) values.now) (map (λ v. v.now) once.items)) }
+{
+    let mut once = Vec::new(alloc);
+    for value in values {
+        if !is_last(&once, value) {
+            once.push(*value)?;
+        }
+    }
+    Ok(once)
+}
+
+// Is a value the last one?
+fn is_last(values: &[&Value], value: &Value) -> bool
+    ensures { result ≡ true → Contains (map (λ v. v.now) values.now) value.now }
+{
+    match values.last() {
+        Some(last) => last.test(Cmp::Eq, value),
+        None => false,
+    }
 }

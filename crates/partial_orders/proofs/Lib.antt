@@ -1,1 +1,2 @@
 pub mod PairOrder
+pub mod TakenPairs

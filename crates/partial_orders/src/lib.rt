@@ -3,4 +3,4 @@
 
 mod pairs;
 
-pub use pairs::{PairFault, Pairs};
+pub use pairs::{PairFault, Pairs, pairs_are_restored};

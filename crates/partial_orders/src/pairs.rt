@@ -1,7 +1,8 @@
-ghost use Rattle.std.specs.Prelude.{◌≡◌, ◌<◌, true, [], length, Contains, IsErrOf, OnOk, OnErr};
+ghost use Rattle.std.specs.Prelude.{◌≡◌, ◌≢◌, ◌<◌, true, false, List, [], length, Contains, IsErrOf, OnOk, OnErr};
 ghost use Rattle.std.specs.BTreeSet.{insert_key};
 ghost use Rattle.std.specs.List.Sorted.{IsStrictlySortedBy};
-ghost use Rattle.partial_orders.specs.Pairs.{pair_cmp, has_pair, AreOfOneEntity};
+ghost use Rattle.currency_base.specs.declared.pair.Pair.{Pair};
+ghost use Rattle.partial_orders.specs.Pairs.{pair_cmp, has_pair, without_pair, AreOfOneEntity};
 
 use currency_base::{NoMemory, Pair, Rows};
 use std::alloc::Global;
@@ -63,6 +64,17 @@ impl Pairs {
         }
     }
 
+    /// Takes out a pair, and says whether it was there. Takes no memory.
+    pub fn remove(&mut self, pair: Pair) -> bool
+        ensures value { self.new ≡ without_pair self.old pair }
+        ensures was { result ≡ has_pair self.old pair }
+        ensures gone { Contains self.new pair → ⊥ }
+        ensures others { (p : Pair) → p ≢ pair → Contains self.old p → Contains self.new p }
+        ensures among { (p : Pair) → Contains self.new p → Contains self.old p }
+    {
+        self.set.remove(&pair)
+    }
+
     /// Is the pair there? Takes no memory.
     pub fn has(&self, pair: Pair) -> bool
         ensures value { result ≡ has_pair self.now pair }
@@ -87,3 +99,12 @@ impl Pairs {
         self.set.iter()
     }
 }
+
+/// A law: to add a pair that was not there and to take it out again leaves the pairs as they were, and
+/// so does to take out one that was there and to add it again.
+pub fn pairs_are_restored()
+    ensures added { (pairs : List Pair) (pair : Pair) → has_pair pairs pair ≡ false
+        → without_pair (insert_key pair_cmp pairs pair) pair ≡ pairs }
+    ensures taken { (pairs : List Pair) (pair : Pair) → IsStrictlySortedBy pair_cmp pairs → has_pair pairs pair ≡ true
+        → insert_key pair_cmp (without_pair pairs pair) pair ≡ pairs }
+{}

@@ -30,6 +30,7 @@ decided_told told a text ending.Tabled zero h = absurd (of_question told a text 
 decided_told told a text ending.Inconsistent zero h = absurd (of_question told a text ending.Inconsistent h)
 decided_told told a text ending.Open zero h = absurd (of_question told a text ending.Open h)
 decided_told told a text ending.Decided zero h = h
+decided_told told a text ending.Denied zero h = absurd (of_question told a text ending.Denied h)
 decided_told told a text ending.Undecided zero h = absurd (omega (arith, zero))
 
 pub spent_told : (told : List (List ℕ × List ℕ)) (a : PossibleSaid) (text : List ℕ) (end : Ending)
@@ -39,4 +40,5 @@ spent_told told a text ending.Tabled three h = absurd (of_question told a text e
 spent_told told a text ending.Inconsistent three h = absurd (of_question told a text ending.Inconsistent h)
 spent_told told a text ending.Open three h = absurd (of_question told a text ending.Open h)
 spent_told told a text ending.Decided three h = absurd (omega (arith, three))
+spent_told told a text ending.Denied three h = absurd (of_question told a text ending.Denied h)
 spent_told told a text ending.Undecided three h = h

@@ -1,5 +1,4 @@
 mod Adding
-mod Counting
 mod Headless
 pub mod Jobs
 pub mod Replies

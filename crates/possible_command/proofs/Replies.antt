@@ -27,7 +27,7 @@ use Rattle.spec_model.specs.declared.question.Question.{Question}
 use Rattle.spec_model.specs.declared.question.Question.TheVariants as asked
 use Rattle.spec_model.specs.declared.relation.Relation.{Relation}
 use Rattle.possible_command.specs.Possible.{AreTold, ComesOf, IsPossibleDue, IsPossibleOf}
-use Rattle.possible_command.proofs.Counting.{no_longer}
+use Rattle.possible_values.proofs.Few.{few_or_many}
 
 abbrev OneSpec : Type 0
 OneSpec = (told : List (List ℕ × List ℕ)) (name : List ℕ) → IsOne (IsSpecRead told name)
@@ -35,23 +35,6 @@ OneSpec = (told : List (List ℕ × List ℕ)) (name : List ℕ) → IsOne (IsSp
 abbrev OneQuestion : Type 0
 OneQuestion = (told : List (List ℕ × List ℕ)) (relations : List Relation) (name : List ℕ)
     → IsOne (IsQuestionRead told relations name)
-
--- ---- candidates are few, or too many
-
--- candidates that can be listed are not too many
-few_or_many : (relations : List Relation) (q : Question) (list : List Candidate) → AreCandidates relations q list
-    → HasTooManyCandidates relations q → ⊥
-few_or_many relations asked.Consistent list are many = many
-few_or_many relations (asked.Certain pairs) list are many = many
-few_or_many relations (asked.Same rels) list are many = many
-few_or_many relations (asked.Answers query) list are many =
-    let longer = no_longer many.some are.matches many.once (λ k m at. are.are_matches.all m (is_match k m at)) in
-    omega (arith, longer, many.more, are.few)
-  where
-    is_match : (k : ℕ) (m : Match) → slice_get many.some k ≡ Some m → IsMatch relations query m
-    is_match k m at =
-        subst (IsMatch relations query) (get_or_from_slice_get many.some k m m at)
-        (many.each k m (slice_get_within many.some k m at))
 
 -- ---- what it comes to
 
@@ -129,6 +112,7 @@ question_status : (s : Spec) (q : Question) (e : Ending) (status : ℕ) → IsOf
     → ComesToPossible s q status
 question_status s q ending.Told status of is = absurd of
 question_status s q ending.Decided status of is = inl is
+question_status s q ending.Denied status of is = absurd of
 question_status s q ending.Undecided status of is = inr (inl is)
 question_status s q ending.Tabled status of is = absurd of
 question_status s q ending.Inconsistent status of is = absurd of

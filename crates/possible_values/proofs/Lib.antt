@@ -1,3 +1,5 @@
+mod Counting
+pub mod Few
 mod Lists
 mod Listed
 mod Placing

@@ -1,4 +1,4 @@
--- Words say no command only where clap sees a fault or a number is wrong.
+-- Words say no command only where clap sees a fault or options are wrong.
 use Rattle.std.proofs.Common.{ℕ, ◌≡◌, Bool, true, false, cond, List, [], ◌∷◌, codes, get_or, Option, Some, None, is_some}
 use Rattle.std.proofs.Common.{arith, refl, inl, inr}
 use Rattle.std.specs.Prelude.{◌&&◌, ◌||◌, find, not, option_and_then, option_map}
@@ -12,9 +12,9 @@ use Rattle.clap.specs.Walk.{Row, Text, answers_to, first_of, nothing_held, rows_
 use Rattle.program_words.specs.Line.{line}
 use Rattle.program_words.specs.Numbers.{number_if_given, number_or, number_up_to}
 use Rattle.program_words.specs.Words.{CommandSaid, ConflictsIn, ForcedOf, IsRefused, TrialOf, VerifyOf, ask_in, asked_in}
-use Rattle.program_words.specs.Words.{command_in, command_of, conflicts_in, explain_in, golden_in, has_wrong_number}
-use Rattle.program_words.specs.Words.{is_explain_wrong, is_search_wrong, is_trial_wrong, possible_in, trial_in, unit_in}
-use Rattle.program_words.specs.Words.{unless_fault}
+use Rattle.program_words.specs.Words.{command_in, command_of, conflicts_in, explain_in, golden_in, has_wrong_options}
+use Rattle.program_words.specs.Words.{is_explain_wrong, is_search_wrong, is_telling_wrong, is_trial_wrong, possible_in}
+use Rattle.program_words.specs.Words.{tells_two_ways, told_in, trial_in, unit_in, unless_fault}
 use Rattle.program_words.proofs.Parts.{from_number, from_question, from_search, no_number, no_question, no_search}
 use Rattle.program_words.proofs.TextRows.{found_holds}
 use Rattle.program_words.proofs.TextWalks.{AreValued, level_texts}
@@ -28,7 +28,7 @@ sub k = get_or (built line).subs k line.top
 -- where nothing is found in the rows of this command, a number is wrong
 abbrev IsCaused : Shape → Type 0
 IsCaused s = (words : List Text) → level_fault s [] nothing_held words false [] ≡ [] → command_in (rows_at s words) ≡ None
-    → has_wrong_number (rows_at s words) ≡ true
+    → has_wrong_options (rows_at s words) ≡ true
 
 verify_whole : (report : Option Text) (spec question : Text) → is_some report ≡ true
     → option_map (λ r. VerifyOf (record { spec = spec; question = question; report = r })) report ≡ None → ⊥
@@ -64,7 +64,16 @@ asked_number rows said spec question none =
     (λ s q. from_search (number_or 100000 10000000 (first_of (codes "budget") rows))
     (number_if_given 4 (first_of (codes "guide") rows)) _) none
 
--- each argument of a command has a text where it is used; `possible` has those of `ask`
+told_number : (rows : List Row) (said : Text → Text → ℕ → Option ℕ → CommandSaid)
+    → is_some (first_of (codes "SPEC") rows) ≡ true → is_some (first_of (codes "QUESTION") rows) ≡ true
+    → told_in rows said ≡ None → is_telling_wrong rows ≡ true
+told_number rows said spec question none = by (tells_two_ways rows) none
+  where
+    by : (two : Bool) → cond two None (asked_in rows said) ≡ None → (two || is_search_wrong rows) ≡ true
+    by true e = refl
+    by false e = asked_number rows said spec question e
+
+-- each argument of a command has a text where it is used
 ask_valued : AreValued (sub 0).rules
 unfolding whole_line
 ask_valued = (
@@ -75,7 +84,35 @@ ask_valued = (
       record { acts = λ values rows. refl; stands = λ e. cc },
       (
         record { acts = λ values rows. refl; stands = λ e. cc },
-        (record { acts = λ values rows. refl; stands = λ e. omega arith }, tt),
+        (
+          record { acts = λ values rows. refl; stands = λ e. omega arith },
+          (
+            record { acts = λ values rows. refl; stands = λ e. omega arith },
+            (
+              record { acts = λ values rows. refl; stands = λ e. omega arith },
+              (record { acts = λ values rows. refl; stands = λ e. omega arith }, tt),
+            ),
+          ),
+        ),
+      ),
+    ),
+  ),
+)
+
+possible_valued : AreValued (sub 7).rules
+unfolding whole_line
+possible_valued = (
+  record { acts = λ values rows. refl; stands = λ e. cc },
+  (
+    record { acts = λ values rows. refl; stands = λ e. cc },
+    (
+      record { acts = λ values rows. refl; stands = λ e. cc },
+      (
+        record { acts = λ values rows. refl; stands = λ e. cc },
+        (
+          record { acts = λ values rows. refl; stands = λ e. omega arith },
+          (record { acts = λ values rows. refl; stands = λ e. omega arith }, tt),
+        ),
       ),
     ),
   ),
@@ -135,7 +172,7 @@ golden_valued = (
 ask_caused : IsCaused (sub 0)
 unfolding whole_line
 ask_caused words free none =
-    asked_number (rows_after (sub 0).rules [] words) _
+    told_number (rows_after (sub 0).rules [] words) _
     (required_text (sub 0) words (codes "SPEC") ask_valued (inl (refl, refl)) free)
     (required_text (sub 0) words (codes "QUESTION") ask_valued (inr (inl (refl, refl))) free) none
 
@@ -195,9 +232,9 @@ golden_caused words free none =
 possible_caused : IsCaused (sub 7)
 unfolding whole_line
 possible_caused words free none =
-    asked_number (rows_after (sub 7).rules [] words) _
-    (required_text (sub 7) words (codes "SPEC") ask_valued (inl (refl, refl)) free)
-    (required_text (sub 7) words (codes "QUESTION") ask_valued (inr (inl (refl, refl))) free) none
+    told_number (rows_after (sub 7).rules [] words) _
+    (required_text (sub 7) words (codes "SPEC") possible_valued (inl (refl, refl)) free)
+    (required_text (sub 7) words (codes "QUESTION") possible_valued (inr (inl (refl, refl))) free) none
 
 all_caused : AllByRecursion IsCaused (built line).subs
 unfolding no_arguments
@@ -212,7 +249,7 @@ all_caused = (
 -- the same of the command that was entered
 entered_caused : (stop : Option (Text × List Text)) → is_some (entered (built line) stop) ≡ true → entered_fault
     (built line) stop ≡ []
-    → option_and_then command_in (entered (built line) stop) ≡ None → option_map_or has_wrong_number
+    → option_and_then command_in (entered (built line) stop) ≡ None → option_map_or has_wrong_options
     (entered (built line) stop) false ≡ true
 entered_caused None some free none = cc
 entered_caused (Some p) some free none = by (find (λ s. answers_to p.0 (label_of s)) (built line).subs) refl some free none
@@ -221,7 +258,7 @@ entered_caused (Some p) some free none = by (find (λ s. answers_to p.0 (label_o
         → is_some (option_map (λ s. rows_at s p.1) o) ≡ true
         → option_map_or (λ s. level_fault s [] nothing_held p.1 false []) o [] ≡ []
         → option_and_then command_in (option_map (λ s. rows_at s p.1) o) ≡ None
-        → option_map_or has_wrong_number (option_map (λ s. rows_at s p.1) o) false ≡ true
+        → option_map_or has_wrong_options (option_map (λ s. rows_at s p.1) o) false ≡ true
     by None e s f n = cc
     by (Some s) e some f n = found_holds IsCaused _ (built line).subs s all_caused e p.1 f n
 
@@ -238,7 +275,7 @@ unfolding no_arguments
 top_wants_one met e = wanted_and_met met e
 
 number_wrong : (words : List Text) → fault_of line words ≡ [] → option_and_then command_in (subcommand_of line words) ≡ None
-    → option_map_or has_wrong_number (subcommand_of line words) false ≡ true
+    → option_map_or has_wrong_options (subcommand_of line words) false ≡ true
 number_wrong words free none =
     let app = built line in
     let stop = stop_after app.top.rules (names_of app) (argument_words line words) in
@@ -277,6 +314,14 @@ asked_none rows said wrong = no_question (first_of (codes "SPEC") rows) (first_o
     (λ spec question. no_search (number_or 100000 10000000 (first_of (codes "budget") rows))
     (number_if_given 4 (first_of (codes "guide") rows)) _ wrong)
 
+told_none : (rows : List Row) (said : Text → Text → ℕ → Option ℕ → CommandSaid) → is_telling_wrong rows ≡ true
+    → told_in rows said ≡ None
+told_none rows said wrong = by (tells_two_ways rows) wrong
+  where
+    by : (two : Bool) → (two || is_search_wrong rows) ≡ true → cond two None (asked_in rows said) ≡ None
+    by true e = refl
+    by false e = asked_none rows said e
+
 explain_none : (rows : List Row) → is_explain_wrong rows ≡ true → explain_in rows ≡ None
 explain_none rows wrong = no_question (first_of (codes "SPEC") rows) (first_of (codes "QUESTION") rows) _
     (λ spec question. no_number unit_in (first_of (codes "N") rows) _ (is_search_wrong rows)
@@ -288,7 +333,7 @@ golden_none rows wrong = no_question (first_of (codes "SPEC") rows) (first_of (c
     (λ spec relation. no_search (number_or 100000 10000000 (first_of (codes "budget") rows))
     (number_if_given 4 (first_of (codes "guide") rows)) _ wrong)
 
-wrong_is_none : (found : Option (Text × List Row)) → option_map_or has_wrong_number found false ≡ true
+wrong_is_none : (found : Option (Text × List Row)) → option_map_or has_wrong_options found false ≡ true
     → option_and_then command_in found ≡ None
 wrong_is_none None wrong = refl
 wrong_is_none (Some p) wrong = by (bytes_eq p.0 (codes "ask")) (bytes_eq p.0 (codes "trial"))
@@ -296,18 +341,18 @@ wrong_is_none (Some p) wrong = by (bytes_eq p.0 (codes "ask")) (bytes_eq p.0 (co
     (bytes_eq p.0 (codes "possible")) _ wrong
   where
     by : (is_ask is_trial is_explain is_conflicts is_golden is_possible : Bool) (other : Option CommandSaid)
-        → cond is_ask (is_search_wrong p.1) (cond is_trial (is_trial_wrong p.1)
+        → cond is_ask (is_telling_wrong p.1) (cond is_trial (is_trial_wrong p.1)
         (cond is_explain (is_explain_wrong p.1) (cond is_conflicts (is_search_wrong p.1)
-        (cond is_golden (is_search_wrong p.1) (cond is_possible (is_search_wrong p.1) false))))) ≡ true
+        (cond is_golden (is_search_wrong p.1) (cond is_possible (is_telling_wrong p.1) false))))) ≡ true
         → cond is_ask (ask_in p.1) (cond is_trial (trial_in p.1)
         (cond is_explain (explain_in p.1) (cond is_conflicts (conflicts_in p.1) (cond is_golden (golden_in p.1)
         (cond is_possible (possible_in p.1) other))))) ≡ None
-    by true is_trial is_explain is_conflicts is_golden is_possible other w = asked_none p.1 _ w
+    by true is_trial is_explain is_conflicts is_golden is_possible other w = told_none p.1 _ w
     by false true is_explain is_conflicts is_golden is_possible other w = trial_none (first_of (codes "N") p.1) w
     by false false true is_conflicts is_golden is_possible other w = explain_none p.1 w
     by false false false true is_golden is_possible other w = conflicts_none (first_of (codes "SPEC") p.1) _ _ w
     by false false false false true is_possible other w = golden_none p.1 w
-    by false false false false false true other w = asked_none p.1 _ w
+    by false false false false false true other w = told_none p.1 _ w
     by false false false false false false other w = cc
 
 pub refused : (words : List Text) → IsRefused words → command_of words ≡ None

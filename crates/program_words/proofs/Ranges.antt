@@ -9,9 +9,10 @@ use Rattle.clap.specs.Simple.{subcommand_of}
 use Rattle.clap.specs.Walk.{Row, Text, first_of}
 use Rattle.program_words.specs.Line.{line}
 use Rattle.program_words.specs.Numbers.{number_if_given, number_or, number_up_to}
-use Rattle.program_words.specs.Words.{AskFor, CommandSaid, ConflictsIn, ExplainFor, ForcedOf, GoldenIn, PossibleFor}
-use Rattle.program_words.specs.Words.{TrialOf, VerifyOf, ask_in, asked_in, command_in, command_of, conflicts_in, explain_in}
-use Rattle.program_words.specs.Words.{forced_in, golden_in, possible_in, trial_in, unit_in, unless_fault, verify_in}
+use Rattle.program_words.specs.Words.{AskFor, CertainTableFor, CommandSaid, ConflictsIn, ExplainFor, ForcedOf, GoldenIn}
+use Rattle.program_words.specs.Words.{PossibleFor, PossibleTableFor, TrialOf, VerifyOf, ask_for, ask_in, asked_in, command_in}
+use Rattle.program_words.specs.Words.{command_of, conflicts_in, explain_in, forced_in, golden_in, has_flag, possible_for}
+use Rattle.program_words.specs.Words.{possible_in, tells_two_ways, told_in, trial_in, unit_in, unless_fault, verify_in}
 use Rattle.program_words.proofs.Numerals.{number_in_range}
 use Rattle.program_words.proofs.Parts.{of_question, of_search}
 
@@ -33,6 +34,8 @@ IsInRange (ExplainFor e) = IsExplainInRange e.unit e.budget e.guide
 IsInRange (ConflictsIn c) = AreInRange c.budget c.guide
 IsInRange (GoldenIn g) = AreInRange g.budget g.guide
 IsInRange (PossibleFor p) = AreInRange p.budget p.guide
+IsInRange (CertainTableFor t) = AreInRange t.budget t.guide
+IsInRange (PossibleTableFor t) = AreInRange t.budget t.guide
 IsInRange other = Unit {0}
 
 budget_in_range : (text : Option Text) (n : ℕ) → number_or 100000 10000000 text ≡ Some n → (1 ≤ n) × (n ≤ 10000000)
@@ -87,11 +90,28 @@ asked_in_range rows said holds =
     of_question_in_range (first_of (codes "SPEC") rows) (first_of (codes "QUESTION") rows) _ (λ s q.
     search_in_range (first_of (codes "budget") rows) (first_of (codes "guide") rows) (said s q) (holds s q))
 
+told_in_range : (rows : List Row) (said : Text → Text → ℕ → Option ℕ → CommandSaid)
+    → ((s q : Text) (b : ℕ) (g : Option ℕ) → AreInRange b g → IsInRange (said s q b g))
+    → IfSome (told_in rows said) IsInRange
+told_in_range rows said holds = by (tells_two_ways rows)
+  where
+    by : (two : Bool) → IfSome (cond two None (asked_in rows said)) IsInRange
+    by true = tt
+    by false = asked_in_range rows said holds
+
+-- what is said is one of two commands
+either_in_range : (table : Bool) (first other : CommandSaid) → IsInRange first → IsInRange other
+    → IsInRange (cond table first other)
+either_in_range true first other h k = h
+either_in_range false first other h k = k
+
 ask_in_range : (rows : List Row) → IfSome (ask_in rows) IsInRange
-ask_in_range rows = asked_in_range rows _ (λ s q b g h. h)
+ask_in_range rows =
+    told_in_range rows (ask_for rows) (λ s q b g h. either_in_range (has_flag (codes "csv") rows) _ _ h h)
 
 possible_in_range : (rows : List Row) → IfSome (possible_in rows) IsInRange
-possible_in_range rows = asked_in_range rows _ (λ s q b g h. h)
+possible_in_range rows =
+    told_in_range rows (possible_for rows) (λ s q b g h. either_in_range (has_flag (codes "csv") rows) _ _ h h)
 
 explain_in_range : (rows : List Row) → IfSome (explain_in rows) IsInRange
 explain_in_range rows =

@@ -1,7 +1,9 @@
 -- Words of examples, and what they say.
 use Rattle.std.specs.Prelude.{ℕ, Bool, List, ◌∷◌, Option, Some, codes}
 use Rattle.clap.specs.Walk.{Text}
-use Rattle.program_words.specs.Words.{AskFor, CommandSaid, ConflictsIn, ExplainFor, GoldenIn, PossibleFor, command_of}
+use Rattle.program_words.specs.Words.{AskFor, CertainTableFor, CommandSaid, ConflictsIn, ExplainFor, GoldenIn, PossibleFor}
+use Rattle.program_words.specs.Words.{PossibleTableFor, command_of, table_for}
+use Rattle.program_words.specs.declared.command.AnswerForm.{AnswerForm}
 
 -- the command that these words say after the program's name
 abbrev pub said : List Text → Option CommandSaid
@@ -12,9 +14,15 @@ abbrev pub said_after_ask : List Text → Option CommandSaid
 said_after_ask options = said (codes "ask" ∷ codes "s" ∷ codes "q" ∷ options)
 
 -- `ask` for s and q, with these options
-abbrev pub ask_for : ℕ → Bool → Option ℕ → Option CommandSaid
-ask_for budget brief guide =
-    Some (AskFor (record { spec = codes "s"; question = codes "q"; budget = budget; brief = brief; guide = guide }))
+abbrev pub ask_for : ℕ → AnswerForm → Bool → Option ℕ → Option CommandSaid
+ask_for budget form exit guide = Some (AskFor (record {
+  spec = codes "s";
+  question = codes "q";
+  budget = budget;
+  form = form;
+  exit = exit;
+  guide = guide;
+}))
 
 -- the command that `explain s q`, this word and these options say
 abbrev pub said_after_explain : Text → List Text → Option CommandSaid
@@ -50,3 +58,10 @@ said_after_possible options = said (codes "possible" ∷ codes "s" ∷ codes "q"
 abbrev pub possible_for : ℕ → Bool → Option ℕ → Option CommandSaid
 possible_for budget brief guide =
     Some (PossibleFor (record { spec = codes "s"; question = codes "q"; budget = budget; brief = brief; guide = guide }))
+
+-- `ask --csv` and `possible --csv` for s and q, with these options
+abbrev pub certain_table_for : ℕ → Option ℕ → Option CommandSaid
+certain_table_for budget guide = Some (CertainTableFor (table_for (codes "s") (codes "q") budget guide))
+
+abbrev pub possible_table_for : ℕ → Option ℕ → Option CommandSaid
+possible_table_for budget guide = Some (PossibleTableFor (table_for (codes "s") (codes "q") budget guide))

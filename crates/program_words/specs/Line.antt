@@ -30,16 +30,16 @@ on_question name = record (new_shape name) {
 abbrev pub with_search_options : Shape → Shape
 with_search_options s = with_argument (with_argument s (option_rule (codes "budget"))) (option_rule (codes "guide"))
 
--- a command of this name that takes SPEC QUESTION [--budget N] [--guide K] [--brief]
+-- a command of this name that takes SPEC QUESTION [--budget N] [--guide K] [--brief] [--csv]
 abbrev pub asked_shape : Text → Shape
 asked_shape name = record (new_shape name) {
   rules = required_rule (codes "SPEC") ∷ required_rule (codes "QUESTION") ∷ option_rule (codes "budget")
-      ∷ option_rule (codes "guide") ∷ flag_rule (codes "brief") ∷ [];
+      ∷ option_rule (codes "guide") ∷ flag_rule (codes "brief") ∷ flag_rule (codes "csv") ∷ [];
 }
 
--- ask SPEC QUESTION [--budget N] [--guide K] [--brief]
+-- ask SPEC QUESTION [--budget N] [--guide K] [--brief] [--csv] [--verdict] [--exit]
 unfoldable pub ask_shape : Shape
-ask_shape = asked_shape (codes "ask")
+ask_shape = with_argument (with_argument (asked_shape (codes "ask")) (flag_rule (codes "verdict"))) (flag_rule (codes "exit"))
 
 -- verify SPEC QUESTION REPORT
 unfoldable pub verify_shape : Shape
@@ -75,7 +75,7 @@ golden_shape = record (new_shape (codes "golden")) {
       ∷ option_rule (codes "guide") ∷ [];
 }
 
--- possible SPEC QUESTION [--budget N] [--guide K] [--brief]
+-- possible SPEC QUESTION [--budget N] [--guide K] [--brief] [--csv]
 unfoldable pub possible_shape : Shape
 possible_shape = asked_shape (codes "possible")
 

@@ -1,14 +1,21 @@
 -- What the code's own types say.
 use Rattle.program_words.specs.Words.{CommandSaid, AskFor, VerifyOf, ForcedOf, TrialOf, ExplainFor, ConflictsIn, GoldenIn}
-use Rattle.program_words.specs.Words.{PossibleFor}
+use Rattle.program_words.specs.Words.{CertainTableFor, PossibleFor, PossibleTableFor}
 use Rattle.program_words.specs.declared.command.Command.{Command}
 use Rattle.program_words.specs.declared.command.Command.TheVariants.{Ask, Verify, Forced, Trial, Explain, Conflicts, Golden}
-use Rattle.program_words.specs.declared.command.Command.TheVariants.{Possible}
+use Rattle.program_words.specs.declared.command.Command.TheVariants.{CertainTable, Possible, PossibleTable}
 
 -- a command, with the names of documents as bytes
 abbrev pub said_of : Command → CommandSaid
 said_of (Ask a) =
-    AskFor (record { spec = a.spec.now; question = a.question.now; budget = a.budget; brief = a.brief; guide = a.guide })
+    AskFor (record {
+      spec = a.spec.now;
+      question = a.question.now;
+      budget = a.budget;
+      form = a.form;
+      exit = a.exit;
+      guide = a.guide;
+    })
 said_of (Verify v) = VerifyOf (record { spec = v.spec.now; question = v.question.now; report = v.report.now })
 said_of (Forced name) = ForcedOf name.now
 said_of (Trial size) = TrialOf size
@@ -23,4 +30,16 @@ said_of (Possible p) = PossibleFor (record {
   budget = p.budget;
   brief = p.brief;
   guide = p.guide;
+})
+said_of (CertainTable t) = CertainTableFor (record {
+  spec = t.spec.now;
+  question = t.question.now;
+  budget = t.budget;
+  guide = t.guide;
+})
+said_of (PossibleTable t) = PossibleTableFor (record {
+  spec = t.spec.now;
+  question = t.question.now;
+  budget = t.budget;
+  guide = t.guide;
 })

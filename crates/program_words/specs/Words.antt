@@ -1,5 +1,5 @@
 -- The words of the program.
-use Rattle.std.specs.Prelude.{◌≡◌, ◌⊎◌, ◌||◌, ℕ, Bool, true, false, not, is_some, List, [], ◌∷◌, Option, None}
+use Rattle.std.specs.Prelude.{◌≡◌, ◌⊎◌, ◌&&◌, ◌||◌, ℕ, Bool, true, false, not, is_some, List, [], ◌∷◌, Option, None}
 use Rattle.std.specs.Prelude.{if◌then◌else◌, codes, option_map, option_and_then}
 use Rattle.std.specs.Option.{option_map_or}
 use Rattle.std.specs.Str.{bytes_eq}
@@ -9,13 +9,17 @@ use Rattle.clap.specs.Kinds.{Kinds}
 use Rattle.clap.specs.Faults.{fault_of}
 use Rattle.program_words.specs.Numbers.{number_if_given, number_or, number_up_to}
 use Rattle.program_words.specs.Line.{line}
+use Rattle.program_words.specs.declared.command.AnswerForm.{AnswerForm}
+use Rattle.program_words.specs.declared.command.AnswerForm.TheVariants.{Brief, Verdict, Whole}
 
--- ask SPEC QUESTION, with its options: the budget, whether the text is brief, and the one guide that is kept, counted from 1
+-- ask SPEC QUESTION, with its options: the budget, how much is told, whether the status tells an answer of no, and the one guide
+-- that is kept, counted from 1
 pub record AskSaid : Type 0 where
   pub spec : List ℕ
   pub question : List ℕ
   pub budget : ℕ
-  pub brief : Bool
+  pub form : AnswerForm
+  pub exit : Bool
   pub guide : Option ℕ
 
 -- verify SPEC QUESTION REPORT
@@ -53,7 +57,14 @@ pub record PossibleSaid : Type 0 where
   pub brief : Bool
   pub guide : Option ℕ
 
--- a command: ask, verify, forced SPEC, trial N, explain, conflicts, golden, or possible
+-- ask SPEC QUESTION --csv, or possible SPEC QUESTION --csv, with their options: the budget, and the one guide that is kept
+pub record TableSaid : Type 0 where
+  pub spec : List ℕ
+  pub question : List ℕ
+  pub budget : ℕ
+  pub guide : Option ℕ
+
+-- a command: ask, verify, forced SPEC, trial N, explain, conflicts, golden, or possible; ask and possible may ask for a table
 pub data CommandSaid : Type 0 where
   AskFor : AskSaid → CommandSaid
   VerifyOf : VerifySaid → CommandSaid
@@ -63,6 +74,8 @@ pub data CommandSaid : Type 0 where
   ConflictsIn : ConflictsSaid → CommandSaid
   GoldenIn : GoldenSaid → CommandSaid
   PossibleFor : PossibleSaid → CommandSaid
+  CertainTableFor : TableSaid → CommandSaid
+  PossibleTableFor : TableSaid → CommandSaid
 
 -- a flag's text says that it was given
 abbrev pub is_set : Option Text → Bool
@@ -80,15 +93,46 @@ asked_in rows said = option_and_then (λ spec. option_and_then (λ question.
     searched_in rows (λ budget guide. said spec question budget guide))
     (first_of (codes "QUESTION") rows)) (first_of (codes "SPEC") rows)
 
--- `ask` with these rows; none where a number is wrong
+-- a flag of this name is given
+abbrev pub has_flag : Text → List Row → Bool
+has_flag name rows = is_set (first_of name rows)
+
+-- two of a brief text, the verdict alone and a table are asked for, or a table whose status tells an answer of no: that of a table
+-- tells it anyway
+abbrev pub tells_two_ways : List Row → Bool
+tells_two_ways rows = (has_flag (codes "brief") rows && has_flag (codes "verdict") rows)
+    || (has_flag (codes "csv") rows && (has_flag (codes "brief") rows
+    || (has_flag (codes "verdict") rows || has_flag (codes "exit") rows)))
+
+-- how much is told, where a brief text or the verdict alone is asked for
+abbrev pub form_of : Bool → Bool → AnswerForm
+form_of true verdict = Brief
+form_of false true = Verdict
+form_of false false = Whole
+
+-- the same, where it is to tell in one way
+abbrev pub told_in : List Row → (Text → Text → ℕ → Option ℕ → CommandSaid) → Option CommandSaid
+told_in rows said = if tells_two_ways rows then None else asked_in rows said
+
+-- the table of these rows
+abbrev pub table_for : Text → Text → ℕ → Option ℕ → TableSaid
+table_for spec question budget guide = record { spec = spec; question = question; budget = budget; guide = guide }
+
+-- what `ask` with these rows says of SPEC, QUESTION, the budget and the guide
+abbrev pub ask_for : List Row → Text → Text → ℕ → Option ℕ → CommandSaid
+ask_for rows spec question budget guide =
+    if has_flag (codes "csv") rows then CertainTableFor (table_for spec question budget guide) else AskFor (record {
+      spec = spec;
+      question = question;
+      budget = budget;
+      form = form_of (has_flag (codes "brief") rows) (has_flag (codes "verdict") rows);
+      exit = has_flag (codes "exit") rows;
+      guide = guide;
+    })
+
+-- `ask` with these rows; none where a number is wrong, or it is to tell in two ways
 abbrev pub ask_in : List Row → Option CommandSaid
-ask_in rows = asked_in rows (λ spec question budget guide. AskFor (record {
-  spec = spec;
-  question = question;
-  budget = budget;
-  brief = is_set (first_of (codes "brief") rows);
-  guide = guide;
-}))
+ask_in rows = told_in rows (ask_for rows)
 
 -- `verify` with these rows
 abbrev pub verify_in : List Row → Option CommandSaid
@@ -139,15 +183,20 @@ golden_in rows = option_and_then (λ spec. option_and_then (λ relation.
     })))
     (first_of (codes "RELATION") rows)) (first_of (codes "SPEC") rows)
 
--- `possible` with these rows; none where a number is wrong
+-- what `possible` with these rows says of SPEC, QUESTION, the budget and the guide
+abbrev pub possible_for : List Row → Text → Text → ℕ → Option ℕ → CommandSaid
+possible_for rows spec question budget guide =
+    if has_flag (codes "csv") rows then PossibleTableFor (table_for spec question budget guide) else PossibleFor (record {
+      spec = spec;
+      question = question;
+      budget = budget;
+      brief = has_flag (codes "brief") rows;
+      guide = guide;
+    })
+
+-- `possible` with these rows; none where a number is wrong, or it is to tell in two ways
 abbrev pub possible_in : List Row → Option CommandSaid
-possible_in rows = asked_in rows (λ spec question budget guide. PossibleFor (record {
-  spec = spec;
-  question = question;
-  budget = budget;
-  brief = is_set (first_of (codes "brief") rows);
-  guide = guide;
-}))
+possible_in rows = told_in rows (possible_for rows)
 
 -- the command of this name with these rows
 abbrev pub command_in : Text × List Row → Option CommandSaid
@@ -166,7 +215,7 @@ abbrev pub unless_fault : Kinds → Option CommandSaid → Option CommandSaid
 unless_fault [] said = said
 unless_fault (kind ∷ kinds) said = None
 
--- the command that words say, the first being the program's name; none where clap sees a fault in them or a number is wrong.
+-- the command that words say, the first being the program's name; none where clap sees a fault in them or options are wrong.
 -- A required text that was missing where clap sees no fault would be read as none too: that there is no such text is a law
 -- (`refusals_have_causes`).
 unfoldable pub command_of : List (List ℕ) → Option CommandSaid
@@ -177,6 +226,10 @@ abbrev pub is_search_wrong : List Row → Bool
 is_search_wrong rows = not (is_some (number_or 100000 10000000 (first_of (codes "budget") rows)))
     || not (is_some (number_if_given 4 (first_of (codes "guide") rows)))
 
+-- that is so, or it is to tell in two ways
+abbrev pub is_telling_wrong : List Row → Bool
+is_telling_wrong rows = tells_two_ways rows || is_search_wrong rows
+
 -- the number that `trial` is given is wrong
 abbrev pub is_trial_wrong : List Row → Bool
 is_trial_wrong rows = option_map_or (λ text. not (is_some (number_up_to 1000 text))) (first_of (codes "N") rows) false
@@ -186,16 +239,16 @@ abbrev pub is_explain_wrong : List Row → Bool
 is_explain_wrong rows = option_map_or (λ text. not (is_some (unit_in text))) (first_of (codes "N") rows) false
     || is_search_wrong rows
 
--- a number that this command is given is wrong
-abbrev pub has_wrong_number : Text × List Row → Bool
-has_wrong_number p = if bytes_eq p.0 (codes "ask") then is_search_wrong p.1
+-- a number that this command is given is wrong, or it is to tell in two ways
+abbrev pub has_wrong_options : Text × List Row → Bool
+has_wrong_options p = if bytes_eq p.0 (codes "ask") then is_telling_wrong p.1
     else if bytes_eq p.0 (codes "trial") then is_trial_wrong p.1
     else if bytes_eq p.0 (codes "explain") then is_explain_wrong p.1
     else if bytes_eq p.0 (codes "conflicts") then is_search_wrong p.1
     else if bytes_eq p.0 (codes "golden") then is_search_wrong p.1
-    else if bytes_eq p.0 (codes "possible") then is_search_wrong p.1
+    else if bytes_eq p.0 (codes "possible") then is_telling_wrong p.1
     else false
 
--- clap sees a fault in the words, or a number in them is wrong
+-- clap sees a fault in the words, or options in them are wrong
 abbrev pub IsRefused : List Text → Type 0
-IsRefused words = (fault_of line words ≡ [] → ⊥) ⊎ (option_map_or has_wrong_number (subcommand_of line words) false ≡ true)
+IsRefused words = (fault_of line words ≡ [] → ⊥) ⊎ (option_map_or has_wrong_options (subcommand_of line words) false ≡ true)

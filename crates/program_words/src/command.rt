@@ -11,17 +11,33 @@ pub enum Command<'a> {
     Conflicts(Conflicts<'a>),
     Golden(Golden<'a>),
     Possible(Possible<'a>),
+    /// `ask --csv`: the certain answers of a query as a table.
+    CertainTable(AnswerTable<'a>),
+    /// `possible --csv`: the answers of a query that some consistent completion has as a table.
+    PossibleTable(AnswerTable<'a>),
 }
 
-/// `ask SPEC QUESTION [--budget N] [--brief] [--guide K]`.
+/// How much is told of a report that answers a question.
+#[derive(Clone, Copy)]
+pub enum AnswerForm {
+    /// All of it.
+    Whole,
+    /// `--brief`: its log is left out, where it is decided.
+    Brief,
+    /// `--verdict`: the verdict alone, with its items.
+    Verdict,
+}
+
+/// `ask SPEC QUESTION [--budget N] [--brief | --verdict] [--exit] [--guide K]`.
 #[derive(Clone, Copy)]
 pub struct Ask<'a> {
     pub spec: &'a str,
     pub question: &'a str,
     /// How many clauses may be learned: 1 to 10,000,000.
     pub budget: u64,
-    /// Is the log left out?
-    pub brief: bool,
+    pub form: AnswerForm,
+    /// Does the status tell an answer of no?
+    pub exit: bool,
     /// The one guide that is kept, 1 to 4; where there is none, all are.
     pub guide: Option<u64>,
 }
@@ -78,6 +94,17 @@ pub struct Possible<'a> {
     pub budget: u64,
     /// Are the questions with their reports left out that show what is impossible?
     pub brief: bool,
+    /// The one guide that is kept, 1 to 4; where there is none, all are.
+    pub guide: Option<u64>,
+}
+
+/// `ask SPEC QUESTION --csv [--budget N] [--guide K]`, or the same of `possible`.
+#[derive(Clone, Copy)]
+pub struct AnswerTable<'a> {
+    pub spec: &'a str,
+    pub question: &'a str,
+    /// How many clauses may be learned in each search: 1 to 10,000,000.
+    pub budget: u64,
     /// The one guide that is kept, 1 to 4; where there is none, all are.
     pub guide: Option<u64>,
 }

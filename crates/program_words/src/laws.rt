@@ -1,20 +1,23 @@
 ghost use Rattle.std.specs.Prelude.{◌≡◌, ◌≤◌, IfSome, ℕ, List, [], ◌∷◌, None, Some, codes, false, true};
-ghost use Rattle.program_words.specs.Examples.{ask_for, conflicts_in_s, explain_for, golden_in_s, possible_for, said};
+ghost use Rattle.program_words.specs.Examples.{ask_for, certain_table_for, conflicts_in_s, explain_for, golden_in_s};
+ghost use Rattle.program_words.specs.Examples.{possible_for, possible_table_for, said};
 ghost use Rattle.program_words.specs.Examples.{said_after_ask, said_after_conflicts, said_after_explain, said_after_golden};
 ghost use Rattle.program_words.specs.Examples.{said_after_possible};
-ghost use Rattle.program_words.specs.Words.{AskFor, AskSaid, ConflictsIn, ConflictsSaid, ExplainFor, ExplainSaid, ForcedOf};
-ghost use Rattle.program_words.specs.Words.{GoldenIn, GoldenSaid, IsRefused, PossibleFor, PossibleSaid, TrialOf, VerifyOf};
+ghost use Rattle.program_words.specs.Words.{AskFor, AskSaid, CertainTableFor, ConflictsIn, ConflictsSaid, ExplainFor};
+ghost use Rattle.program_words.specs.Words.{ExplainSaid, ForcedOf, GoldenIn, GoldenSaid, IsRefused, PossibleFor};
+ghost use Rattle.program_words.specs.Words.{PossibleSaid, PossibleTableFor, TableSaid, TrialOf, VerifyOf};
 ghost use Rattle.program_words.specs.Words.{command_of};
+ghost use Rattle.program_words.specs.declared.command.AnswerForm.TheVariants.{Brief, Verdict, Whole};
 
 /// Examples of words: what they say, and which are refused.
 pub fn words_are_read()
-    ensures ask { said_after_ask [] ≡ ask_for 100000 false None }
+    ensures ask { said_after_ask [] ≡ ask_for 100000 Whole false None }
     ensures options { said_after_ask (codes "--budget" ∷ codes "1" ∷ codes "--brief" ∷ codes "--guide" ∷ codes "4" ∷ [])
-        ≡ ask_for 1 true (Some 4) }
-    ensures joined { said_after_ask (codes "--budget=5" ∷ []) ≡ ask_for 5 false None }
+        ≡ ask_for 1 Brief false (Some 4) }
+    ensures joined { said_after_ask (codes "--budget=5" ∷ []) ≡ ask_for 5 Whole false None }
     ensures first { said (codes "ask" ∷ codes "--guide=1" ∷ codes "s" ∷ codes "--brief" ∷ codes "q" ∷ [])
-        ≡ ask_for 100000 true (Some 1) }
-    ensures most { said_after_ask (codes "--budget" ∷ codes "10000000" ∷ []) ≡ ask_for 10000000 false None }
+        ≡ ask_for 100000 Brief false (Some 1) }
+    ensures most { said_after_ask (codes "--budget" ∷ codes "10000000" ∷ []) ≡ ask_for 10000000 Whole false None }
     ensures verify { said (codes "verify" ∷ codes "s" ∷ codes "q" ∷ codes "r" ∷ [])
         ≡ Some (VerifyOf (record { spec = codes "s"; question = codes "q"; report = codes "r" })) }
     ensures forced { said (codes "forced" ∷ codes "s" ∷ []) ≡ Some (ForcedOf (codes "s")) }
@@ -95,10 +98,29 @@ pub fn words_are_read()
     ensures possible_missing { said (codes "possible" ∷ codes "s" ∷ []) ≡ None }
     ensures possible_budget_past { said_after_possible (codes "--budget" ∷ codes "10000001" ∷ []) ≡ None }
     ensures possible_guide_zero { said_after_possible (codes "--guide" ∷ codes "0" ∷ []) ≡ None }
+    ensures table { said_after_ask (codes "--csv" ∷ []) ≡ certain_table_for 100000 None }
+    ensures table_options { said_after_ask (codes "--guide" ∷ codes "4" ∷ codes "--csv" ∷ codes "--budget" ∷ codes "1" ∷ [])
+        ≡ certain_table_for 1 (Some 4) }
+    ensures brief_table { said_after_ask (codes "--brief" ∷ codes "--csv" ∷ []) ≡ None }
+    ensures table_budget_zero { said_after_ask (codes "--csv" ∷ codes "--budget" ∷ codes "0" ∷ []) ≡ None }
+    ensures possible_table { said_after_possible (codes "--csv" ∷ []) ≡ possible_table_for 100000 None }
+    ensures possible_brief_table { said_after_possible (codes "--csv" ∷ codes "--brief" ∷ []) ≡ None }
+    ensures verdict { said_after_ask (codes "--verdict" ∷ []) ≡ ask_for 100000 Verdict false None }
+    ensures exit { said_after_ask (codes "--exit" ∷ []) ≡ ask_for 100000 Whole true None }
+    ensures exit_brief { said_after_ask (codes "--exit" ∷ codes "--brief" ∷ []) ≡ ask_for 100000 Brief true None }
+    ensures exit_verdict { said_after_ask (codes "--verdict" ∷ codes "--budget=7" ∷ codes "--exit" ∷ codes "--guide=2" ∷ [])
+        ≡ ask_for 7 Verdict true (Some 2) }
+    ensures brief_verdict { said_after_ask (codes "--brief" ∷ codes "--verdict" ∷ []) ≡ None }
+    ensures verdict_table { said_after_ask (codes "--verdict" ∷ codes "--csv" ∷ []) ≡ None }
+    ensures exit_table { said_after_ask (codes "--exit" ∷ codes "--csv" ∷ []) ≡ None }
+    ensures verdict_twice { said_after_ask (codes "--verdict" ∷ codes "--verdict" ∷ []) ≡ None }
+    ensures possible_verdict { said_after_possible (codes "--verdict" ∷ []) ≡ None }
+    ensures possible_exit { said_after_possible (codes "--exit" ∷ []) ≡ None }
+    ensures golden_table { said_after_golden (codes "--csv" ∷ []) ≡ None }
 {}
 
-/// Words say no command exactly where `clap` sees a fault in them or a number is wrong: no text that has to be there is
-/// missing from words that it takes.
+/// Words say no command exactly where `clap` sees a fault in them, a number is wrong, or an answer is to be told in two ways: no
+/// text that has to be there is missing from words that it takes.
 pub fn refusals_have_causes()
     ensures caused { (words : List (List ℕ)) → command_of words ≡ None → IsRefused words }
     ensures refused { (words : List (List ℕ)) → IsRefused words → command_of words ≡ None }
@@ -131,4 +153,8 @@ pub fn numbers_are_in_range()
         (1 ≤ p.budget) × (p.budget ≤ 10000000) }
     ensures possible_guide { (words : List (List ℕ)) (p : PossibleSaid) → command_of words ≡ Some (PossibleFor p) →
         IfSome p.guide (λ k. (1 ≤ k) × (k ≤ 4)) }
+    ensures certain_table { (words : List (List ℕ)) (t : TableSaid) → command_of words ≡ Some (CertainTableFor t) →
+        (1 ≤ t.budget) × (t.budget ≤ 10000000) × IfSome t.guide (λ k. (1 ≤ k) × (k ≤ 4)) }
+    ensures possible_table { (words : List (List ℕ)) (t : TableSaid) → command_of words ≡ Some (PossibleTableFor t) →
+        (1 ≤ t.budget) × (t.budget ≤ 10000000) × IfSome t.guide (λ k. (1 ≤ k) × (k ≤ 4)) }
 {}

@@ -8,6 +8,8 @@ mod line;
 mod number;
 mod rows;
 
-pub use command::{Ask, Command, Conflicts, Explain, Golden, Possible, Verify};
+pub use command::{
+    AnswerForm, AnswerTable, Ask, Command, Conflicts, Explain, Golden, Possible, Verify,
+};
 pub use given::{WordsFault, command_given};
 pub use laws::{numbers_are_in_range, refusals_have_causes, words_are_read};

@@ -71,14 +71,15 @@ fn with_search_options<'a>(alloc: Global, command: Command<'a>) -> Result<Comman
     with_argument(command, option(alloc, "guide"))
 }
 
-/// A command of this name that takes SPEC QUESTION with the options of a search, and `--brief`.
+/// A command of this name that takes SPEC QUESTION with the options of a search, and `--brief` or `--csv`.
 #[tactic(auto, unfolding(crate::specs::Line::on_question))]
 fn asked<'a>(alloc: Global, name: &'a str) -> Result<Command<'a>, AllocError>
     ensures shape { IfOk result (λ c. shape_of c ≡ asked_shape name.entry.now) }
     ensures local { IfOk result (λ c. (out-Command c).has_globals ≡ false) }
 {
     let command = with_search_options(alloc, on_question(alloc, name)?)?;
-    with_argument(command, flag(alloc, "brief"))
+    let command = with_argument(command, flag(alloc, "brief"))?;
+    with_argument(command, flag(alloc, "csv"))
 }
 
 #[tactic(auto, unfolding(crate::specs::Line::ask_shape))]
@@ -86,7 +87,8 @@ fn ask<'a>(alloc: Global) -> Result<Command<'a>, AllocError>
     ensures shape { IfOk result (λ c. shape_of c ≡ ask_shape) }
     ensures local { IfOk result (λ c. (out-Command c).has_globals ≡ false) }
 {
-    asked(alloc, "ask")
+    let command = with_argument(asked(alloc, "ask")?, flag(alloc, "verdict"))?;
+    with_argument(command, flag(alloc, "exit"))
 }
 
 #[tactic(auto, unfolding(crate::specs::Line::on_question, crate::specs::Line::verify_shape))]

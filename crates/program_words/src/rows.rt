@@ -2,11 +2,11 @@ ghost use Rattle.std.specs.Prelude.{◌≡◌, codes, option_and_then, option_ma
 ghost use Rattle.program_words.specs.Numbers.{number_if_given, number_or};
 ghost use Rattle.clap.specs.Words.{found_of, first_of, rows_of, subcommand_rows_of};
 ghost use Rattle.program_words.specs.Said.{said_of};
-ghost use Rattle.program_words.specs.Words.{ask_in, command_in, conflicts_in, explain_in, forced_in, golden_in, is_set};
-ghost use Rattle.program_words.specs.Words.{possible_in, trial_in, verify_in};
+ghost use Rattle.program_words.specs.Words.{ask_in, command_in, conflicts_in, explain_in, forced_in, form_of, golden_in, has_flag, is_set};
+ghost use Rattle.program_words.specs.Words.{possible_in, tells_two_ways, trial_in, verify_in};
 
 use crate::number::{number_if_given, number_or, number_up_to, unit_in};
-use crate::{Ask, Command, Conflicts, Explain, Golden, Possible, Verify};
+use crate::{AnswerForm, AnswerTable, Ask, Command, Conflicts, Explain, Golden, Possible, Verify};
 use clap::ArgMatches;
 
 /// The first text of an argument.
@@ -39,19 +39,61 @@ fn guide_in(given: &ArgMatches<'_>) -> Option<Option<u64>>
     number_if_given(4, text_of(given, "guide"))
 }
 
+/// Is the flag of this name given?
+fn has_flag(given: &ArgMatches<'_>, name: &str) -> bool
+    ensures { result ≡ has_flag name.now (rows_of (found_of given.now)) }
+{
+    is_set(text_of(given, name))
+}
+
+/// Is more than one of a brief text, the verdict alone and a table asked for, or a table whose status tells an answer of no?
+fn tells_two_ways(given: &ArgMatches<'_>) -> bool
+    ensures { result ≡ tells_two_ways (rows_of (found_of given.now)) }
+{
+    let brief = has_flag(given, "brief");
+    let verdict = has_flag(given, "verdict");
+    (brief && verdict)
+        || (has_flag(given, "csv") && (brief || (verdict || has_flag(given, "exit"))))
+}
+
+/// How much is told of an answer.
+fn form_in(given: &ArgMatches<'_>) -> AnswerForm
+    ensures { result ≡ form_of (has_flag (codes "brief") (rows_of (found_of given.now)))
+        (has_flag (codes "verdict") (rows_of (found_of given.now))) }
+{
+    if has_flag(given, "brief") {
+        AnswerForm::Brief
+    } else if has_flag(given, "verdict") {
+        AnswerForm::Verdict
+    } else {
+        AnswerForm::Whole
+    }
+}
+
 fn ask_in<'a>(given: &ArgMatches<'a>) -> Option<Command<'a>>
     ensures { option_map said_of result ≡ ask_in (rows_of (found_of given.now)) }
 {
+    if tells_two_ways(given) {
+        return None;
+    }
     let spec = text_of(given, "SPEC")?;
     let question = text_of(given, "QUESTION")?;
     let budget = budget_in(given)?;
     let guide = guide_in(given)?;
-    let brief = is_set(text_of(given, "brief"));
+    if has_flag(given, "csv") {
+        return Some(Command::CertainTable(AnswerTable {
+            spec,
+            question,
+            budget,
+            guide,
+        }));
+    }
     Some(Command::Ask(Ask {
         spec,
         question,
         budget,
-        brief,
+        form: form_in(given),
+        exit: has_flag(given, "exit"),
         guide,
     }))
 }
@@ -131,11 +173,22 @@ fn golden_in<'a>(given: &ArgMatches<'a>) -> Option<Command<'a>>
 fn possible_in<'a>(given: &ArgMatches<'a>) -> Option<Command<'a>>
     ensures { option_map said_of result ≡ possible_in (rows_of (found_of given.now)) }
 {
+    if tells_two_ways(given) {
+        return None;
+    }
     let spec = text_of(given, "SPEC")?;
     let question = text_of(given, "QUESTION")?;
     let budget = budget_in(given)?;
     let guide = guide_in(given)?;
-    let brief = is_set(text_of(given, "brief"));
+    if has_flag(given, "csv") {
+        return Some(Command::PossibleTable(AnswerTable {
+            spec,
+            question,
+            budget,
+            guide,
+        }));
+    }
+    let brief = has_flag(given, "brief");
     Some(Command::Possible(Possible {
         spec,
         question,

@@ -96,9 +96,9 @@ one_groups one told relations so_far (group ∷ groups) a b x y =
 pub one_question : OneTable → (told : List (List ℕ × List ℕ)) (relations : List Relation) (tree : QuestionTree)
     (a b : Result Question BindFault)
     → IsQuestionBound told relations tree a → IsQuestionBound told relations tree b → a ≡ b
-one_question one told relations tree.Consistent a b x y = x ∙ sym y
+one_question one told relations (tree.Consistent line) a b x y = x ∙ sym y
 one_question one told relations (tree.Certain line trees) a b x y =
     x.2 ∙ ap (λ (r : Result (List Asked) BindFault). and_then r (certain_of line))
     (one_groups one told relations [] (groups_of trees) x.0 y.0 x.1 y.1) ∙ sym y.2
-one_question one told relations (tree.Same names) a b x y = x ∙ sym y
+one_question one told relations (tree.Same line names) a b x y = x ∙ sym y
 one_question one told relations (tree.Answers query) a b x y = x ∙ sym y

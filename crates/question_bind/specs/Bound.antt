@@ -7,6 +7,7 @@ use Rattle.text_grammar.specs.declared.named.Named.{Named}
 use Rattle.bind_faults.specs.Faults.{all_of, and_then, refused_at, unless}
 use Rattle.bind_faults.specs.declared.fault.BindFault.{BindFault}
 use Rattle.bind_faults.specs.declared.fault.BindFault.TheVariants.{Refused, Limit}
+use Rattle.query_model.specs.declared.query.Query.{Query}
 use Rattle.spec_model.specs.declared.question.Asked.{Asked}
 use Rattle.spec_model.specs.declared.question.Question.{Question}
 use Rattle.spec_model.specs.declared.question.Question.TheVariants as asked
@@ -80,14 +81,23 @@ answers_of relations query = and_then (queried_on (map (λ r. r.name) relations)
 
 -- ---- questions
 
+-- the question asks for the answers of a query
+abbrev pub AsksQuery : Question → Type 0
+AsksQuery q = (query : Query) × (q ≡ asked.Answers query)
+
 -- what a tree is bound to
 abbrev pub IsQuestionBound : List (List ℕ × List ℕ) → List Relation → QuestionTree → Result Question BindFault → Type 0
-IsQuestionBound told relations tree.Consistent outcome = outcome ≡ Ok asked.Consistent
+IsQuestionBound told relations (tree.Consistent line) outcome = outcome ≡ Ok asked.Consistent
 IsQuestionBound told relations (tree.Certain line trees) outcome =
     (pairs : Result (List Asked) BindFault) × AreGroupsAsked told relations [] (groups_of trees) pairs
     × (outcome ≡ and_then pairs (certain_of line))
-IsQuestionBound told relations (tree.Same names) outcome = outcome ≡ same_of relations names
+IsQuestionBound told relations (tree.Same line names) outcome = outcome ≡ same_of relations names
 IsQuestionBound told relations (tree.Answers query) outcome = outcome ≡ answers_of relations query
+
+-- what a tree of a query is bound to asks one
+abbrev pub AskAlike : QuestionTree → Question → Type 0
+AskAlike (tree.Answers query) q = AsksQuery q
+AskAlike other q = Unit {0}
 
 -- ---- tables that are due
 

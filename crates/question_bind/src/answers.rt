@@ -4,7 +4,7 @@ ghost use Rattle.std.specs.Prelude.{◌≡◌, IfOk};
 ghost use Rattle.bind_faults.specs.Faults.{IsDue, IsReadFault};
 ghost use Rattle.spec_model.specs.Questions.{IsQuestionOn};
 ghost use Rattle.spec_names.specs.Names.{all_names_of};
-ghost use Rattle.question_bind.specs.Bound.{answers_of};
+ghost use Rattle.question_bind.specs.Bound.{AsksQuery, answers_of};
 
 use bind_faults::BindFault;
 use query_bind::bind_query;
@@ -22,6 +22,7 @@ pub fn bind_answers(
 ) -> Result<Question, BindFault>
     ensures due { IsDue (answers_of spec.now.relations tree.now) result }
     ensures fits { IfOk result (IsQuestionOn spec.now.relations) }
+    ensures asks { IfOk result AsksQuery }
     ensures reads { IsReadFault result → ⊥ }
 {
     let names = SpecNames::of(alloc, spec)?;
@@ -38,6 +39,7 @@ fn answers_named(
     requires { names.now ≡ all_names_of spec.now }
     ensures due { IsDue (answers_of spec.now.relations tree.now) result }
     ensures fits { IfOk result (IsQuestionOn spec.now.relations) }
+    ensures asks { IfOk result AsksQuery }
     ensures reads { IsReadFault result → ⊥ }
 {
     match bind_query(alloc, names, spec, tree) {

@@ -2,7 +2,7 @@ ghost use Rattle.std.specs.Prelude.{◌≡◌, ◌≤◌, ℕ, List, IfOk, IfSom
 ghost use Rattle.currency_edge.specs.Fault.{Rose};
 ghost use Rattle.bind_faults.specs.Faults.{IsSettled, IsReadFault, IsReadFaultOf};
 ghost use Rattle.spec_model.specs.Questions.{IsQuestionOn};
-ghost use Rattle.question_bind.specs.Bound.{IsQuestionBound, IsQuestionTableDue};
+ghost use Rattle.question_bind.specs.Bound.{AskAlike, IsQuestionBound, IsQuestionTableDue};
 
 use crate::answers::bind_answers;
 use crate::certain::bind_certain;
@@ -41,16 +41,17 @@ pub fn bind_question<S: Shelf>(
     ensures bound { IsSettled result → IfSome (S.texts shelf.old) (λ told. IsQuestionBound told spec.now.relations
         tree.now result) }
     ensures fits { IfOk result (IsQuestionOn spec.now.relations) }
+    ensures alike { IfOk result (AskAlike tree.now) }
     ensures read_fault { IsReadFault result → Rose (S.faults shelf.old) (S.faults shelf.new) }
     ensures table_due { (name : List ℕ) → IsReadFaultOf result name
         → IfSome (S.texts shelf.old) (λ told. IsQuestionTableDue told spec.now.relations tree.now name) }
 {
     match tree {
-        QuestionTree::Consistent => Ok(Question::Consistent),
+        QuestionTree::Consistent { .. } => Ok(Question::Consistent),
         QuestionTree::Certain { line, asked } => {
             bind_certain(alloc, spec, *line, asked.as_slice(), shelf)
         }
-        QuestionTree::Same(named) => bind_same(alloc, spec, named.as_slice()),
+        QuestionTree::Same { relations, .. } => bind_same(alloc, spec, relations.as_slice()),
         QuestionTree::Answers(query) => bind_answers(alloc, spec, query),
     }
 }

@@ -12,7 +12,7 @@ use Rattle.text_grammar.specs.declared.named.Named.{Named}
 use Rattle.text_grammar.proofs.Readers.{always, Begins, Ended, Image, begins_image, first_says, first_then, reads_one, reads_two, reads_mapped, reads_same}
 use Rattle.text_grammar.proofs.Choices.{Either, reads_choose}
 use Rattle.text_grammar.proofs.ListReaders.{ends, reads_listed}
-use Rattle.text_grammar.proofs.FixedTokens.{a_fixed, a_fixed_is, apart, reads_name, reads_string, reads_symbol, after_word, before_symbol, listed_symbol, begins_fixed}
+use Rattle.text_grammar.proofs.FixedTokens.{a_fixed, a_fixed_is, apart, reads_name, reads_string, after_word, before_symbol, listed_symbol, begins_fixed}
 use Rattle.query_syntax.specs.declared.trees.QueryTree.{QueryTree}
 use Rattle.query_syntax.specs.Grammar.{SpellsQuery}
 use Rattle.query_syntax.proofs.Rules.{begins_query, query_ends, reads_query}
@@ -22,7 +22,7 @@ use Rattle.question_syntax.specs.declared.trees.AskedTree.{AskedTree}
 use Rattle.question_syntax.specs.declared.trees.AskedTree.TheVariants.{Ordering, Table}
 use Rattle.question_syntax.specs.declared.trees.QuestionTree.{QuestionTree}
 use Rattle.question_syntax.specs.declared.trees.QuestionTree.TheVariants.{Consistent, Certain, Same, Answers}
-use Rattle.question_syntax.specs.Grammar.{SpellsAsked, SpellsQuestion, certain_line}
+use Rattle.question_syntax.specs.Grammar.{SpellsAsked, SpellsQuestion, word_line}
 use Rattle.question_syntax.specs.Reading.{table_at, pairs_at, asked_at, consistent_at, certain_at, same_at, answers_at, question_at}
 
 -- ---- no name is the word `orders`
@@ -119,15 +119,31 @@ list_ends (a ∷ b ∷ rest) t e = list_ends (b ∷ rest) t e
 
 -- ---- questions
 
-abbrev consistent_of : Unit {0} → QuestionTree
-consistent_of u = Consistent
+-- the line of a word
+reads_word_line : (text : List ℕ) → IsReader (Says (word_line text)) always (one (word_line text))
+reads_word_line text = reads_one (word_line text) (a_fixed Word text) (a_fixed Word text).line
+    (ap (λ (b : Bool). cond b (Some (a_fixed Word text).line) None) (a_fixed_is Word text))
 
-abbrev SpellsConsistent : Unit {0} → Language
-SpellsConsistent u = IsWord (codes "consistent") ⋅ IsSymbol (codes ";")
+-- a token that says the line of a word is that word
+says_word : (text : List ℕ) (t : Lexeme) (line : ℕ) → word_line text t ≡ Some line → is_word text t ≡ true
+says_word text t line e = passes (is_word text t) t.line line e
+  where
+    passes : (b : Bool) (n m : ℕ) → ◌≡◌ {A = Option ℕ} (cond b (Some n) None) (Some m) → b ≡ true
+    passes true n m e = refl
+    passes false n m e = absurd (cc)
 
-reads_consistent : IsReader (Image consistent_of SpellsConsistent) always consistent_at
+-- what is known of a word is known of the token that says its line
+first_word : (text : List ℕ) (test : Lexeme → Bool) (b : Bool) → ((t : Lexeme) → is_word text t ≡ true → test t ≡ b)
+    → (t : Lexeme) (line : ℕ) → word_line text t ≡ Some line → test t ≡ b
+first_word text test b goes t line e = goes t (says_word text t line e)
+
+abbrev SpellsConsistent : ℕ → Language
+SpellsConsistent line = Says (word_line (codes "consistent")) line ⋅ IsSymbol (codes ";")
+
+reads_consistent : IsReader (Image Consistent SpellsConsistent) always consistent_at
 unfolding consistent_at
-reads_consistent = reads_mapped (after_word (codes "consistent") (reads_symbol (codes ";"))) consistent_of always (λ u t. refl)
+reads_consistent = reads_mapped (before_symbol (codes ";") (reads_word_line (codes "consistent")) (λ line t e. refl))
+    Consistent always (λ line t. refl)
 
 -- the parts of `certain`: the line of the word, and what is asked
 abbrev CertainParts : Type 0
@@ -140,11 +156,7 @@ abbrev SpellsEndedAsked : List AskedTree → Language
 SpellsEndedAsked asked = Listed (IsWord (codes "and")) SpellsAsked asked ⋅ IsSymbol (codes ";")
 
 abbrev SpellsCertain : CertainParts → Language
-SpellsCertain x = Says certain_line x.0 ⋅ SpellsEndedAsked x.1
-
-reads_certain_line : IsReader (Says certain_line) always (one certain_line)
-reads_certain_line = reads_one certain_line (a_fixed Word (codes "certain")) (a_fixed Word (codes "certain")).line
-    (ap (λ (b : Bool). cond b (Some (a_fixed Word (codes "certain")).line) None) (a_fixed_is Word (codes "certain")))
+SpellsCertain x = Says (word_line (codes "certain")) x.0 ⋅ SpellsEndedAsked x.1
 
 reads_ended_asked : IsReader SpellsEndedAsked always (before (listed (is_word (codes "and")) asked_at) (is_symbol (codes ";")))
 reads_ended_asked = before_symbol (codes ";")
@@ -153,20 +165,27 @@ reads_ended_asked = before_symbol (codes ";")
 
 reads_certain : IsReader (Image certain_of SpellsCertain) always certain_at
 unfolding certain_at
-reads_certain = reads_mapped (reads_two reads_certain_line reads_ended_asked) certain_of always (λ x t. refl)
+reads_certain = reads_mapped (reads_two (reads_word_line (codes "certain")) reads_ended_asked) certain_of always (λ x t. refl)
 
 abbrev SpellsEndedNames : List Named → Language
 SpellsEndedNames names = Listed (IsSymbol (codes ",")) SpellsName names ⋅ IsSymbol (codes ";")
 
-abbrev SpellsSame : List Named → Language
-SpellsSame names = IsWord (codes "same") ⋅ SpellsEndedNames names
+-- the parts of `same`: the line of the word, and the names
+abbrev SameParts : Type 0
+SameParts = ℕ × List Named
 
-reads_same_names : IsReader (Image Same SpellsSame) always same_at
+abbrev same_of : SameParts → QuestionTree
+same_of x = Same x.0 x.1
+
+abbrev SpellsSame : SameParts → Language
+SpellsSame x = Says (word_line (codes "same")) x.0 ⋅ SpellsEndedNames x.1
+
+reads_same_names : IsReader (Image same_of SpellsSame) always same_at
 unfolding same_at
 reads_same_names = reads_mapped
-    (after_word (codes "same") (before_symbol (codes ";") (listed_symbol (codes ",") reads_name)
+    (reads_two (reads_word_line (codes "same")) (before_symbol (codes ";") (listed_symbol (codes ",") reads_name)
     (λ names t e. ap not (apart Symbol (codes ";") Symbol (codes ",") refl t e))))
-    Same always (λ names t. refl)
+    same_of always (λ x t. refl)
 
 abbrev SpellsAnswers : QueryTree → Language
 SpellsAnswers q = SpellsQuery q ⋅ IsSymbol (codes ";")
@@ -175,27 +194,21 @@ reads_answers : IsReader (Image Answers SpellsAnswers) always answers_at
 unfolding answers_at
 reads_answers = reads_mapped (before_symbol (codes ";") reads_query (query_ends (codes ";"))) Answers always (λ q t. refl)
 
-begins_consistent : Begins (is_word (codes "consistent")) true (Image consistent_of SpellsConsistent)
-begins_consistent = begins_image consistent_of SpellsConsistent (is_word (codes "consistent")) true
-    (begins_fixed (λ (u : Unit {0}). IsSymbol (codes ";")) Word (codes "consistent") (is_word (codes "consistent"))
-    true (λ t e. e))
-
--- a token that says the line of the word `certain` is that word
-says_certain : (t : Lexeme) (line : ℕ) → certain_line t ≡ Some line → is_word (codes "certain") t ≡ true
-says_certain t line e = passes (is_word (codes "certain") t) t.line line e
-  where
-    passes : (b : Bool) (n m : ℕ) → ◌≡◌ {A = Option ℕ} (cond b (Some n) None) (Some m) → b ≡ true
-    passes true n m e = refl
-    passes false n m e = absurd (cc)
+begins_consistent : Begins (is_word (codes "consistent")) true (Image Consistent SpellsConsistent)
+begins_consistent = begins_image Consistent SpellsConsistent (is_word (codes "consistent")) true
+    (λ line tokens h. first_then (is_word (codes "consistent")) true
+    (first_says (is_word (codes "consistent")) true
+    (first_word (codes "consistent") (is_word (codes "consistent")) true (λ t e. e)) line) h)
 
 begins_certain : (test : Lexeme → Bool) (b : Bool) → ((t : Lexeme) → is_word (codes "certain") t ≡ true → test t ≡ b)
     → Begins test b (Image certain_of SpellsCertain)
 begins_certain test b goes = begins_image certain_of SpellsCertain test b
-    (λ x tokens h. first_then test b (first_says test b (λ t line e. goes t (says_certain t line e)) x.0) h)
+    (λ x tokens h. first_then test b (first_says test b (first_word (codes "certain") test b goes) x.0) h)
 
 begins_same : (test : Lexeme → Bool) (b : Bool) → ((t : Lexeme) → is_word (codes "same") t ≡ true → test t ≡ b)
-    → Begins test b (Image Same SpellsSame)
-begins_same test b goes = begins_image Same SpellsSame test b (begins_fixed SpellsEndedNames Word (codes "same") test b goes)
+    → Begins test b (Image same_of SpellsSame)
+begins_same test b goes = begins_image same_of SpellsSame test b
+    (λ x tokens h. first_then test b (first_says test b (first_word (codes "same") test b goes) x.0) h)
 
 begins_answers : (test : Lexeme → Bool) (b : Bool) → ((t : Lexeme) → is_word (codes "answers") t ≡ true → test t ≡ b)
     → Begins test b (Image Answers SpellsAnswers)
@@ -204,13 +217,13 @@ begins_answers test b goes = begins_image Answers SpellsAnswers test b
 
 -- questions from some word on, in the order in which they are tried
 abbrev FromSame : QuestionTree → Language
-FromSame = Either (Image Same SpellsSame) (Image Answers SpellsAnswers)
+FromSame = Either (Image same_of SpellsSame) (Image Answers SpellsAnswers)
 
 abbrev FromCertain : QuestionTree → Language
 FromCertain = Either (Image certain_of SpellsCertain) FromSame
 
 abbrev FromConsistent : QuestionTree → Language
-FromConsistent = Either (Image consistent_of SpellsConsistent) FromCertain
+FromConsistent = Either (Image Consistent SpellsConsistent) FromCertain
 
 begins_from_same : (test : Lexeme → Bool) (b : Bool) → ((t : Lexeme) → is_word (codes "same") t ≡ true → test t ≡ b)
     → ((t : Lexeme) → is_word (codes "answers") t ≡ true → test t ≡ b) → Begins test b FromSame
@@ -231,9 +244,9 @@ question_spelled q tokens (inr (inr (inl h))) = subst (λ (q : QuestionTree). Sp
 question_spelled q tokens (inr (inr (inr h))) = subst (λ (q : QuestionTree). SpellsQuestion q tokens) h.is h.spelled
 
 spelled_question : (q : QuestionTree) (tokens : List Lexeme) → SpellsQuestion q tokens → FromConsistent q tokens
-spelled_question Consistent tokens h = inl (record { tree = tt; is = refl; spelled = h })
+spelled_question (Consistent line) tokens h = inl (record { tree = line; is = refl; spelled = h })
 spelled_question (Certain line asked) tokens h = inr (inl (record { tree = (line, asked); is = refl; spelled = h }))
-spelled_question (Same names) tokens h = inr (inr (inl (record { tree = names; is = refl; spelled = h })))
+spelled_question (Same line names) tokens h = inr (inr (inl (record { tree = (line, names); is = refl; spelled = h })))
 spelled_question (Answers query) tokens h = inr (inr (inr (record { tree = query; is = refl; spelled = h })))
 
 reads_from_same : IsReader FromSame always (choose (is_word (codes "same")) same_at answers_at)

@@ -12,6 +12,7 @@ pub use query_syntax::{
     AtomTree, DisjunctTree, DisjunctTreeList, PartTree, PartTreeList, PlaceTree, PlaceTreeList,
     QueryTree, TestTermTree, TestTree,
 };
+pub use question::QuestionRule;
 pub use read::read_question;
 pub use text_tokens::TextFault;
 pub use trees::{AskedTree, AskedTreeList, QuestionTree};

@@ -3,15 +3,15 @@ use query_syntax::QueryTree;
 use spec_syntax::OrderingTree;
 use text_grammar::{Named, NamedList};
 
-/// A question.
+/// A question. A line is that of its first word.
 #[derive(Drop)]
 pub enum QuestionTree {
     /// Is the specification consistent?
-    Consistent,
-    /// Do these pairs hold in every consistent completion? The line is that of the word `certain`.
+    Consistent { line: u32 },
+    /// Do these pairs hold in every consistent completion?
     Certain { line: u32, asked: AskedTreeList },
     /// Are the current tuples of these relations the same in every consistent completion?
-    Same(NamedList),
+    Same { line: u32, relations: NamedList },
     /// Which tuples are answers of this query in every consistent completion?
     Answers(QueryTree),
 }

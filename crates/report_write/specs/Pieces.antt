@@ -138,6 +138,10 @@ shown_pieces form relations r =
     word (codes "currency") ++ word form ++ word (codes "2") ++ symbol (codes ";")
     ++ word (codes "verdict") ++ claim_pieces relations r.verdict ++ completions_pieces relations r.completions
 
+-- a verdict with its items: what a brief text has between its head and its completions
+abbrev pub verdict_pieces : List Relation → Verdict → List Piece
+verdict_pieces relations v = word (codes "verdict") ++ claim_pieces relations v
+
 -- report = "currency" "report" "2" ";" verdict { completion } [ log ] "end" ";"
 abbrev pub report_pieces : List Relation → Report → List Piece
 report_pieces relations r =

@@ -1,5 +1,5 @@
 ghost use Rattle.std.specs.Prelude.{◌≡◌, IfOk, OnOk};
-ghost use Rattle.report_write.specs.Pieces.{brief_pieces, report_pieces, shown_pieces};
+ghost use Rattle.report_write.specs.Pieces.{brief_pieces, report_pieces, shown_pieces, verdict_pieces};
 ghost use Rattle.report_write.specs.Writable.{IsWritableReport};
 ghost use Rattle.text_write.specs.Pieces.{text_of};
 ghost use Rattle.text_write.specs.Spacing.{writes_all};
@@ -42,6 +42,34 @@ pub fn write_brief(
     let mut into = TextWriter::new(alloc);
     write_without_log(&mut into, spec, report)?;
     Ok(into.into_text())
+}
+
+/// The verdict alone, with its items: what the brief text has between its first line and its completions.
+pub fn write_verdict(
+    alloc: Global,
+    spec: &Specification,
+    report: &Report,
+) -> Result<ByteList, NoMemory>
+    requires { IsWritableReport spec.now.relations report.now }
+    ensures { IfOk result (λ text. text ≡ text_of (verdict_pieces spec.now.relations report.now.verdict)) }
+{
+    let mut into = TextWriter::new(alloc);
+    write_claimed(&mut into, spec, report)?;
+    Ok(into.into_text())
+}
+
+/// Writes the verdict of a report, with its items.
+#[tactic(auto, using(text_write::proofs::Writings::writes_append))]
+fn write_claimed(
+    into: &mut TextWriter,
+    spec: &Specification,
+    report: &Report,
+) -> Result<(), NoMemory>
+    requires { IsWritableReport spec.now.relations report.now }
+    ensures { OnOk result (into.new ≡ writes_all into.old (verdict_pieces spec.now.relations report.now.verdict)) }
+{
+    into.word("verdict")?;
+    write_claim(into, spec.relations(), &report.verdict)
 }
 
 /// Writes a report with its log.

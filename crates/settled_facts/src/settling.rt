@@ -17,9 +17,9 @@ use spec_model::Specification;
 use std::alloc::Global;
 
 /// Settles facts: shows of each that it holds in every consistent completion, or lists one in which it fails. Of some it is
-/// known already that they hold. Some consistent completions are known; more are listed where they are needed, of which one serves the facts of many parts. Each
-/// question that is put on the way has the budget of clauses that may be learned; the first fact for which it is spent over
-/// the whole specification ends the search. The guides steer it, whatever they pick.
+/// known already that they hold. Some consistent completions are known; more are listed where they are needed, of which one
+/// serves the facts of many parts. Each question that is put on the way has the budget of clauses that may be learned; the
+/// first fact for which it is spent over the whole specification ends the search. The guides steer it, whatever they pick.
 pub fn settle(
     alloc: Global,
     spec: &Specification,

@@ -33,7 +33,7 @@ is_relation_with r given h all =
     }
 
 -- other given pairs at one relation of a specification
-are_relations_with : (rs : List Relation) (i : ℕ) (r : Relation) (given : List Pair)
+pub are_relations_with : (rs : List Relation) (i : ℕ) (r : Relation) (given : List Pair)
     → AreRelations rs → slice_get rs i ≡ Some r → IsRelation r → All (IsGivenPair r) given
     → AreRelations (slice_set rs i (record r { given = given }))
 are_relations_with rs i r given h at is all =
@@ -51,7 +51,7 @@ is_relation_of rs i r h at =
     subst IsRelation (get_or_from_slice_get rs i r r at) (All-get_or IsRelation rs i r (slice_get_within rs i r at) h.each)
 
 -- the relation that was read at a place
-found_at : (rs now : List Relation) (i : ℕ) (r : Relation) → rs ≡ now → i < length now → r ≡ get_or rs i r
+pub found_at : (rs now : List Relation) (i : ℕ) (r : Relation) → rs ≡ now → i < length now → r ≡ get_or rs i r
     → slice_get now i ≡ Some r
 found_at rs now i r same below read =
     slice_get_read now (length now) i r refl below (rw same at read)

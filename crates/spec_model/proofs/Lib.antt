@@ -2,4 +2,8 @@ mod AddedCopies
 mod AddedPairs
 mod AddedRules
 mod BlankLists
+mod MappedCopies
 mod Shapes
+mod TakenPairs
+mod TakenRules
+mod UndoneEdits

@@ -1,12 +1,17 @@
 -- What every specification keeps.
-use Rattle.std.specs.Prelude.{◌≡◌, ◌+◌, ◌^◌, ◌<◌, ℕ, List, length, map, All, Some, slice_get, slice_set}
+use Rattle.std.specs.Prelude.{◌≡◌, ◌+◌, ◌^◌, ◌<◌, ℕ, List, [], length, map, All, Option, Some, None, option_and_then, slice_get, slice_set}
 use Rattle.std.specs.BTreeSet.{insert_key}
 use Rattle.currency_base.specs.Lists.{OnlyOnce}
 use Rattle.currency_base.specs.Rows.{HasRowOf}
 use Rattle.currency_base.specs.Values.{kind_of}
-use Rattle.copy_functions.specs.Copies.{CopyFunction, IsCopied}
+use Rattle.copy_functions.specs.Copies.{CopyFunction, with_source, without_source, IsCopied}
+use Rattle.copy_functions.specs.Faults.{fault_due}
+use Rattle.copy_functions.specs.declared.fault.CopyFault.{CopyFault}
 use Rattle.copy_functions.specs.declared.place.Place.{Place}
-use Rattle.partial_orders.specs.Pairs.{AreOfOneEntity, pair_cmp}
+use Rattle.partial_orders.specs.Pairs.{AreOfOneEntity, pair_cmp, without_pair}
+use Rattle.currency_base.specs.declared.ids.RelId.{RelId}
+use Rattle.currency_base.specs.declared.ids.RowId.{RowId}
+use Rattle.currency_base.specs.declared.row.Row.{Row}
 use Rattle.currency_base.specs.declared.pair.Pair.{Pair}
 use Rattle.currency_base.specs.declared.value.Kind.{Kind}
 use Rattle.denial_rules.specs.Rules.{IsRuleOn}
@@ -92,3 +97,35 @@ with_given r pair = record r { given = insert_key pair_cmp r.given pair }
 -- new is old with one more given pair at one of its relations
 abbrev pub AddsGiven : List Relation → List Relation → ℕ → Pair → Type 0
 AddsGiven old new rel pair = (r : Relation) → slice_get old rel ≡ Some r → new ≡ slice_set old rel (with_given r pair)
+
+-- the relation with one given pair less
+abbrev pub without_given : Relation → Pair → Relation
+without_given r pair = record r { given = without_pair r.given pair }
+
+-- new is old with one given pair less at one of its relations
+abbrev pub TakesGiven : List Relation → List Relation → ℕ → Pair → Type 0
+TakesGiven old new rel pair = (r : Relation) → slice_get old rel ≡ Some r → new ≡ slice_set old rel (without_given r pair)
+
+-- the rows of a relation, if it is there
+abbrev pub rows_of : List Relation → RelId → List Row
+rows_of relations rel = of (slice_get relations rel.0)
+  where
+    of : Option Relation → List Row
+    of None = []
+    of (Some r) = r.rows
+
+-- new is old with one more row mapped, by the copy function at a place
+abbrev pub MapsCopied : List CopyFunction → List CopyFunction → ℕ → RowId → RowId → Type 0
+MapsCopied old new copy target source =
+    (c : CopyFunction) → slice_get old copy ≡ Some c → new ≡ slice_set old copy (with_source c target source)
+
+-- new is old with one row mapped less, by the copy function at a place
+abbrev pub UnmapsCopied : List CopyFunction → List CopyFunction → ℕ → RowId → Type 0
+UnmapsCopied old new copy target =
+    (c : CopyFunction) → slice_get old copy ≡ Some c → new ≡ slice_set old copy (without_source c target)
+
+-- why the copy function at a place does not map a target row to a source row, if there is a cause
+abbrev pub copied_due : Spec → ℕ → RowId → RowId → Option CopyFault
+copied_due s copy target source =
+    option_and_then (λ c. fault_due c (rows_of s.relations c.target) (rows_of s.relations c.source) target source)
+    (slice_get s.copies copy)

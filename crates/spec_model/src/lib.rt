@@ -20,4 +20,4 @@ pub use partial_orders::Pairs;
 pub use query_model::Query;
 pub use question::{Asked, AskedList, Question, RelList};
 pub use relation::{Attr, AttrList, Relation, RelationList};
-pub use specification::Specification;
+pub use specification::{Specification, edits_are_undone};

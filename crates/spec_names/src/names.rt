@@ -5,7 +5,7 @@ ghost use Rattle.spec_names.specs.Names.{names_of, all_names_of};
 use crate::named::index_of;
 use currency_base::{Name, NoMemory};
 use name_index::NameIndex;
-use spec_model::{Relation, Specification};
+use spec_model::{Relation, Rule, Specification};
 use std::alloc::Global;
 use std::marker::Model;
 
@@ -116,6 +116,16 @@ impl SpecNames {
         ensures err { OnErr result (self.new ≡ self.old) }
     {
         let _ = self.copies.add(name)?;
+        Ok(())
+    }
+
+    /// Puts the names of these rules, copied, in the place of those that are there. A refusal changes nothing.
+    pub fn replace_rules(&mut self, alloc: Global, rules: &[Rule]) -> Result<(), NoMemory>
+        requires { OnlyOnce (map (λ rule. rule.name) rules.now) }
+        ensures ok { OnOk result (self.new ≡ record self.old { rules = map (λ rule. rule.name) rules.now }) }
+        ensures err { OnErr result (self.new ≡ self.old) }
+    {
+        self.rules = index_of(alloc, rules)?;
         Ok(())
     }
 

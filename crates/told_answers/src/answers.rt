@@ -38,8 +38,8 @@ fn report_text(
     }
 }
 
-// How a question ends that is decided, or not.
-fn ending_of(decided: bool) -> Ending
+/// How a question ends that is decided, or not.
+pub fn ending_of(decided: bool) -> Ending
     ensures { result ≡ ending_of decided }
 {
     if decided {

@@ -4,4 +4,4 @@
 mod answers;
 mod names;
 
-pub use answers::{report_on, told_report};
+pub use answers::{ending_of, report_on, told_report};

@@ -110,6 +110,7 @@ decided_told size text ending.Tabled zero h = absurd (of_question size text endi
 decided_told size text ending.Inconsistent zero h = absurd (of_question size text ending.Inconsistent h)
 decided_told size text ending.Open zero h = absurd (of_question size text ending.Open h)
 decided_told size text ending.Decided zero h = h
+decided_told size text ending.Denied zero h = absurd (of_question size text ending.Denied h)
 decided_told size text ending.Undecided zero h = absurd (omega (arith, zero))
 
 spent_of : (size : ℕ) (text : List ℕ) (s : Spec) (questions : List Question) → IsTrialTold size text ending.Undecided
@@ -135,6 +136,7 @@ spent_told size text ending.Tabled three h = absurd (of_question size text endin
 spent_told size text ending.Inconsistent three h = absurd (of_question size text ending.Inconsistent h)
 spent_told size text ending.Open three h = absurd (of_question size text ending.Open h)
 spent_told size text ending.Decided three h = absurd (omega (arith, three))
+spent_told size text ending.Denied three h = absurd (of_question size text ending.Denied h)
 spent_told size text ending.Undecided three h =
     (of_told size (λ s. IsTrialSpent size text) text ending.Undecided h
     (λ s read questions tried. spent_of size text s questions h read tried)).2

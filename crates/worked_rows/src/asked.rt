@@ -279,6 +279,12 @@ end;
 >> --help => 2 words refused
 >> ask s => 2 words refused
 >> ask s q --brief --brief => 2 words refused
+>> ask s q --brief --verdict => 2 words refused
+>> ask s q --csv --verdict => 2 words refused
+>> ask s q --csv --exit => 2 words refused
+>> ask s q --exit --exit => 2 words refused
+>> possible s q --verdict => 2 words refused
+>> explain s q 1 --exit => 2 words refused
 >> ask s q --guide 5 => 2 words refused
 >> ask s q --guide 1 => 2 words refused
 >> why s q 1 => 2 words refused
@@ -398,6 +404,8 @@ r2,x,0,0,0
 verdict undecided 1;
 ...
 >> verify s q p => 0 accepted undecided
+>> ask s q --budget 1 --verdict => 3 verdict undecided 1;
+>> ask s q --budget 1 --verdict --exit => 3 verdict undecided 1;
 >> ask s q --budget=27
 0 currency report 2;
 verdict inconsistent;

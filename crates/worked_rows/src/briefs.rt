@@ -1,4 +1,4 @@
-//! Brief texts of questions. With no guide the first free pair is turned round, again and again.
+//! Brief texts of questions, verdicts alone, and the status of an answer of no. With no guide the first free pair is turned round, again and again.
 
 use crate::documents::expect_played;
 use std::test::Fail;
@@ -300,6 +300,64 @@ ranking Emp.salary of mary: s2 < s1 < s3;
 ranking Emp.address of mary: s2 < s1 < s3;
 ranking Dept.mgr of rd: d1 < d2;
 ranking Dept.budget of rd: d2 < d1;
+end;
+
+== the verdict alone, and a status that tells an answer of no
+-- s: relation R from "r.csv" row id entity eid (a: int);
+-- r.csv
+id,eid,a
+r1,x,1
+r2,x,2
+-- q: consistent;
+>> ask s q --verdict => 0 verdict consistent;
+>> ask s q --exit --verdict => 0 verdict consistent;
+-- q: certain R.a: r1 < r2;
+>> ask s q --verdict => 0 verdict not certain R.a: r1 < r2;
+>> ask s q --verdict --exit => 1 verdict not certain R.a: r1 < r2;
+>> ask --exit s q --brief
+1 currency brief 2;
+verdict not certain R.a: r1 < r2;
+completion;
+ranking R.a of x: r2 < r1;
+end;
+>> ask s q --exit
+1 currency report 2;
+verdict not certain R.a: r1 < r2;
+completion;
+ranking R.a of x: r2 < r1;
+end;
+-- q: same R;
+>> ask s q --verdict => 0 verdict not same R.a of x;
+>> ask s --verdict q --budget 1 --exit => 1 verdict not same R.a of x;
+-- q: answers (v) where R(_, v);
+:: No answer is certain, which is no answer of no.
+>> ask s q --verdict --exit => 0 verdict answers;
+-- s
+relation R from "r.csv" row id entity eid (a: int);
+order R.a: r1 < r2;
+>> ask s q --verdict
+0 verdict answers;
+answer (2);
+>> ask s q --verdict --exit
+0 verdict answers;
+answer (2);
+-- q: same R;
+>> ask s q --verdict --exit
+0 verdict same;
+current R x (2);
+-- q: certain R.a: r1 < r2;
+>> ask s q --verdict --exit => 0 verdict certain;
+-- s
+relation R from "r.csv" row id entity eid (a: int);
+order R.a: r1 < r2, r2 < r1;
+>> ask s q --verdict => 0 verdict inconsistent;
+>> ask s q --verdict --exit => 1 verdict inconsistent;
+-- q: answers (v) where R(_, v);
+>> ask s q --verdict --exit => 1 verdict inconsistent;
+-- q: consistent;
+>> ask s q --brief --exit
+1 currency brief 2;
+verdict inconsistent;
 end;
 "#;
 

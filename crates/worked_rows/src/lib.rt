@@ -67,6 +67,8 @@ mod steered;
 #[cfg(test)]
 mod steered_rows;
 #[cfg(test)]
+mod tables;
+#[cfg(test)]
 mod told;
 #[cfg(test)]
 mod trials;

@@ -7,8 +7,8 @@ returns-in-Err-clause-said g c settled =
     c.in-Err.trouble
     (c.in-Err.ensures.tree settled)
 
-pub returns-clause-unread : goal.returns-clause-unread
-returns-clause-unread g c =
+pub returns-in-Err-bind_question-clause-unread : goal.returns-in-Err-bind_question-clause-unread
+returns-in-Err-bind_question-clause-unread g c =
     question_table_unread (g.S.Shelf.texts c.args.shelf.now) c.args.spec.now.relations c.args.name.now
     c.args.bytes.now c.in-Ok.tree
     c.in-Err-bind_question.fault c.of_binding.result (c.in-Ok.ensures.tree tt) c.of_binding.ensures.due

@@ -5,5 +5,6 @@ pub returns : goal.returns
 returns c = one_due record {
   specs = c.one_read.ensures.specs;
   questions = c.one_read.ensures.questions;
+  trees = c.one_read.ensures.trees;
   verdicts = c.one_verdict.ensures;
 }

@@ -1,10 +1,10 @@
 use Rattle.std.proofs.Common.{map, ap, Ok, Err}
 use Rattle.std.specs.String.{string_bytes}
 use Rattle.currency_cli.proofs.program.run.Goals as goal
-use Rattle.currency_cli.proofs.JobsDone.{done_reads, sink_failed, is_done, is_undecided, prefix_written, refusal_not_zero, refusal_not_three, refusal_not_eight, refusal_not_ten, is_inconsistent}
+use Rattle.currency_cli.proofs.JobsDone.{done_reads, sink_failed, is_denied, is_done, is_undecided, prefix_written, refusal_not_one, refusal_not_zero, refusal_not_three, refusal_not_eight, refusal_not_ten, is_inconsistent}
 use Rattle.currency_cli.proofs.Exact.{comes_to, comes_to_its_own}
 use Rattle.currency_cli.proofs.Refusals.{refused, words_refused, are_words, done_not_two, names_unread}
-use Rattle.currency_cli.proofs.Replies.{answered, blamed, explained, imagined, recorded, verified, listed}
+use Rattle.currency_cli.proofs.Replies.{answered, blamed, explained, imagined, listed, possibly_tabled, recorded, tabled, verified}
 
 -- ---- the job was done
 
@@ -16,6 +16,15 @@ returns-in-Ok-clause-done g c status =
 
 pub returns-in-Err-clause-done : goal.returns-in-Err-clause-done
 returns-in-Err-clause-done g c status = absurd (refusal_not_zero _ _ _ _ c.in-Err.trouble c.refuse.result c.refuse.ensures status)
+
+pub returns-in-Ok-clause-denied : goal.returns-in-Ok-clause-denied
+returns-in-Ok-clause-denied g c status =
+    is_denied (g.S.Shelf.texts c.args.shelf.now) _ (map (λ w. string_bytes w) c.args.words.now) _ _ _ _ c.in-Ok.done
+    c.hand_out.result
+    c.in-Ok.ensures.told c.hand_out.ensures status
+
+pub returns-in-Err-clause-denied : goal.returns-in-Err-clause-denied
+returns-in-Err-clause-denied g c status = absurd (refusal_not_one _ _ _ _ c.in-Err.trouble c.refuse.result c.refuse.ensures status)
 
 pub returns-in-Ok-clause-undecided : goal.returns-in-Ok-clause-undecided
 returns-in-Ok-clause-undecided g c status =
@@ -135,6 +144,30 @@ returns-in-Ok-clause-recorded g c =
 pub returns-in-Err-clause-recorded : goal.returns-in-Err-clause-recorded
 returns-in-Err-clause-recorded g c =
     recorded c.one_read.ensures.specs (g.S.Shelf.texts c.args.shelf.now) _ (map (λ w. string_bytes w) c.args.words.now)
+    (Err c.in-Err.trouble) _ _ _ _ _ _ c.refuse.result c.in-Err.ensures.due c.in-Err.ensures.read_fault c.refuse.ensures
+
+pub returns-in-Ok-clause-tabled : goal.returns-in-Ok-clause-tabled
+returns-in-Ok-clause-tabled g c =
+    tabled c.one_read.ensures.specs c.one_read.ensures.questions (g.S.Shelf.texts c.args.shelf.now) _
+    (map (λ w. string_bytes w) c.args.words.now)
+    (Ok c.in-Ok.done) _ _ _ _ _ _ c.hand_out.result c.in-Ok.ensures.due c.in-Ok.ensures.read_fault c.hand_out.ensures
+
+pub returns-in-Err-clause-tabled : goal.returns-in-Err-clause-tabled
+returns-in-Err-clause-tabled g c =
+    tabled c.one_read.ensures.specs c.one_read.ensures.questions (g.S.Shelf.texts c.args.shelf.now) _
+    (map (λ w. string_bytes w) c.args.words.now)
+    (Err c.in-Err.trouble) _ _ _ _ _ _ c.refuse.result c.in-Err.ensures.due c.in-Err.ensures.read_fault c.refuse.ensures
+
+pub returns-in-Ok-clause-possibly_tabled : goal.returns-in-Ok-clause-possibly_tabled
+returns-in-Ok-clause-possibly_tabled g c =
+    possibly_tabled c.one_read.ensures.specs c.one_read.ensures.questions (g.S.Shelf.texts c.args.shelf.now) _
+    (map (λ w. string_bytes w) c.args.words.now)
+    (Ok c.in-Ok.done) _ _ _ _ _ _ c.hand_out.result c.in-Ok.ensures.due c.in-Ok.ensures.read_fault c.hand_out.ensures
+
+pub returns-in-Err-clause-possibly_tabled : goal.returns-in-Err-clause-possibly_tabled
+returns-in-Err-clause-possibly_tabled g c =
+    possibly_tabled c.one_read.ensures.specs c.one_read.ensures.questions (g.S.Shelf.texts c.args.shelf.now) _
+    (map (λ w. string_bytes w) c.args.words.now)
     (Err c.in-Err.trouble) _ _ _ _ _ _ c.refuse.result c.in-Err.ensures.due c.in-Err.ensures.read_fault c.refuse.ensures
 
 pub returns-in-Ok-clause-inconsistent : goal.returns-in-Ok-clause-inconsistent

@@ -1,4 +1,4 @@
-use Rattle.std.proofs.Common.{◌<◌, length, subst, sym, arith}
+use Rattle.std.proofs.Common.{sym, arith}
 use Rattle.std.proofs.lemmas.Result.{IfOk-weaker}
 use Rattle.match_candidates.proofs.Branches.{each_way_at}
 use Rattle.match_candidates.proofs.branching.ways.Goals as goal

@@ -1,4 +1,4 @@
-use Rattle.std.proofs.Common.{◌∙◌, sym}
+use Rattle.std.proofs.Common.{sym}
 use Rattle.match_candidates.proofs.RowsThere.{rows_there}
 use Rattle.match_candidates.proofs.claims.atom_claims.Goals as goal
 

@@ -1,4 +1,4 @@
-use Rattle.std.proofs.Common.{◌≡◌, ◌+◌, ◌∙◌, ◌∷◌, [], Bor, Vec, Global, List, Some, get_or, map, subst, sym, take, ap}
+use Rattle.std.proofs.Common.{◌+◌, ◌∙◌, ◌∷◌, [], Bor, Vec, Global, List, get_or, map, subst, sym, take, ap}
 use Rattle.std.proofs.lemmas.List.{map-append, take_more}
 use Rattle.currency_base.specs.declared.ids.RowId.{RowId}
 use Rattle.currency_base.specs.declared.value.Value.{Value}
@@ -16,12 +16,15 @@ loop-row-preserved c =
     let values : List (Bor Value) → List Value = map (λ v. v.now) in
     elim c.match-value_at.branch [
       | in-Some+in_ok-push w ↦
-          row_with c.args.rows.now (take i ms) (take (i + 1) ms) c.args.attr (values c.loop-row.list.items) (get_or ms i first) after
+          row_with c.args.rows.now (take i ms) (take (i + 1) ms) c.args.attr (values c.loop-row.list.items)
+          (get_or ms i first) after
           c.loop-row.invariant w.in-Some.value.now (values c.match-value_at.list.items) (sym w.in-Some.ensures)
           (ap (λ (v : Vec (Bor Value) Global). values v.items) w.list-is ∙ ap values w.in_ok-push.ensures.items
           ∙ map-append (λ (v : Bor Value). v.now) c.loop-row.list.items (w.in-Some.value ∷ []))
       | in_default w ↦
-          subst (AreOfRows c.args.rows.now (take (i + 1) ms) c.args.attr) (sym (ap (λ (v : Vec (Bor Value) Global). values v.items) w.list-is))
-          (row_without c.args.rows.now (take i ms) (take (i + 1) ms) c.args.attr (values c.loop-row.list.items) (get_or ms i first) after
+          subst (AreOfRows c.args.rows.now (take (i + 1) ms) c.args.attr) (sym (ap (λ (v : Vec
+          (Bor Value) Global). values v.items) w.list-is))
+          (row_without c.args.rows.now (take i ms) (take (i + 1) ms) c.args.attr (values c.loop-row.list.items)
+          (get_or ms i first) after
           c.loop-row.invariant (sym w.in_default.ensures))
     ]

@@ -1,15 +1,13 @@
-use Rattle.std.proofs.Common.{◌≡◌, ◌+◌, ◌∙◌, ◌<◌, ◌≤◌, ap, get_or, length, List, refl, slice_get, Some, subst, sym, take, arith, rules}
+use Rattle.std.proofs.Common.{◌≡◌, ◌+◌, ◌-◌, ◌∙◌, ap, length, slice_get, Some, subst, sym, arith}
 use Rattle.std.proofs.lemmas.List.Elements.{All-contains}
+use Rattle.std.proofs.lemmas.Option.{slice_get_within}
 use Rattle.std.proofs.lemmas.Result.{IfOk-weaker}
-use Rattle.currency_base.specs.declared.ids.EntId.{EntId}
-use Rattle.query_model.specs.declared.query.Term.{Term}
 use Rattle.match_candidates.specs.Found.{Adds}
-use Rattle.match_candidates.specs.Meant.{IsLast, IsMeant}
+use Rattle.match_candidates.specs.Meant.{IsLast, Left, next_left, steps_of}
 use Rattle.match_candidates.specs.Ways.{AllStand, AreWays, IsWay}
-use Rattle.match_candidates.specs.declared.at.At.{At}
 use Rattle.match_candidates.proofs.Branches.{all_known, fewer_atoms, fewer_places, past_end, stands_first, stands_next}
-use Rattle.match_candidates.proofs.Collecting.{adds_none, adds_same, by_all, by_more, by_none, by_stop, read_again}
-use Rattle.match_candidates.proofs.Meanings.{Going, MeantAt, MeantBy, by_ent, by_way, meant_by, none_meant, of_ent, of_last, of_way, to_last}
+use Rattle.match_candidates.proofs.Collecting.{adds_none, adds_same, by_all, by_more, by_none, by_stop}
+use Rattle.match_candidates.proofs.Meanings.{Going, MeantAt, MeantBy, MeantOf, by_ent, by_way, meant_by, none_meant, of_ent, of_last, of_way, to_last}
 use Rattle.match_candidates.proofs.search.+search.Goals as goal
 
 pub returns-then-not-passes : goal.returns-then-not-passes
@@ -18,12 +16,15 @@ returns-then-not-passes t c =
       relations = c.args.source.tables.now;
       tests = c.args.source.tests.now;
       number = c.args.source.number;
-      terms = c.args.terms.now;
-      atoms = c.args.atoms.now;
       ents = c.args.ents.now;
     } in
-    adds_none (MeantAt g c.args.at c.args.values.now) c.args.found.now
-    (λ m is. none_meant g c.args.at c.args.values.now m c.if-not-passes.ensures is)
+    let left = c.args.rest.now in
+    let b = c.args.values.now in
+    adds_none (MeantAt g left b) c.args.found.now (λ m is. none_meant g left b m c.if-not-passes.ensures is)
+
+pub next-next-requires : goal.next-next-requires
+next-next-requires t c = slice_get_within c.args.rest.now.terms c.args.rest.now.at.place c.in-Some.term.now
+    (sym c.in-Some.ensures)
 
 pub loop-way-init : goal.loop-way-init
 loop-way-init t c =
@@ -31,13 +32,11 @@ loop-way-init t c =
       relations = c.args.source.tables.now;
       tests = c.args.source.tests.now;
       number = c.args.source.number;
-      terms = c.args.terms.now;
-      atoms = c.args.atoms.now;
       ents = c.args.ents.now;
     } in
-    let at = c.args.at in
-    let next : At = record { rel = at.rel; ent = at.ent; place = at.place + 1 } in
-    by_none (MeantAt g next) c.deref-way-items.result.now c.args.found.now
+    let left = c.args.rest.now in
+    let b = c.args.values.now in
+    by_none (MeantAt g (next_left left)) c.deref-way-items.result.now c.args.found.now
 
 pub search-requires : goal.search-requires
 search-requires t c =
@@ -45,19 +44,26 @@ search-requires t c =
       relations = c.args.source.tables.now;
       tests = c.args.source.tests.now;
       number = c.args.source.number;
-      terms = c.args.terms.now;
-      atoms = c.args.atoms.now;
       ents = c.args.ents.now;
     } in
-    let at = c.args.at in
+    let left = c.args.rest.now in
+    let b = c.args.values.now in
     let items = c.deref-way-items.result.now in
-    let here : slice_get g.terms at.place ≡ Some c.in-Some.term.now = sym c.in-Some.ensures in
-    let are : AreWays g.relations at c.args.values.now c.in-Some.term.now items =
-    subst (AreWays g.relations at c.args.values.now c.in-Some.term.now) (sym c.deref-way-items.ensures.value) c.in_ok-ways.ensures in
-    let fewer = fewer_places g.terms g.atoms at.place c.in-Some.term.now here in
-    let way = All-contains (IsWay g.relations at c.args.values.now c.in-Some.term.now) items c.way-item.result are.each
+    let i = c.loop-way.way-index in
+    let t = c.in-Some.term.now in
+    let here : slice_get left.terms left.at.place ≡ Some t = sym c.in-Some.ensures in
+    let are : AreWays g.relations left.at b t items =
+    subst (λ a. AreWays g.relations a b t items) c.at.ensures
+    (subst (AreWays g.relations c.at.result b t) (sym c.deref-way-items.ensures.value) c.in_ok-ways.ensures) in
+    let fewer = fewer_places left.terms left.atoms left.at.place t here in
+    let way = All-contains (IsWay g.relations left.at b t) items c.way-item.result are.each
     (c.loop-way.way-index, c.loop-way-test.true, sym c.way-item.is) in
-    (omega (arith, fewer, c.decreases), stands_next g.relations at g.terms g.atoms c.args.values.now c.way-item.result c.in-Some.term.now here way c.requires)
+    let stand = stands_next g.relations left.at left.terms left.atoms b c.way-item.result t here way c.requires in
+    let same = c.next-next.ensures in
+    let size = ap (λ (l : Left). (length l.terms - l.at.place) + steps_of l.atoms) same in (
+      omega (arith, fewer, size, c.decreases),
+      subst (λ (l : Left). AllStand l.at.place l.terms l.atoms c.way-item.result) (sym same) stand,
+    )
 
 pub returns-then-branch : goal.returns-then-branch
 returns-then-branch t c =
@@ -65,20 +71,24 @@ returns-then-branch t c =
       relations = c.args.source.tables.now;
       tests = c.args.source.tests.now;
       number = c.args.source.number;
-      terms = c.args.terms.now;
-      atoms = c.args.atoms.now;
       ents = c.args.ents.now;
     } in
-    let at = c.args.at in
-    let next : At = record { rel = at.rel; ent = at.ent; place = at.place + 1 } in
+    let left = c.args.rest.now in
+    let b = c.args.values.now in
     let items = c.deref-way-items.result.now in
     let i = c.loop-way.way-index in
-    let here : slice_get g.terms at.place ≡ Some c.in-Some.term.now = sym c.in-Some.ensures in
-    let are : AreWays g.relations at c.args.values.now c.in-Some.term.now items =
-    subst (AreWays g.relations at c.args.values.now c.in-Some.term.now) (sym c.deref-way-items.ensures.value) c.in_ok-ways.ensures in
-    by_stop (MeantAt g next) items c.args.found.now (MeantAt g at c.args.values.now) i c.way-item.result c.loop-way.found c.search.new.found
-    c.in_ok-search.field-0 c.if-branch.true c.loop-way-test.true c.way-item.is c.loop-way.invariant c.in_ok-search.ensures
-    (λ m is. of_way g at next c.args.values.now c.in-Some.term.now here refl items are m is)
+    let t = c.in-Some.term.now in
+    let here : slice_get left.terms left.at.place ≡ Some t = sym c.in-Some.ensures in
+    let are : AreWays g.relations left.at b t items =
+    subst (λ a. AreWays g.relations a b t items) c.at.ensures
+    (subst (AreWays g.relations c.at.result b t) (sym c.deref-way-items.ensures.value) c.in_ok-ways.ensures) in
+    by_stop (MeantAt g (next_left left)) items c.args.found.now
+    (MeantAt g left b) i c.way-item.result c.loop-way.found c.search.new.found
+    c.in_ok-search.field-0 c.if-branch.true c.loop-way-test.true c.way-item.is c.loop-way.invariant
+    (subst (λ l. Adds (MeantAt g l c.way-item.result) c.loop-way.found c.search.new.found c.in_ok-search.field-0)
+    c.next-next.ensures
+    c.in_ok-search.ensures)
+    (λ m is. of_way g left b t here items are m is)
 
 pub loop-way-preserved : goal.loop-way-preserved
 loop-way-preserved t c =
@@ -86,17 +96,18 @@ loop-way-preserved t c =
       relations = c.args.source.tables.now;
       tests = c.args.source.tests.now;
       number = c.args.source.number;
-      terms = c.args.terms.now;
-      atoms = c.args.atoms.now;
       ents = c.args.ents.now;
     } in
-    let at = c.args.at in
-    let next : At = record { rel = at.rel; ent = at.ent; place = at.place + 1 } in
+    let left = c.args.rest.now in
+    let b = c.args.values.now in
     let items = c.deref-way-items.result.now in
     let i = c.loop-way.way-index in
-    by_more (MeantAt g next) items c.args.found.now i c.way-item.result c.loop-way.found c.search.new.found
+    by_more (MeantAt g (next_left left)) items c.args.found.now i c.way-item.result c.loop-way.found c.search.new.found
     c.loop-way-test.true c.way-item.is c.loop-way.invariant
-    (subst (Adds (MeantAt g next c.way-item.result) c.loop-way.found c.search.new.found) c.if-branch.false c.in_ok-search.ensures)
+    (subst (Adds (MeantAt g (next_left left) c.way-item.result) c.loop-way.found c.search.new.found) c.if-branch.false
+    (subst (λ l. Adds (MeantAt g l c.way-item.result) c.loop-way.found c.search.new.found c.in_ok-search.field-0)
+    c.next-next.ensures
+    c.in_ok-search.ensures))
 
 pub returns-in-Some : goal.returns-in-Some
 returns-in-Some t c =
@@ -104,68 +115,72 @@ returns-in-Some t c =
       relations = c.args.source.tables.now;
       tests = c.args.source.tests.now;
       number = c.args.source.number;
-      terms = c.args.terms.now;
-      atoms = c.args.atoms.now;
       ents = c.args.ents.now;
     } in
-    let at = c.args.at in
-    let next : At = record { rel = at.rel; ent = at.ent; place = at.place + 1 } in
+    let left = c.args.rest.now in
+    let b = c.args.values.now in
     let items = c.deref-way-items.result.now in
     let i = c.loop-way.way-index in
-    let here : slice_get g.terms at.place ≡ Some c.in-Some.term.now = sym c.in-Some.ensures in
-    let are : AreWays g.relations at c.args.values.now c.in-Some.term.now items =
-    subst (AreWays g.relations at c.args.values.now c.in-Some.term.now) (sym c.deref-way-items.ensures.value) c.in_ok-ways.ensures in
-    by_all (MeantAt g next) items c.args.found.now (MeantAt g at c.args.values.now) i c.loop-way.found c.loop-way-test.false c.loop-way.invariant
-    (λ m is. of_way g at next c.args.values.now c.in-Some.term.now here refl items are m is)
-    (λ m is. by_way g at next c.args.values.now c.in-Some.term.now here refl items are m is)
+    let t = c.in-Some.term.now in
+    let here : slice_get left.terms left.at.place ≡ Some t = sym c.in-Some.ensures in
+    let are : AreWays g.relations left.at b t items =
+    subst (λ a. AreWays g.relations a b t items) c.at.ensures
+    (subst (AreWays g.relations c.at.result b t) (sym c.deref-way-items.ensures.value) c.in_ok-ways.ensures) in
+    by_all (MeantAt g (next_left left)) items c.args.found.now
+    (MeantAt g left b) i c.loop-way.found c.loop-way-test.false c.loop-way.invariant
+    (λ m is. of_way g left b t here items are m is) (λ m is. by_way g left b t here items are m is)
 
-pub returns-in_default-next_atom : goal.returns-in_default-next_atom
-returns-in_default-next_atom t c =
+pub returns-in_default-atom : goal.returns-in_default-atom
+returns-in_default-atom t c =
     let g : Going = record {
       relations = c.args.source.tables.now;
       tests = c.args.source.tests.now;
       number = c.args.source.number;
-      terms = c.args.terms.now;
-      atoms = c.args.atoms.now;
       ents = c.args.ents.now;
     } in
-    let past = past_end g.terms c.args.at.place c.in_default.ensures in
-    let full = all_known c.args.at.place g.terms g.atoms c.args.values.now past c.in_default-next_atom.ensures.none c.requires in
+    let left = c.args.rest.now in
+    let b = c.args.values.now in
+    let past = past_end left.terms left.at.place c.in_default.ensures in
+    let none = c.in_default-atom.ensures.none in
+    let full = all_known left.at.place left.terms left.atoms b past none c.requires in
     IfOk-weaker c.add_match.result _ _
-    (λ is_full adds. adds_same (IsLast g.tests g.number g.ents c.args.values.now) (MeantAt g c.args.at c.args.values.now) c.args.found.now
-    c.add_match.new.found is_full adds
-    (λ m is. of_last g c.args.at c.args.values.now past c.in_default-next_atom.ensures.none full m is)
-    (λ m is. to_last g c.args.at c.args.values.now past c.in_default-next_atom.ensures.none full m is)) c.add_match.ensures
+    (λ is_full adds. adds_same (IsLast g.tests g.number g.ents b)
+    (MeantAt g left b) c.args.found.now c.add_match.new.found is_full adds
+    (λ m is. of_last g left b past none full m is) (λ m is. to_last g left b past none full m is)) c.add_match.ensures
 
-pub loop-ent-init : goal.loop-ent-init
-loop-ent-init t c =
+pub loop-entry-init : goal.loop-entry-init
+loop-entry-init t c =
     let g : Going = record {
       relations = c.args.source.tables.now;
       tests = c.args.source.tests.now;
       number = c.args.source.number;
-      terms = c.args.terms.now;
-      atoms = c.args.atoms.now;
       ents = c.args.ents.now;
     } in
-    by_none (MeantBy g c.in-Some-next_atom.atom.now c.in-Some-next_atom.rest.now c.args.values.now) c.candidates-ent-items.result.now c.args.found.now
+    let left = c.args.rest.now in
+    let b = c.args.values.now in
+    by_none (MeantOf g c.in-Some-atom.atom.now c.in-Some-atom.atoms.now b) c.candidates-entry-items.result.now c.args.found.now
 
-pub search-requires-in-loop-ent : goal.search-requires-in-loop-ent
-search-requires-in-loop-ent t c =
+pub search-requires-in-loop-entry : goal.search-requires-in-loop-entry
+search-requires-in-loop-entry t c =
     let g : Going = record {
       relations = c.args.source.tables.now;
       tests = c.args.source.tests.now;
       number = c.args.source.number;
-      terms = c.args.terms.now;
-      atoms = c.args.atoms.now;
       ents = c.args.ents.now;
     } in
-    let atom = c.in-Some-next_atom.atom.now in
-    let rest = c.in-Some-next_atom.rest.now in
-    let past = past_end g.terms c.args.at.place c.in_default.ensures in
-    let fewer = fewer_atoms g.terms g.atoms rest atom c.args.at.place c.in-Some-next_atom.ensures.some in (
-      (let many = ap (λ (l : List Term). length l) c.as_slice.ensures in omega (arith, fewer, many, c.decreases)),
-      subst (λ terms. AllStand 0 terms rest c.args.values.now) (sym c.as_slice.ensures)
-          (stands_first c.args.at.place g.terms g.atoms rest atom c.args.values.now past c.in-Some-next_atom.ensures.some c.requires),
+    let left = c.args.rest.now in
+    let b = c.args.values.now in
+    let atom = c.in-Some-atom.atom.now in
+    let rest = c.in-Some-atom.atoms.now in
+    let items = c.candidates-entry-items.result.now in
+    let i = c.loop-entry.entry-index in
+    let past = past_end left.terms left.at.place c.in_default.ensures in
+    let fewer = fewer_atoms left.terms left.atoms rest atom left.at.place c.in-Some-atom.ensures.some in
+    let stand = stands_first left.at.place left.terms left.atoms rest atom b past c.in-Some-atom.ensures.some c.requires in
+    let same = c.of_atom-first.ensures in
+    let size = ap (λ (l : Left). (length l.terms - l.at.place) + steps_of l.atoms) same in (
+      omega (arith, fewer, size, c.decreases),
+      subst (λ (l : Left). AllStand l.at.place l.terms l.atoms b) (sym same) stand,
     )
 
 pub returns-then-branch-2 : goal.returns-then-branch-2
@@ -174,45 +189,47 @@ returns-then-branch-2 t c =
       relations = c.args.source.tables.now;
       tests = c.args.source.tests.now;
       number = c.args.source.number;
-      terms = c.args.terms.now;
-      atoms = c.args.atoms.now;
       ents = c.args.ents.now;
     } in
-    let at = c.args.at in
-    let atom = c.in-Some-next_atom.atom.now in
-    let rest = c.in-Some-next_atom.rest.now in
-    let items = c.candidates-ent-items.result.now in
-    let i = c.loop-ent.ent-index in
-    let first : EntId = record { 0 = 0 } in
-    let past = past_end g.terms c.args.at.place c.in_default.ensures in
-    by_stop (MeantBy g atom rest c.args.values.now) items c.args.found.now (MeantAt g at c.args.values.now) i (get_or items i first) c.loop-ent.found
-    c.search-in-loop-ent.new.found c.in_ok-search-2.field-0 c.if-branch-2.true c.loop-ent-test.true (read_again items i first c.loop-ent-test.true) c.loop-ent.invariant
-    (meant_by g atom rest c.args.values.now (get_or items i first) c.as_slice.result.now c.deref.result.now c.loop-ent.found
-    c.search-in-loop-ent.new.found c.in_ok-search-2.field-0 c.as_slice.ensures (c.deref.ensures.value ∙ c.in_ok-more.ensures) c.in_ok-search-2.ensures)
-    (λ m is. of_ent g at c.args.values.now atom rest past c.in-Some-next_atom.ensures.some items c.candidates-ent-items.ensures m is)
+    let left = c.args.rest.now in
+    let b = c.args.values.now in
+    let atom = c.in-Some-atom.atom.now in
+    let rest = c.in-Some-atom.atoms.now in
+    let items = c.candidates-entry-items.result.now in
+    let i = c.loop-entry.entry-index in
+    let past = past_end left.terms left.at.place c.in_default.ensures in
+    by_stop (MeantOf g atom rest b) items c.args.found.now (MeantAt g left b) i c.entry-item.result c.loop-entry.found
+    c.search-in-loop-entry.new.found c.in_ok-search-2.field-0 c.if-branch-2.true c.loop-entry-test.true c.entry-item.is
+    c.loop-entry.invariant
+    (meant_by g atom rest b c.entry-item.result.ent c.of_atom-first.result c.deref.result.now c.loop-entry.found
+    c.search-in-loop-entry.new.found c.in_ok-search-2.field-0 c.of_atom-first.ensures (c.deref.ensures.value
+    ∙ c.in_ok-more.ensures)
+    c.in_ok-search-2.ensures)
+    (λ m is. of_ent g left b atom rest past c.in-Some-atom.ensures.some items c.candidates-entry-items.ensures m is)
 
-pub loop-ent-preserved : goal.loop-ent-preserved
-loop-ent-preserved t c =
+pub loop-entry-preserved : goal.loop-entry-preserved
+loop-entry-preserved t c =
     let g : Going = record {
       relations = c.args.source.tables.now;
       tests = c.args.source.tests.now;
       number = c.args.source.number;
-      terms = c.args.terms.now;
-      atoms = c.args.atoms.now;
       ents = c.args.ents.now;
     } in
-    let at = c.args.at in
-    let atom = c.in-Some-next_atom.atom.now in
-    let rest = c.in-Some-next_atom.rest.now in
-    let items = c.candidates-ent-items.result.now in
-    let i = c.loop-ent.ent-index in
-    let first : EntId = record { 0 = 0 } in
-    by_more (MeantBy g atom rest c.args.values.now) items c.args.found.now i (get_or items i first) c.loop-ent.found c.search-in-loop-ent.new.found
-    c.loop-ent-test.true (read_again items i first c.loop-ent-test.true) c.loop-ent.invariant
-    (subst (Adds (MeantBy g atom rest c.args.values.now (get_or items i first)) c.loop-ent.found c.search-in-loop-ent.new.found)
+    let left = c.args.rest.now in
+    let b = c.args.values.now in
+    let atom = c.in-Some-atom.atom.now in
+    let rest = c.in-Some-atom.atoms.now in
+    let items = c.candidates-entry-items.result.now in
+    let i = c.loop-entry.entry-index in
+    by_more (MeantOf g atom rest b) items c.args.found.now i c.entry-item.result c.loop-entry.found
+    c.search-in-loop-entry.new.found
+    c.loop-entry-test.true c.entry-item.is c.loop-entry.invariant
+    (subst (Adds (MeantBy g atom rest b c.entry-item.result.ent) c.loop-entry.found c.search-in-loop-entry.new.found)
     c.if-branch-2.false
-    (meant_by g atom rest c.args.values.now (get_or items i first) c.as_slice.result.now c.deref.result.now c.loop-ent.found
-    c.search-in-loop-ent.new.found c.in_ok-search-2.field-0 c.as_slice.ensures (c.deref.ensures.value ∙ c.in_ok-more.ensures) c.in_ok-search-2.ensures))
+    (meant_by g atom rest b c.entry-item.result.ent c.of_atom-first.result c.deref.result.now c.loop-entry.found
+    c.search-in-loop-entry.new.found c.in_ok-search-2.field-0 c.of_atom-first.ensures (c.deref.ensures.value
+    ∙ c.in_ok-more.ensures)
+    c.in_ok-search-2.ensures))
 
 pub returns : goal.returns
 returns t c =
@@ -220,18 +237,16 @@ returns t c =
       relations = c.args.source.tables.now;
       tests = c.args.source.tests.now;
       number = c.args.source.number;
-      terms = c.args.terms.now;
-      atoms = c.args.atoms.now;
       ents = c.args.ents.now;
     } in
-    let at = c.args.at in
-    let atom = c.in-Some-next_atom.atom.now in
-    let rest = c.in-Some-next_atom.rest.now in
-    let items = c.candidates-ent-items.result.now in
-    let i = c.loop-ent.ent-index in
-    let first : EntId = record { 0 = 0 } in
-    let past = past_end g.terms c.args.at.place c.in_default.ensures in
-    by_all (MeantBy g atom rest c.args.values.now) items c.args.found.now (MeantAt g at c.args.values.now) i c.loop-ent.found c.loop-ent-test.false
-    c.loop-ent.invariant
-    (λ m is. of_ent g at c.args.values.now atom rest past c.in-Some-next_atom.ensures.some items c.candidates-ent-items.ensures m is)
-    (λ m is. by_ent g at c.args.values.now atom rest past c.in-Some-next_atom.ensures.some items c.candidates-ent-items.ensures m is)
+    let left = c.args.rest.now in
+    let b = c.args.values.now in
+    let atom = c.in-Some-atom.atom.now in
+    let rest = c.in-Some-atom.atoms.now in
+    let items = c.candidates-entry-items.result.now in
+    let i = c.loop-entry.entry-index in
+    let past = past_end left.terms left.at.place c.in_default.ensures in
+    by_all (MeantOf g atom rest b) items c.args.found.now
+    (MeantAt g left b) i c.loop-entry.found c.loop-entry-test.false c.loop-entry.invariant
+    (λ m is. of_ent g left b atom rest past c.in-Some-atom.ensures.some items c.candidates-entry-items.ensures m is)
+    (λ m is. by_ent g left b atom rest past c.in-Some-atom.ensures.some items c.candidates-entry-items.ensures m is)

@@ -1,4 +1,4 @@
-use Rattle.std.proofs.Common.{◌≡◌, ◌∙◌, List, Option, Some, ap, map, option_map, slice_set, sym}
+use Rattle.std.proofs.Common.{◌∙◌, List, Option, Some, ap, option_map, slice_set}
 use Rattle.std.proofs.lemmas.List.{map-set}
 use Rattle.currency_base.specs.declared.value.Value.{Value}
 use Rattle.match_candidates.proofs.binding.Binding.set.Goals as goal

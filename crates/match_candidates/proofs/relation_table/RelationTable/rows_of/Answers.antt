@@ -1,4 +1,4 @@
-use Rattle.std.proofs.Common.{◌≡◌, ◌∙◌, ◌<◌, ◌≤◌, ap, length, sym, arith}
+use Rattle.std.proofs.Common.{◌∙◌, ◌≤◌, ap, length, sym, arith}
 use Rattle.std.proofs.lemmas.Bool.{ltb-false}
 use Rattle.spec_model.specs.declared.relation.Relation.{Relation}
 use Rattle.entity_rows.specs.Members.{members}

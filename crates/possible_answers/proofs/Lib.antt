@@ -1,0 +1,6 @@
+mod Current
+mod Fitting
+mod Matched
+mod Searched
+mod Sorted
+mod Tuples
