@@ -435,6 +435,8 @@ def installed(made):
     check(run(["golden", "s", "Staff"], folder, script) == run(["golden", "s", "Staff"], folder), "installed: golden")
     check(run(["--version"], folder, script) == run(["--version"], folder), "installed: --version")
     check("`Staff`" in run(["golden", "s", "Staf", "--explain-errors"], folder, script)[2], "installed: --explain-errors")
+    status, said, message = run(["page", "s"], folder, script)
+    check((status, said) == (0, b"page.html\n") or "jinja2" in message, f"installed: page: {message}")
     packed = []
     for name in ("a", "b"):
         target = pathlib.Path(made) / name

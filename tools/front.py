@@ -81,8 +81,9 @@ def install(home, program, prefix):
     (made / "tools").mkdir(parents=True)
     shutil.copy(home / "currency", made)
     shutil.copy(program, made / "program")
-    for name in ("diagnose", "faults", "front", "hints", "lint", "show", "words"):
+    for name in ("cutting", "diagnose", "drawing", "faults", "front", "hints", "lint", "page", "shards", "show", "words"):
         shutil.copy(home / "tools" / f"{name}.py", made / "tools")
+    shutil.copytree(home / "tools" / "page", made / "tools" / "page")
     (made / "version").write_text(version(home))
     shutil.copytree(home / "docs", share / "docs")
     shutil.copytree(home / "examples", share / "examples")
@@ -190,10 +191,19 @@ def own(words, home, program, due):
         import lint
 
         return lint.main(words[1:])
+    elif words[0] == "page" and len(words) > 1:
+        # (what it stands on is no part of Python's own library, which alone this process knows)
+        os.execv(sys.executable, [sys.executable, home / "tools" / "page.py", *words[1:]])
     elif words[0] == "install" and len(words) == 2:
         if due:
             build(home)
         return install(home, program, words[1])
+    elif words[0] == "shards":
+        if due and words[1:2] in (["cut"], ["run"]):
+            build(home)
+        import shards
+
+        return shards.main(words[1:], program)
     else:
         return None
     return 0

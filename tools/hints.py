@@ -58,13 +58,26 @@ def read(words):
         return None, []
 
 
-def plain(words, said, helps):
-    """A refusal in words, with the line that the program names, where that can be read."""
+def meaning(words, said):
+    """The place of a refusal, what it means, and what may help."""
+    fault, _ = read(words)
+    if fault and fault.said + "\n" == said:
+        return fault.where, fault.sentence, fault.helps
+    return (*named(words, said), [])
+
+
+def named(words, said):
+    """The line that a refusal names, where that can be read, and what its code means."""
     code = next((it for it in MEANINGS if re.match(rf"(error |refused )?{it}\b", said)), None)
     form = r"error E13 (.*?) (\d+) " if said.startswith("error E13") else r"(?:error|refused) \w+ (.*) (\d+)\n\Z"
     place = re.match(form, said, re.DOTALL)
     where = line_of(place[1], int(place[2]), place[1] in faults.arguments(words)) if place else None
-    return shown(" ".join(said.split()[:2]), where, MEANINGS.get(code, "the program refuses this"), helps)
+    return where, MEANINGS.get(code, "the program refuses this")
+
+
+def plain(words, said, helps):
+    """A refusal in words, with the line that the program names."""
+    return shown(" ".join(said.split()[:2]), *named(words, said), helps)
 
 
 def line_of(name, number, is_text):

@@ -37,6 +37,19 @@ with such a completion, and what none has, with a report that shows it (--brief 
 # what the script does by itself
 OWN = {
     "lint": ("SPEC [QUESTION...]", (), "says what is odd about tables and rules, and how much of each limit is used"),
+    "page": (
+        "SPEC [--entity NAME] [--out FILE]",
+        (),
+        """draws a page of HTML (page.html where no FILE is said): which values are current, which are open, and why; of what
+no history fits, the statements that contradict each other""",
+    ),
+    "shards": (
+        "cut SPEC FOLDER | run FOLDER COMMAND... | join FOLDER | check FOLDER",
+        ("--rows", "--jobs", "--sshloginfile", "--resume"),
+        """answers for tables of any length: cut writes folders with parts of the tables, each within all limits, run gives
+COMMAND (golden, ask, possible, forced or conflicts, with its words) to the program in each of them by GNU parallel,
+join puts together what is said, check reads the tables and the folders once more""",
+    ),
     "install": ("PREFIX", (), "puts the program, this script and the documents into PREFIX/bin, PREFIX/lib and PREFIX/share"),
     "help": ("[COMMAND]", (), "says how a command is used"),
 }
@@ -47,6 +60,13 @@ OPTIONS = {
     "--exit": ("--exit", "ends with status 1 where the verdict is inconsistent, not certain or not same"),
     "--csv": ("--csv", "gives the answers of a query as CSV; of possible each with whether it is certain"),
     "--guide": ("--guide K", "keeps one of the four guides that steer the search, 1 to 4"),
+}
+# of what the script does by itself
+OWN_OPTIONS = {
+    "--rows": ("--rows N", "cut: how many rows a folder has at most, 1 to 100000 (50000 where none is said)"),
+    "--jobs": ("--jobs J", "run: how many at a time, as parallel has it"),
+    "--sshloginfile": ("--sshloginfile F", "run: the hosts, as parallel has them"),
+    "--resume": ("--resume", "run: goes on with what was begun, and runs again what failed"),
 }
 BEFORE = """before the command, and --explain-errors behind it too:
   -C FOLDER         runs in this folder
@@ -99,7 +119,12 @@ MEANINGS = dict(line.split(": ", 1) for line in MEANINGS.split("\n") if line)
 def line_of(name):
     """How a command is used, in a line."""
     arguments, options, _ = {**COMMANDS, **OWN}[name]
-    return " ".join(["currency", name, arguments, *(f"[{OPTIONS[it][0]}]" for it in options)])
+    return " ".join(["currency", name, arguments, *(f"[{spelled_of(it)[0]}]" for it in options)])
+
+
+def spelled_of(option):
+    """How an option is spelled, and what it says."""
+    return {**OPTIONS, **OWN_OPTIONS}[option]
 
 
 def described(name):
@@ -122,7 +147,7 @@ def usage():
 
 def help_of(name):
     """How a command is used."""
-    options = "".join(f"  {OPTIONS[it][0]:16}  {OPTIONS[it][1]}\n" for it in {**COMMANDS, **OWN}[name][1])
+    options = "".join("  {:17} {}\n".format(*spelled_of(it)) for it in {**COMMANDS, **OWN}[name][1])
     return f"usage: {line_of(name)}\n\n{described(name)}{options}"
 
 
