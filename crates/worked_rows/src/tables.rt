@@ -29,7 +29,7 @@ mary,Smith,no
 :: The names are read back; a record of one empty field is two quotes.
 >> ask s q --csv
 0 n
->> possible s q --csv --guide 2
+>> possible s q --csv
 0 n,certain
 "Dupont, M.",no
 Smith,no
