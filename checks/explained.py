@@ -218,6 +218,14 @@ def begin():
     return many, random.Random(seed)
 
 
+def drawn(many, chance, folder):
+    """Random specifications, each written into the folder, with its consistent completions."""
+    for _ in range(many):
+        spec = Spec(chance)
+        spec.write(folder)
+        yield spec, [c for c in spec.completions(spec.cells()) if spec.is_consistent(c, spec.items, spec.cells())]
+
+
 def end(counts, wrong):
     """Tells how much of each kind was seen and how much was wrong, and ends with status 1 where something was."""
     print(", ".join(f"{count} {kind}" for kind, count in counts.items()) + f", {wrong} wrong")

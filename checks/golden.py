@@ -11,7 +11,7 @@ import io
 import pathlib
 import tempfile
 
-from explained import ATTRS, Spec, begin, end, run
+from explained import ATTRS, begin, drawn, end, run
 
 
 def due(spec, rel, completions):
@@ -33,10 +33,7 @@ def main():
     counts, wrong = {"records": 0, "open attributes": 0, "inconsistent": 0}, 0
     with tempfile.TemporaryDirectory() as name:
         folder = pathlib.Path(name)
-        for _ in range(many):
-            spec = Spec(chance)
-            spec.write(folder)
-            completions = [c for c in spec.completions(spec.cells()) if spec.is_consistent(c, spec.items, spec.cells())]
+        for spec, completions in drawn(many, chance, folder):
             for rel in ATTRS:
                 wanted, said = due(spec, rel, completions), run(folder, "golden", "s", rel)
                 counts["inconsistent"] += wanted[0] == 10

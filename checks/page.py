@@ -461,21 +461,17 @@ def told_pairs(element):
     return told
 
 
-def reached(row, after):
-    seen, waiting = set(), [row]
-    while waiting:
-        new = after[waiting.pop()] - seen
-        seen |= new
-        waiting += new
-    return seen
-
-
 def closed(pairs):
-    """The pairs that follow from these by transitivity, with themselves."""
+    """The pairs that follow from these by transitivity, with themselves: pairs are joined until there is none more."""
     after = collections.defaultdict(set)
     for earlier, later in pairs:
         after[earlier].add(later)
-    return {(earlier, later) for earlier in list(after) for later in reached(earlier, after)}
+    grows = True
+    while grows:
+        longer = {row: rows.union(*(after.get(it, ()) for it in rows)) for row, rows in after.items()}
+        grows = longer != after
+        after.update(longer)
+    return {(earlier, later) for earlier, rows in after.items() for later in rows}
 
 
 def look_at_drawing(checks, what, element, told, values, current, has_dot):

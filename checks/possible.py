@@ -13,7 +13,7 @@ import pathlib
 import re
 import tempfile
 
-from explained import ATTRS, Spec, begin, end, run
+from explained import ATTRS, begin, drawn, end, run
 
 # disjuncts as lists of atoms; an atom has its relation and its places, of which the first is the entity's; a text in quotes is a
 # name, digits are a value, and "_" is neither
@@ -133,10 +133,7 @@ def main():
     counts, bad = {"possible": 0, "impossible": 0, "inconsistent": 0}, 0
     with tempfile.TemporaryDirectory() as name:
         folder = pathlib.Path(name)
-        for _ in range(many):
-            spec = Spec(chance)
-            spec.write(folder)
-            completions = [c for c in spec.completions(spec.cells()) if spec.is_consistent(c, spec.items, spec.cells())]
+        for spec, completions in drawn(many, chance, folder):
             question, found = candidates(spec, chance)
             (folder / "q").write_text(question + "\n")
             for brief in (False, True):

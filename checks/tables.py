@@ -12,7 +12,7 @@ import io
 import pathlib
 import tempfile
 
-from explained import ATTRS, Spec, begin, end, run
+from explained import ATTRS, begin, drawn, end, run
 from possible import QUERIES, of_query
 
 # further heads: a variable twice, and an entity's name beside a value
@@ -70,10 +70,7 @@ def main():
     counts, bad = {"certain": 0, "possible": 0, "inconsistent": 0, "refused": 0}, 0
     with tempfile.TemporaryDirectory() as name:
         folder = pathlib.Path(name)
-        for _ in range(many):
-            spec = Spec(chance)
-            spec.write(folder)
-            completions = [c for c in spec.completions(spec.cells()) if spec.is_consistent(c, spec.items, spec.cells())]
+        for spec, completions in drawn(many, chance, folder):
             head, disjuncts = chance.choice(MORE)
             (folder / "q").write_text(of_query(head, disjuncts) + "\n")
             none = chance.choice(["\nconsistent;", "# none\n\nsame R;", "\n\nsame S, R;"])
