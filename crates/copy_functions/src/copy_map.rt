@@ -102,6 +102,37 @@ impl CopyMap {
         *self.sources.as_slice().get(target.0 as usize)?
     }
 
+    /// The fault of `add`, if it has one: a target row that is mapped already, even to the same source row, or
+    /// else the first place at which values differ, with both values.
+    pub fn check(
+        &self,
+        alloc: Global,
+        target_rows: &Rows,
+        source_rows: &Rows,
+        target: RowId,
+        source: RowId,
+    ) -> Result<(), CopyFault>
+        requires target_row { target.0 < length target_rows.now }
+        requires source_row { source.0 < length source_rows.now }
+        requires target_values { All (λ p. p.target.0 < length (values_of target_rows.now target)) self.now.places }
+        requires source_values { All (λ p. p.source.0 < length (values_of source_rows.now source)) self.now.places }
+        ensures unmapped { OnOk result (source_at self.now target ≡ None) }
+        ensures equal { OnOk result (IsCopyOf self.now.places target_rows.now source_rows.now target source) }
+        ensures faultless { OnOk result (fault_due self.now target_rows.now source_rows.now target source ≡ None) }
+        ensures twice { IsErrOf result CopyFault.CopyTwice → IsSome (source_at self.now target) }
+        ensures due { IfErr result (IsDue (fault_due self.now target_rows.now source_rows.now target source)) }
+    {
+        if self.source_of(target).is_some() {
+            return Err(CopyFault::CopyTwice);
+        }
+        let target_values = target_rows.row(target).values.as_slice();
+        let source_values = source_rows.row(source).values.as_slice();
+        match first_difference(self.places.as_slice(), target_values, source_values) {
+            Some(difference) => Err(difference.fault(alloc)),
+            None => Ok(()),
+        }
+    }
+
     /// Maps a target row to a source row. A target row that is mapped already is refused, even to the
     /// same source row. One that is not is refused where values differ at a place, with the first such
     /// place and both values. A refusal changes nothing.
@@ -128,15 +159,7 @@ impl CopyMap {
         ensures due { IfErr result (IsDue (fault_due self.old target_rows.now source_rows.now target source)) }
         ensures err { OnErr result (self.new ≡ self.old) }
     {
-        if self.source_of(target).is_some() {
-            return Err(CopyFault::CopyTwice);
-        }
-        let target_values = target_rows.row(target).values.as_slice();
-        let source_values = source_rows.row(source).values.as_slice();
-        let places = self.places.as_slice();
-        if let Some(difference) = first_difference(places, target_values, source_values) {
-            return Err(difference.fault(alloc));
-        }
+        self.check(alloc, target_rows, source_rows, target, source)?;
         put(&mut self.sources, target, source)?;
         Ok(())
     }

@@ -75,8 +75,9 @@ fn left_by_first(
     left_after(left, partners.saturating_mul(places))
 }
 
-/// With how many of these rows a row is an instance of a copy function, as the first of the two.
-fn copy_partners(
+/// With how many of these rows a row is an instance of a copy function, as the first of the two. The rows are those
+/// of its target and of its source relation.
+pub fn copy_partners(
     copy: &CopyMap,
     target: &[Row],
     source: &[Row],

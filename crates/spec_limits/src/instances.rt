@@ -17,7 +17,7 @@ use std::alloc::Global;
 const MOST_INSTANCES: u32 = 8000000;
 
 /// The rows of each entity, relation by relation.
-pub(crate) type EntityLists = ItemList<EntityRows>;
+pub type EntityLists = ItemList<EntityRows>;
 
 /// The limit that a specification exceeds by its instances: those of its rules and copy functions, and
 /// for the order of each attribute and entity two for each three rows. Takes time in proportion to the
@@ -33,8 +33,8 @@ pub fn limit_of_instances(alloc: Global, spec: &Specification) -> Result<Option<
     }
 }
 
-/// The rows of each entity of these relations.
-fn entity_lists(alloc: Global, relations: &[Relation]) -> Result<EntityLists, NoMemory>
+/// The rows of each entity of these relations. Takes time in proportion to the rows and entities.
+pub fn entity_lists(alloc: Global, relations: &[Relation]) -> Result<EntityLists, NoMemory>
     requires { All IsRelation relations.now }
     ensures { IfOk result (AreEntityLists relations.now) }
 {
@@ -70,8 +70,9 @@ fn left_by_rules(mut left: u32, spec: &Specification, lists: &EntityLists) -> Op
     Some(left)
 }
 
-/// What the instances of a rule of so many variables leave of a bound.
-fn left_by_rule(mut left: u32, vars: u32, entities: &[RowList]) -> Option<u32>
+/// What the instances of a rule of so many variables leave of a bound; the lists are those of the entities of its
+/// relation.
+pub fn left_by_rule(mut left: u32, vars: u32, entities: &[RowList]) -> Option<u32>
     ensures { result ≡ left_of left (sum_by (λ rows. length rows ^ vars) entities.now) }
 {
     for rows in entities {

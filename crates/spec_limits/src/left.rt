@@ -5,7 +5,7 @@ ghost use Rattle.spec_limits.specs.Instances.{two_for_each_three};
 ghost use Rattle.spec_limits.specs.Left.{left_of, IsCapped};
 
 /// What is left of a bound after so many more, if they do not pass it.
-pub(crate) fn left_after(left: u32, more: u64) -> Option<u32>
+pub fn left_after(left: u32, more: u64) -> Option<u32>
     ensures { result ≡ left_of left more }
 {
     if more > u64::from(left) {

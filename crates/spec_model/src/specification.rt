@@ -147,6 +147,28 @@ impl Specification {
         self.rules.remove(rule.0 as usize)
     }
 
+    /// The fault of `map_copied`, if it has one.
+    pub fn check_copied(
+        &self,
+        alloc: Global,
+        copy: CopyId,
+        target: RowId,
+        source: RowId,
+    ) -> Result<(), CopyFault>
+        requires within { copy.0 < length self.now.copies }
+        requires target_row { IfSome (slice_get self.now.copies copy.0)
+            (λ c. target.0 < length (rows_of self.now.relations c.target)) }
+        requires source_row { IfSome (slice_get self.now.copies copy.0)
+            (λ c. source.0 < length (rows_of self.now.relations c.source)) }
+        ensures faultless { OnOk result (copied_due self.now copy.0 target source ≡ None) }
+        ensures due { IfErr result (IsDue (copied_due self.now copy.0 target source)) }
+    {
+        let map = &self.copies[copy.0 as usize];
+        let target_rows = &self.relations[map.target().0 as usize].rows;
+        let source_rows = &self.relations[map.source().0 as usize].rows;
+        map.check(alloc, target_rows, source_rows, target, source)
+    }
+
     /// Maps one more row of the target relation of a copy function to a row of its source relation, as
     /// `CopyMap::add` does. A refusal changes nothing.
     pub fn map_copied(

@@ -1,24 +1,9 @@
-use Rattle.std.proofs.Common.{◌≡◌, None, ap, sym, subst, rules}
-use Rattle.copy_functions.specs.Copies.{CopyFunction, with_source, values_of, IsCopyOf, IsCopied}
+use Rattle.std.proofs.Common.{◌≡◌, ap, sym, subst}
+use Rattle.copy_functions.specs.Copies.{CopyFunction, with_source, IsCopyOf, IsCopied}
 use Rattle.copy_functions.specs.contracts.copy_map.CopyMap.{the_view}
-use Rattle.copy_functions.specs.Faults.{first_difference}
 use Rattle.copy_functions.proofs.Mapped.{copied_more}
 use Rattle.copy_functions.proofs.PutSources.{put_is}
-use Rattle.copy_functions.proofs.SameValues.{equal_at_each}
 use Rattle.copy_functions.proofs.copy_map.CopyMap.add.Goals as goal
-
-equal_of : goal.returns-clause-equal
-equal_of c =
-    let none : first_difference 0 c.args.self.now.places (values_of c.args.target_rows.now c.args.target)
-    (values_of c.args.source_rows.now c.args.source) ≡ None = search rules in
-    record {
-      in_target = c.requires.target_row;
-      in_source = c.requires.source_row;
-      equal = equal_at_each 0 c.args.self.now.places _ _ c.requires.target_values c.requires.source_values none;
-    }
-
-pub returns-clause-equal : goal.returns-clause-equal
-returns-clause-equal c = equal_of c
 
 pub returns-clause-copied : goal.returns-clause-copied
 returns-clause-copied c = λ were.
@@ -28,7 +13,7 @@ returns-clause-copied c = λ were.
     subst (λ (copy : CopyFunction). IsCopied copy target_rows source_rows) (sym c.self.view_is) were in
     let one : IsCopyOf c.self.inside.places target_rows source_rows c.args.target c.args.source =
     subst (λ (copy : CopyFunction). IsCopyOf copy.places target_rows source_rows c.args.target c.args.source)
-    (sym c.self.view_is) (equal_of c) in
+    (sym c.self.view_is) c.in_ok-check.ensures.equal in
     copied_more c.self.inside.places target_rows source_rows c.self.inside.sources.items c.put.new.sources.items
     c.args.target c.args.source
     c.in_ok-put.ensures.ok one inside_were
