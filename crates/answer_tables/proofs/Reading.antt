@@ -1,6 +1,6 @@
 -- What is read on the way to the query.
 use Rattle.std.proofs.Common.{◌≡◌, ℕ, List, Option, None, Some, IfSome, Ok, Err, inl, inr, subst, sym}
-use Rattle.command_stages.specs.Named.{IsDetermined}
+use Rattle.command_stages.specs.Named.{IsDeterminedTrouble}
 use Rattle.command_stages.specs.Stages.{IsQuestionRead, IsSpecRead}
 use Rattle.command_stages.specs.Trees.{IsQuestionTreeOf}
 use Rattle.command_stages.specs.declared.trouble.Trouble.{Trouble}
@@ -15,9 +15,9 @@ use Rattle.answer_tables.specs.Asked.{AreParts, AsksNothing, IsQueryRead, IsTrou
 
 module _ (texts : Option (List (List ℕ × List ℕ))) (a : TableSaid) where
   -- the specification is refused
-  pub spec_refused : (e : Trouble) → (IsDetermined e → IfSome texts (λ told. IsSpecRead told a.spec (Err e))) → IsDetermined e
+  pub spec_refused : (e : Trouble) → (IsDeterminedTrouble e → IfSome texts (λ told. IsSpecRead told a.spec (Err e))) → IsDeterminedTrouble e
       → IfSome texts (λ told. IsTrouble told a e)
-  spec_refused e stage settled = by texts (stage settled)
+  spec_refused e stage determined = by texts (stage determined)
     where
       by : (t : Option (List (List ℕ × List ℕ))) → IfSome t (λ told. IsSpecRead told a.spec (Err e))
           → IfSome t (λ told. IsTrouble told a e)
@@ -26,9 +26,9 @@ module _ (texts : Option (List (List ℕ × List ℕ))) (a : TableSaid) where
 
   -- the question is refused
   pub question_refused : (s : Spec) (e : Trouble) → IfSome texts (λ told. IsSpecRead told a.spec (Ok s))
-      → (IsDetermined e → IfSome texts (λ told. IsQuestionRead told s.relations a.question (Err e))) → IsDetermined e
+      → (IsDeterminedTrouble e → IfSome texts (λ told. IsQuestionRead told s.relations a.question (Err e))) → IsDeterminedTrouble e
       → IfSome texts (λ told. IsTrouble told a e)
-  question_refused s e spec stage settled = by texts spec (stage settled)
+  question_refused s e spec stage determined = by texts spec (stage determined)
     where
       by : (t : Option (List (List ℕ × List ℕ))) → IfSome t (λ told. IsSpecRead told a.spec (Ok s))
           → IfSome t (λ told. IsQuestionRead told s.relations a.question (Err e)) → IfSome t (λ told. IsTrouble told a e)
@@ -40,8 +40,8 @@ module _ (texts : Option (List (List ℕ × List ℕ))) (a : TableSaid) where
       → IfSome texts (λ told. IsSpecRead told a.spec (Ok s))
       → IfSome texts (λ told. IsQuestionRead told s.relations a.question (Ok q))
       → IfSome texts (λ told. IsQuestionTreeOf told s.relations a.question t q)
-      → (IsDetermined e → AsksNothing t a.question e) → IsDetermined e → IfSome texts (λ told. IsTrouble told a e)
-  none_asked s q t e spec question is_tree none settled = by texts spec question is_tree (none settled)
+      → (IsDeterminedTrouble e → AsksNothing t a.question e) → IsDeterminedTrouble e → IfSome texts (λ told. IsTrouble told a e)
+  none_asked s q t e spec question is_tree none determined = by texts spec question is_tree (none determined)
     where
       by : (o : Option (List (List ℕ × List ℕ))) → IfSome o (λ told. IsSpecRead told a.spec (Ok s))
           → IfSome o (λ told. IsQuestionRead told s.relations a.question (Ok q))

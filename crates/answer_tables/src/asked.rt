@@ -4,7 +4,7 @@ ghost use Rattle.std.specs.Prelude.{◌≡◌, ◌≢◌, ◌≤◌, ℕ, List, 
 ghost use Rattle.answer_tables.specs.Asked.{AreParts, AsksNothing, IsQueryRead, IsTableDocumentDue, IsTrouble};
 ghost use Rattle.answer_tables.specs.Asked.{query_asked, table_said};
 ghost use Rattle.bound_spec.specs.Growth.{IsWithinLimits};
-ghost use Rattle.command_stages.specs.Named.{IsDetermined, IsReadFault, IsReadFaultOf};
+ghost use Rattle.command_stages.specs.Named.{IsDeterminedTrouble, IsReadFault, IsReadFaultOf};
 ghost use Rattle.currency_edge.specs.Fault.{Rose};
 ghost use Rattle.question_bind.specs.Bound.{AsksQuery};
 ghost use Rattle.spec_model.specs.Questions.{IsQuestionOn};
@@ -45,7 +45,7 @@ fn with_query(
     name: &str,
 ) -> Result<AskedQuery, Trouble>
     ensures parts { IfOk result (λ r. AreParts spec read.tree read.question r.spec r.question r.query) }
-    ensures none { IfErr result (λ e. IsDetermined e → AsksNothing read.tree name.now e) }
+    ensures none { IfErr result (λ e. IsDeterminedTrouble e → AsksNothing read.tree name.now e) }
     ensures inside { IsReadFault result → ⊥ }
     ensures not_words { IfErr result (λ e. e ≢ Trouble.Words) }
 {
@@ -69,7 +69,7 @@ pub fn read_query<S: Shelf>(
     ensures later { S.faults shelf.old ≤ S.faults shelf.new }
     ensures read { IfOk result (λ r. IfSome (S.texts shelf.old)
         (λ told. IsQueryRead told (table_said asked.entry) r.spec r.question r.query)) }
-    ensures refused { IfErr result (λ e. IsDetermined e → IfSome (S.texts shelf.old)
+    ensures refused { IfErr result (λ e. IsDeterminedTrouble e → IfSome (S.texts shelf.old)
         (λ told. IsTrouble told (table_said asked.entry) e)) }
     ensures within { IfOk result (λ r. IsWithinLimits r.spec) }
     ensures fits { IfOk result (λ r. IsQuestionOn r.spec.relations r.question) }

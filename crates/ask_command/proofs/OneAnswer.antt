@@ -1,8 +1,7 @@
 -- Of two right verdicts on a question, both are an answer of no, or neither is.
-use Rattle.std.proofs.Common.{◌≡◌, ◌∙◌, ◌<◌, ◌≤◌, ⊎_elim, Bool, true, false, List, [], length, refl, sym, ap, subst}
-use Rattle.std.proofs.Common.{All, Contains, None, Some, arith, slice_get, slice_index_or}
-use Rattle.std.proofs.lemmas.Bool.{cases_lt, false≢true}
-use Rattle.std.proofs.lemmas.List.{get_or_past}
+use Rattle.std.proofs.Common.{◌≡◌, ◌∙◌, ◌<◌, Bool, true, false, List, length, refl, sym, ap, subst}
+use Rattle.std.proofs.Common.{All, Contains, None, Some, slice_get}
+use Rattle.std.proofs.lemmas.Bool.{false≢true}
 use Rattle.std.proofs.lemmas.List.Elements.{All-contains}
 use Rattle.std.proofs.lemmas.Option.{same_Some}
 use Rattle.ask_command.specs.Forms.{is_no}
@@ -10,17 +9,17 @@ use Rattle.current_tuples.specs.Places.{IsPlaceOf}
 use Rattle.currency_base.specs.declared.ids.AttrId.{AttrId}
 use Rattle.currency_base.specs.declared.ids.EntId.{EntId}
 use Rattle.currency_base.specs.declared.ids.RelId.{RelId}
-use Rattle.denial_rules.specs.Instances.{field_value}
 use Rattle.report_model.specs.Verdicts.{kind_of}
 use Rattle.report_model.specs.declared.verdict.Current.{Current}
 use Rattle.report_model.specs.declared.verdict.Verdict.{Verdict}
 use Rattle.report_model.specs.declared.verdict.Verdict.TheVariants as verdict
+use Rattle.report_verify.proofs.Differing.{no_value}
 use Rattle.report_verify.specs.Asked.{AreItemsOf}
 use Rattle.report_verify.specs.Right.{DifferInSome, EachConsistent, FailsInSome, IsCurrentIn, IsRight, PairHolds}
 use Rattle.query_model.specs.declared.query.Query.{Query}
-use Rattle.spec_model.specs.Completion.{HasShape, Rankings, lists_of, ranking_of}
+use Rattle.spec_model.specs.Completion.{Rankings}
 use Rattle.spec_model.specs.Consistent.{IsConsistent, IsSatisfiable}
-use Rattle.spec_model.specs.Current.{current_value, last_row}
+use Rattle.spec_model.specs.Current.{current_value}
 use Rattle.spec_model.specs.Spec.{Spec}
 use Rattle.spec_model.specs.declared.question.Asked.{Asked}
 use Rattle.spec_model.specs.declared.question.Question.{Question}
@@ -50,34 +49,12 @@ module _ (s : Spec) (rels : List RelId) (items : List Current) (rel : RelId) (at
       ∙ ap (λ (x : Relation). current_value c rel.0 x.rows attr.0 item.ent.0) same
       ∙ ap (λ (e : EntId). current_value c rel.0 r.rows attr.0 e.0) of_ent
 
-  -- at a place that is not there no completion has a list, and so no current value
-  no_list : (c : Rankings) (r : Relation) → HasShape s.relations c → slice_get s.relations rel.0 ≡ Some r
-      → (IsPlaceOf s.relations rel.0 attr.0 ent.0 → ⊥) → ranking_of c rel.0 attr.0 ent.0 ≡ []
-  no_list c r shape at missing =
-      ⊎_elim
-      (λ (attr_in : attr.0 < length r.attrs).
-      ⊎_elim
-      (λ (ent_in : ent.0 < length r.entities).
-      absurd (missing record { relation = r; is_relation = at; attr_within = attr_in; ent_within = ent_in }))
-      (λ (past : length r.entities ≤ ent.0).
-      let count = shape.per_entity rel.0 r at attr.0 attr_in in
-      get_or_past (lists_of c rel.0 attr.0) ent.0 [] (omega arith))
-      (cases_lt ent.0 (length r.entities)))
-      (λ (past : length r.attrs ≤ attr.0).
-      let count = shape.per_attr rel.0 r at in
-      ap (λ ls. slice_index_or ls ent.0 []) (get_or_past (slice_index_or c rel.0 []) attr.0 [] (omega arith)))
-      (cases_lt attr.0 (length r.attrs))
-
-  no_value : (c : Rankings) (r : Relation) → HasShape s.relations c → slice_get s.relations rel.0 ≡ Some r
-      → (IsPlaceOf s.relations rel.0 attr.0 ent.0 → ⊥) → current_value c rel.0 r.rows attr.0 ent.0 ≡ None
-  no_value c r shape at missing = ap (λ list. field_value r.rows (last_row list) attr.0) (no_list c r shape at missing)
-
   same_apart : AreItemsOf s.relations rels items → All (λ item. EachConsistent s (IsCurrentIn s.relations item)) items
       → Contains rels rel → DifferInSome s rel attr ent → ⊥
   same_apart are current asked d =
       d.differ.differ
-      (no_value d.one r d.one_consistent.completion.shape d.differ.is_relation at_place
-      ∙ sym (no_value d.other r d.other_consistent.completion.shape d.differ.is_relation at_place))
+      (no_value s.relations rel attr ent d.one r d.one_consistent.completion.shape d.differ.is_relation at_place
+      ∙ sym (no_value s.relations rel attr ent d.other r d.other_consistent.completion.shape d.differ.is_relation at_place))
     where
       r : Relation
       r = d.differ.relation

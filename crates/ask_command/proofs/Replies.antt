@@ -19,8 +19,8 @@ use Rattle.currency_ask.specs.Answered.{HasTooMany}
 use Rattle.program_words.specs.Words.{AskSaid}
 use Rattle.report_model.specs.Verdicts.{is_decided, kind_of}
 use Rattle.report_model.specs.declared.report.Report.{Report}
-use Rattle.report_model.specs.declared.verdict.Kind.{Kind}
-use Rattle.report_model.specs.declared.verdict.Kind.TheVariants as kind
+use Rattle.report_model.specs.declared.verdict.VerdictKind.{VerdictKind}
+use Rattle.report_model.specs.declared.verdict.VerdictKind.TheVariants as kind
 use Rattle.report_model.specs.declared.verdict.Verdict.{Verdict}
 use Rattle.report_verify.specs.Right.{IsRight}
 use Rattle.spec_model.specs.Completion.{Rankings}
@@ -28,7 +28,7 @@ use Rattle.spec_model.specs.Spec.{Spec}
 use Rattle.spec_model.specs.declared.question.Question.{Question}
 use Rattle.spec_model.specs.declared.question.Question.TheVariants as asked
 use Rattle.spec_model.specs.declared.relation.Relation.{Relation}
-use Rattle.told_answers.specs.Answers.{IsAnswer}
+use Rattle.answer_texts.specs.Answers.{IsAnswer}
 
 abbrev OneSpec : Type 0
 OneSpec = (told : List (List ℕ × List ℕ)) (name : List ℕ) → IsOne (IsSpecRead told name)
@@ -58,7 +58,8 @@ answer_due one_spec one_question told a s q got spec question h =
 
 -- ---- an answer's status
 
-asked_status : (s : Spec) (a : AskSaid) (q : Question) (k : Kind) (status : ℕ) → status ≡ ending_status (ask_ending a.exit k)
+asked_status : (s : Spec) (a : AskSaid) (q : Question) (k : VerdictKind) (status : ℕ)
+    → status ≡ ending_status (ask_ending a.exit k)
     → ComesToAsked s a q status
 asked_status s a q k status is = by a.exit refl (is_no k) (is_decided k) is
   where
@@ -80,7 +81,7 @@ answer_comes s a q got status (inr h) is =
 
 -- ---- what is due differs in no more than which report answers
 
-no_is_decided : (k : Kind) → is_no k ≡ true → is_decided k ≡ true
+no_is_decided : (k : VerdictKind) → is_no k ≡ true → is_decided k ≡ true
 no_is_decided kind.Inconsistent e = refl
 no_is_decided kind.NotCertain e = refl
 no_is_decided kind.NotSame e = refl
@@ -91,7 +92,7 @@ no_is_decided kind.Answers e = refl
 no_is_decided kind.Undecided e = absurd (false≢true e)
 
 -- two answers end alike where both say no, or neither does, or one says nothing
-ends_alike : (exit : Bool) (v w : Kind) → (is_decided v ≡ true → is_decided w ≡ true → is_no v ≡ is_no w)
+ends_alike : (exit : Bool) (v w : VerdictKind) → (is_decided v ≡ true → is_decided w ≡ true → is_no v ≡ is_no w)
     → EndAlike (ask_ending exit v) (ask_ending exit w)
 ends_alike exit v w agree =
     by exit (is_no v) (is_decided v) (is_no w) (is_decided w) (no_is_decided v) (no_is_decided w) agree

@@ -18,7 +18,7 @@ use Rattle.spec_model.specs.Completion.{Rankings}
 use Rattle.spec_model.specs.Spec.{Spec}
 use Rattle.spec_model.specs.declared.question.Question.{Question}
 use Rattle.text_write.specs.Pieces.{text_of}
-use Rattle.told_answers.specs.Answers.{ComesToAnswer, IsAnswer, IsShort}
+use Rattle.answer_texts.specs.Answers.{ComesToAnswer, IsAnswer, IsShort}
 use Rattle.report_stages.specs.Judged.{IsReportSaid, IsJudged}
 
 -- what is asked, with the names of documents as bytes
@@ -52,7 +52,7 @@ IsAskDocumentDue told a name = IsSpecDocumentDue told a.spec name ⊎ IsQuestion
 
 -- the documents are read as a specification and a question, and this is the text of a report that answers it; the whole report,
 -- read back, is judged to show its verdict, whatever name it has
-pub record IsAnswerTold (told : List (List ℕ × List ℕ)) (a : AskSaid) (text : List ℕ) (ending : Ending) : Type 0 where
+pub record IsAnswerPrinted (told : List (List ℕ × List ℕ)) (a : AskSaid) (text : List ℕ) (ending : Ending) : Type 0 where
   pub spec : Spec
   pub question : Question
   pub spec_read : IsSpecRead told a.spec (Ok spec)
@@ -66,12 +66,12 @@ pub record IsAnswerTold (told : List (List ℕ × List ℕ)) (a : AskSaid) (text
 
 -- the budget was spent
 abbrev pub IsAskSpent : List (List ℕ × List ℕ) → AskSaid → List ℕ → Type 0
-IsAskSpent told a text = (t : IsAnswerTold told a text Undecided) × IsShort t.spec t.question a.budget t.report.verdict
+IsAskSpent told a text = (t : IsAnswerPrinted told a text Undecided) × IsShort t.spec t.question a.budget t.report.verdict
 
 -- the answer is no, and the words ask for a status that tells it
 abbrev pub IsAskDenied : List (List ℕ × List ℕ) → AskSaid → List ℕ → Type 0
 IsAskDenied told a text =
-    (t : IsAnswerTold told a text Denied) × (a.exit ≡ true) × (is_no (kind_of t.report.verdict) ≡ true)
+    (t : IsAnswerPrinted told a text Denied) × (a.exit ≡ true) × (is_no (kind_of t.report.verdict) ≡ true)
 
 -- ---- its status
 

@@ -1,18 +1,18 @@
 ghost use Rattle.std.specs.Prelude.{◌≡◌, ◌≢◌, ℕ, List, IfErr, ◌≤◌, IfOk, IfSome};
-ghost use Rattle.ask_command.specs.Asked.{IsAskDue, IsAnswered, IsAnswerTold, IsAskDocumentDue, ask_said};
+ghost use Rattle.ask_command.specs.Asked.{IsAskDue, IsAnswered, IsAnswerPrinted, IsAskDocumentDue, ask_said};
 ghost use Rattle.bound_spec.specs.Growth.{IsWithinLimits};
-ghost use Rattle.command_stages.specs.Named.{IsSettled, IsReadFault, IsReadFaultOf};
+ghost use Rattle.command_stages.specs.Named.{IsDetermined, IsReadFault, IsReadFaultOf};
 ghost use Rattle.currency_edge.specs.Fault.{Rose};
 ghost use Rattle.spec_model.specs.Questions.{IsQuestionOn};
 
-use crate::telling::told_as_asked;
+use crate::telling::printed_as_asked;
+use answer_texts::report_on;
 use command_stages::{Done, Trouble, read_specification, read_the_question};
 use currency_edge::Shelf;
 use program_words::Ask;
 use solver_guides::Guides;
 use spec_model::{Question, Specification};
 use std::alloc::Global;
-use told_answers::report_on;
 
 // The job of `ask`: a report that answers the question, as a text.
 fn reply(
@@ -24,12 +24,12 @@ fn reply(
 ) -> Result<Done, Trouble>
     requires within { IsWithinLimits spec.now }
     requires question { IsQuestionOn spec.now.relations question.now }
-    ensures job { IsSettled result → IsAnswered spec.now (ask_said asked.entry) question.now result }
+    ensures job { IsDetermined result → IsAnswered spec.now (ask_said asked.entry) question.now result }
     ensures inside { IsReadFault result → ⊥ }
     ensures not_words { IfErr result (λ e. e ≢ Trouble.Words) }
 {
     match report_on(alloc, spec, question, asked.budget, guides) {
-        Ok(report) => told_as_asked(alloc, spec, &asked, &report),
+        Ok(report) => printed_as_asked(alloc, spec, &asked, &report),
         Err(trouble) => Err(trouble),
     }
 }
@@ -43,8 +43,8 @@ pub fn ask_documents<S: Shelf>(
 ) -> Result<Done, Trouble>
     requires budget { asked.budget ≤ 10000000 }
     ensures later { S.faults shelf.old ≤ S.faults shelf.new }
-    ensures due { IsSettled result → IfSome (S.texts shelf.old) (λ told. IsAskDue told (ask_said asked.entry) result) }
-    ensures told { IfOk result (λ done. IfSome (S.texts shelf.old) (λ told. IsAnswerTold told (ask_said asked.entry)
+    ensures due { IsDetermined result → IfSome (S.texts shelf.old) (λ told. IsAskDue told (ask_said asked.entry) result) }
+    ensures printed { IfOk result (λ done. IfSome (S.texts shelf.old) (λ told. IsAnswerPrinted told (ask_said asked.entry)
         done.text done.ending)) }
     ensures read_fault { IsReadFault result → Rose (S.faults shelf.old) (S.faults shelf.new) }
     ensures unread { (n : List ℕ) → IsReadFaultOf result n

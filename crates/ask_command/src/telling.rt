@@ -2,35 +2,35 @@ ghost use Rattle.std.specs.Prelude.{◌≡◌, IfErr, IfOk};
 ghost use Rattle.ask_command.specs.Asked.{ask_said};
 ghost use Rattle.ask_command.specs.Forms.{ask_ending, asked_done, form_text, is_no};
 ghost use Rattle.report_write.specs.Writable.{IsWritableReport};
-ghost use Rattle.told_answers.specs.Answers.{answer_text};
+ghost use Rattle.answer_texts.specs.Answers.{answer_text};
 
+use answer_texts::{ending_of, printed_report};
 use command_stages::{Done, Ending, Trouble};
 use currency_base::ByteList;
 use program_words::{AnswerForm, Ask};
-use report_model::{Kind, Report};
+use report_model::{Report, VerdictKind};
 use report_write::write_verdict;
 use spec_model::Specification;
 use std::alloc::Global;
-use told_answers::{ending_of, told_report};
 
 // Is the answer no?
-fn is_no(kind: Kind) -> bool
+fn is_no(kind: VerdictKind) -> bool
     ensures { result ≡ is_no kind }
 {
     match kind {
-        Kind::Inconsistent => true,
-        Kind::NotCertain => true,
-        Kind::NotSame => true,
-        Kind::Consistent => false,
-        Kind::Certain => false,
-        Kind::Same => false,
-        Kind::Answers => false,
-        Kind::Undecided => false,
+        VerdictKind::Inconsistent => true,
+        VerdictKind::NotCertain => true,
+        VerdictKind::NotSame => true,
+        VerdictKind::Consistent => false,
+        VerdictKind::Certain => false,
+        VerdictKind::Same => false,
+        VerdictKind::Answers => false,
+        VerdictKind::Undecided => false,
     }
 }
 
 // How a question ends whose verdict is of this kind.
-fn ask_ending(exit: bool, kind: Kind) -> Ending
+fn ask_ending(exit: bool, kind: VerdictKind) -> Ending
     ensures { result ≡ ask_ending exit kind }
 {
     if exit && is_no(kind) {
@@ -48,10 +48,10 @@ fn report_text(
     report: &Report,
 ) -> Result<ByteList, Trouble>
     requires { IsWritableReport spec.now.relations report.now }
-    ensures told { IfOk result (λ text. text ≡ answer_text spec.now.relations brief report.now) }
+    ensures printed { IfOk result (λ text. text ≡ answer_text spec.now.relations brief report.now) }
     ensures memory { IfErr result (λ e. e ≡ Trouble.NoMemory) }
 {
-    let Done { text, .. } = told_report(alloc, spec, brief, report)?;
+    let Done { text, .. } = printed_report(alloc, spec, brief, report)?;
     Ok(text)
 }
 
@@ -63,7 +63,7 @@ fn form_text(
     report: &Report,
 ) -> Result<ByteList, Trouble>
     requires { IsWritableReport spec.now.relations report.now }
-    ensures told { IfOk result (λ text. text ≡ form_text spec.now.relations form report.now) }
+    ensures printed { IfOk result (λ text. text ≡ form_text spec.now.relations form report.now) }
     ensures memory { IfErr result (λ e. e ≡ Trouble.NoMemory) }
 {
     match form {
@@ -77,14 +77,14 @@ fn form_text(
 }
 
 /// What a report is told as that answers what is asked.
-pub fn told_as_asked(
+pub fn printed_as_asked(
     alloc: Global,
     spec: &Specification,
     asked: &Ask<'_>,
     report: &Report,
 ) -> Result<Done, Trouble>
     requires { IsWritableReport spec.now.relations report.now }
-    ensures told { IfOk result (λ done. done ≡ asked_done spec.now.relations (ask_said asked.now) report.now) }
+    ensures printed { IfOk result (λ done. done ≡ asked_done spec.now.relations (ask_said asked.now) report.now) }
     ensures memory { IfErr result (λ e. e ≡ Trouble.NoMemory) }
 {
     match form_text(alloc, spec, asked.form, report) {

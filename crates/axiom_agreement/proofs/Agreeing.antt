@@ -12,7 +12,7 @@ use Rattle.refutation_log.specs.declared.statement.Statement.{Statement}
 use Rattle.log_axioms.specs.Axioms.{says_same, is_said, lit_says, is_clause}
 use Rattle.log_axioms.specs.Truth.{meaning}
 use Rattle.log_axioms.specs.declared.signed.Signed.{Signed}
-use Rattle.order_literals.specs.Said.{Said, turned, told_by, Says}
+use Rattle.order_literals.specs.Said.{Said, turned, said_by, Says}
 use Rattle.order_literals.proofs.Items.{IsIn, contained, in_contained}
 use Rattle.order_clauses.specs.Clauses.{SaysOneOf, IsSaidByOne, AreLits}
 
@@ -27,7 +27,7 @@ abbrev pub Agrees : List Relation → Said → Signed → Type 0
 Agrees relations said signed = (statements : List Statement) (lit : Lit) → Says statements lit said
     → lit_says relations statements signed lit ≡ true
 
-told_means : (statements : List Statement) (lit : Lit) (said : Said) → told_by statements lit ≡ Some said
+told_means : (statements : List Statement) (lit : Lit) (said : Said) → said_by statements lit ≡ Some said
     → meaning statements lit ≡ Some (signed_of said)
 told_means statements lit said e = by (slice_get statements (var_of lit)) e
   where
@@ -43,8 +43,8 @@ pub agrees_if : (relations : List Relation) (said : Said) (signed : Signed) → 
     → says_same relations (signed_of (turned said)) signed ≡ true → Agrees relations said signed
 agrees_if relations said signed straight turn statements lit says =
     ⊎_elim
-    (λ (e : told_by statements lit ≡ Some said). ap (is_said relations signed) (told_means statements lit said e) ∙ straight)
-    (λ (e : told_by statements lit ≡ Some (turned said)). ap (is_said relations signed)
+    (λ (e : said_by statements lit ≡ Some said). ap (is_said relations signed) (told_means statements lit said e) ∙ straight)
+    (λ (e : said_by statements lit ≡ Some (turned said)). ap (is_said relations signed)
     (told_means statements lit (turned said) e) ∙ turn)
     says
 

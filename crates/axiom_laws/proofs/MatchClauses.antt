@@ -224,7 +224,7 @@ module _ (relations : List Relation) (c : Rankings) (answers : ℕ → Type 0) (
             };
             is_head = heads_are values tuple d.head head;
           } in
-          true_first tt (over.told q place tuple asked there is_answer)
+          true_first tt (over.complete q place tuple asked there is_answer)
       by place premises tuple head there long tests claims (inr (p, is_in, n)) =
           true_later (true_mapped relations c answers (λ q. not_last q.rel q.attr q.row) premises p is_in tt n)
 

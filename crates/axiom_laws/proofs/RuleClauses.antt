@@ -11,7 +11,7 @@ use Rattle.currency_base.specs.declared.ids.RelId.{RelId}
 use Rattle.currency_base.specs.declared.ids.RowId.{RowId}
 use Rattle.currency_base.specs.declared.pair.Pair.{Pair}
 use Rattle.currency_base.specs.declared.row.Row.{Row}
-use Rattle.currency_base.specs.declared.value.Kind.{Kind}
+use Rattle.currency_base.specs.declared.value.ValueKind.{ValueKind}
 use Rattle.denial_rules.specs.Instances.{comparison_holds, values_hold, pair_at, atom_pair, pair_and, premises_of, concluded, instance_of}
 use Rattle.denial_rules.specs.Rules.{IsPredicate, IsRuleOn}
 use Rattle.denial_rules.specs.declared.instance.RuleInstance.{RuleInstance}
@@ -141,13 +141,13 @@ predicates_hold table c rel rows (Compare left cmp right ∷ more) qs values e h
     (predicates_hold table c rel rows more qs both.1 e hold)
 
 -- a premise is of an attribute, and of two different ones of the rows
-record IsPremise (kinds : List Kind) (rows : List RowId) (p : Pair) : Type 0 where
+record IsPremise (kinds : List ValueKind) (rows : List RowId) (p : Pair) : Type 0 where
   attr_in : p.attr.0 < length kinds
   earlier_in : Contains rows p.earlier
   later_in : Contains rows p.later
   differ : p.earlier.0 ≡ p.later.0 → ⊥
 
-premises_are : (vars : ℕ) (kinds : List Kind) (rows : List RowId) (ps : List Predicate) (qs : List Pair)
+premises_are : (vars : ℕ) (kinds : List ValueKind) (rows : List RowId) (ps : List Predicate) (qs : List Pair)
     → premises_of rows ps ≡ Some qs → All (IsPredicate vars kinds) ps
     → All (IsPremise kinds rows) qs
 premises_are vars kinds rows [] qs e are = subst (All (IsPremise kinds rows)) (same_Some [] qs e) (All-nil (IsPremise kinds rows))

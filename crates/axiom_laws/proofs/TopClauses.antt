@@ -10,7 +10,7 @@ use Rattle.currency_base.specs.declared.ids.RelId.{RelId}
 use Rattle.currency_base.specs.declared.ids.RowId.{RowId}
 use Rattle.currency_base.specs.declared.row.Row.{Row}
 use Rattle.currency_base.specs.declared.value.Cmp.TheVariants.{Eq}
-use Rattle.currency_base.specs.declared.value.Kind.{Kind}
+use Rattle.currency_base.specs.declared.value.ValueKind.{ValueKind}
 use Rattle.currency_base.specs.declared.value.Value.{Value}
 use Rattle.denial_rules.specs.Instances.{value_in, field_value, is_compared}
 use Rattle.entity_rows.specs.Members.{members}
@@ -140,7 +140,7 @@ top_true relations c answers rel attr row r clause is at e = by (entity_of r.row
 -- ---- values
 
 -- a row has a value of each attribute
-value_there : (rows : List Row) (kinds : List Kind) (n attr ent : ℕ) → All (λ row. map kind_of row.values ≡ kinds) rows
+value_there : (rows : List Row) (kinds : List ValueKind) (n attr ent : ℕ) → All (λ row. map kind_of row.values ≡ kinds) rows
     → entity_of rows n ≡ Some ent → attr < length kinds
     → (v : Value) × (value_in (slice_get rows n) attr ≡ Some v)
 value_there [] kinds n attr ent all of below = absurd (none-some ent of)

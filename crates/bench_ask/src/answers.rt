@@ -6,7 +6,7 @@ ghost use Rattle.query_model.specs.Fitting.{IsQuery};
 ghost use Rattle.spec_model.specs.Completion.{Rankings};
 ghost use Rattle.spec_model.specs.Consistent.{IsConsistent};
 
-use crate::counts::{BUDGET, Told, counted, is_within};
+use crate::counts::{BUDGET, Counts, counted, is_within};
 use answer_candidates::Candidates;
 use certain_answers::{decide_left, discard, note, relations_of, search_for};
 use currency_base::{NoMemory, TupleList};
@@ -24,7 +24,7 @@ pub fn decided(
     spec: &Specification,
     query: &Query,
     guides: &mut Guides,
-) -> Result<Option<Told>, NoMemory>
+) -> Result<Option<Counts>, NoMemory>
     requires within { IsWithinLimits spec.now }
     requires query { IsQuery query.now }
 {
@@ -85,7 +85,7 @@ fn searched(
     query: &Query,
     mut candidates: Candidates,
     guides: &mut Guides,
-) -> Result<Option<Told>, NoMemory>
+) -> Result<Option<Counts>, NoMemory>
     requires within { IsWithinLimits spec.now }
     requires query { IsQuery query.now }
     requires candidates { AreCandidates spec.now query.now candidates }
@@ -98,13 +98,13 @@ fn searched(
         Ok(search) => search,
         Err(error) => return Err(error),
     };
-    let done = settle(alloc, spec, query, &mut candidates, &mut search, guides);
+    let done = decide_candidates(alloc, spec, query, &mut candidates, &mut search, guides);
     let told = counted(search.log());
     discard(search);
     match done {
         Ok(unlisted) => {
             let completions = candidates.into_completions().len() as u64;
-            Ok(Some(Told {
+            Ok(Some(Counts {
                 completions,
                 // each other one refutes a candidate and is listed, or brings in the match of one
                 models: completions
@@ -118,7 +118,7 @@ fn searched(
 }
 
 // Decides these candidates, after a completion from the opposite of the first guess: 1 where that one is not listed, else 0.
-fn settle(
+fn decide_candidates(
     alloc: Global,
     spec: &Specification,
     query: &Query,

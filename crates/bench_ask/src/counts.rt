@@ -16,7 +16,7 @@ pub const BUDGET: u64 = 100_000;
 /// What a search came to: how many steps its log has of each kind, how many completions were found that a report lists, and how
 /// many models in all that are consistent completions.
 #[derive(Clone, Copy, Debug, PartialEq, Eq)]
-pub struct Told {
+pub struct Counts {
     pub axioms: u64,
     pub three_rows: u64,
     pub learned: u64,
@@ -30,7 +30,7 @@ pub fn searched(
     alloc: Global,
     spec: &Specification,
     guides: &mut Guides,
-) -> Result<Option<Told>, NoMemory>
+) -> Result<Option<Counts>, NoMemory>
     requires { IsWithinLimits spec.now }
 {
     is_within(spec);
@@ -46,13 +46,13 @@ fn found(
     alloc: Global,
     mut search: Search<'_>,
     guides: &mut Guides,
-) -> Result<Option<Told>, NoMemory> {
+) -> Result<Option<Counts>, NoMemory> {
     let mut units = Budget::new(BUDGET);
     let outcome = search.decide(alloc, None, &mut units, guides);
     let told = counted(search.log());
     discard(search);
     match outcome {
-        Ok(Outcome::Model { .. }) => Ok(Some(Told {
+        Ok(Outcome::Model { .. }) => Ok(Some(Counts {
             completions: 1,
             models: 1,
             ..told
@@ -74,8 +74,8 @@ pub fn is_within(spec: &Specification)
 }
 
 /// The steps of a log by kinds, and no completion or model.
-pub fn counted(log: &Log) -> Told {
-    let mut told = Told {
+pub fn counted(log: &Log) -> Counts {
+    let mut told = Counts {
         axioms: 0,
         three_rows: 0,
         learned: 0,
@@ -90,24 +90,24 @@ pub fn counted(log: &Log) -> Told {
 }
 
 // One step more.
-fn with_step(told: Told, step: StepRef<'_>) -> Told {
+fn with_step(told: Counts, step: StepRef<'_>) -> Counts {
     match step {
         StepRef::Axiom {
             label: LabelRef::Transitive { .. },
             ..
-        } => Told {
+        } => Counts {
             three_rows: told.three_rows.saturating_add(1),
             ..told
         },
-        StepRef::Learn { .. } => Told {
+        StepRef::Learn { .. } => Counts {
             learned: told.learned.saturating_add(1),
             ..told
         },
-        StepRef::OnDemand { .. } => Told {
+        StepRef::OnDemand { .. } => Counts {
             on_demand: told.on_demand.saturating_add(1),
             ..told
         },
-        _ => Told {
+        _ => Counts {
             axioms: told.axioms.saturating_add(1),
             ..told
         },

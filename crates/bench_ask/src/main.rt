@@ -11,7 +11,7 @@ ghost use Rattle.bound_spec.specs.Growth.{IsWithinLimits};
 ghost use Rattle.query_model.specs.Fitting.{IsQuery};
 
 use answers::decided;
-use counts::{Told, searched};
+use counts::{Counts, searched};
 use currency_base::NoMemory;
 use currency_edge::FileShelf;
 use documents::{question, specification};
@@ -48,7 +48,7 @@ fn came_to(
     alloc: Global,
     spec: &Specification,
     query: Option<&Query>,
-) -> Result<Option<Told>, NoMemory>
+) -> Result<Option<Counts>, NoMemory>
     requires within { IsWithinLimits spec.now }
     requires query { IfSome query (λ q. IsQuery q.now) }
 {
@@ -66,7 +66,7 @@ fn came_to(
 
 // The same of the specification of this name, and of the query whose answers the question of the other name asks for, if their
 // documents say one.
-fn of_documents(rt: &HostRuntime, name: &str, asked: Option<&String>) -> Option<Told> {
+fn of_documents(rt: &HostRuntime, name: &str, asked: Option<&String>) -> Option<Counts> {
     let mut shelf = FileShelf::new(rt);
     let spec = specification(rt.alloc(), &mut shelf, name)?;
     let Some(asked) = asked else {

@@ -1,16 +1,16 @@
 -- What holds of an outcome whatever else would have been made, and answers that are due.
 use Rattle.std.proofs.Common.{◌≡◌, ℕ, List, [], ◌∷◌, Result, Ok, Err}
-use Rattle.bind_faults.specs.Faults.{all_of, and_then, IsDue, IsSettled, IsReadFault, IsReadFaultOf}
+use Rattle.bind_faults.specs.Faults.{all_of, and_then, IsDue, IsDetermined, IsReadFault, IsReadFaultOf}
 use Rattle.bind_faults.specs.declared.fault.BindFault.{BindFault}
 use Rattle.bind_faults.specs.declared.fault.BindFault.TheVariants.{Refused, CopyDiffers, Limit, ReadFault, NoMemory}
 
--- a fault is settled, or a read fault, or one of some table, whatever else would have been the answer
-pub settled_fault : (A B : Type 0) (fault : BindFault) → IsSettled {A = A} (Err fault) → IsSettled {A = B} (Err fault)
-settled_fault A B (Refused refusal) h = h
-settled_fault A B (CopyDiffers document line target source) h = h
-settled_fault A B (Limit k) h = h
-settled_fault A B (ReadFault name) h = h
-settled_fault A B NoMemory h = h
+-- a fault is determined, or a read fault, or one of some table, whatever else would have been the answer
+pub determined_fault : (A B : Type 0) (fault : BindFault) → IsDetermined {A = A} (Err fault) → IsDetermined {A = B} (Err fault)
+determined_fault A B (Refused refusal) h = h
+determined_fault A B (CopyDiffers document line target source) h = h
+determined_fault A B (Limit k) h = h
+determined_fault A B (ReadFault name) h = h
+determined_fault A B NoMemory h = h
 
 pub same_read_fault : (A B : Type 0) (fault : BindFault) → IsReadFault {A = A} (Err fault) → IsReadFault {A = B} (Err fault)
 same_read_fault A B (Refused refusal) h = h

@@ -54,13 +54,13 @@ IsDue due (Ok x) = due ≡ Ok x
 IsDue due (Err fault) = due ≡ Err fault
 
 -- the outcome is one that the documents determine: no fault of the outside, and no want of memory
-abbrev pub IsSettled : {A : Type 0} → Result A BindFault → Type 0
-IsSettled (Ok made) = Unit {0}
-IsSettled (Err (Refused refusal)) = Unit {0}
-IsSettled (Err (CopyDiffers document line target source)) = Unit {0}
-IsSettled (Err (Limit k)) = Unit {0}
-IsSettled (Err (ReadFault name)) = ⊥
-IsSettled (Err NoMemory) = ⊥
+abbrev pub IsDetermined : {A : Type 0} → Result A BindFault → Type 0
+IsDetermined (Ok made) = Unit {0}
+IsDetermined (Err (Refused refusal)) = Unit {0}
+IsDetermined (Err (CopyDiffers document line target source)) = Unit {0}
+IsDetermined (Err (Limit k)) = Unit {0}
+IsDetermined (Err (ReadFault name)) = ⊥
+IsDetermined (Err NoMemory) = ⊥
 
 -- a table could not be read: the one of this name
 abbrev pub IsReadFaultOf : {A : Type 0} → Result A BindFault → List ℕ → Type 0

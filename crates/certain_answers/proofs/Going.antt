@@ -16,7 +16,7 @@ use Rattle.refutation_log.specs.declared.statement.Statement.{Statement}
 use Rattle.refutation_log.specs.declared.step.Step.{Step}
 use Rattle.spec_model.specs.Completion.{Rankings}
 use Rattle.spec_model.specs.Spec.{Spec}
-use Rattle.certain_answers.specs.Deciding.{AreSettled, IsProved, IsRefuted, IsSearchFor, IsSettled, StaysGone}
+use Rattle.certain_answers.specs.Deciding.{AreDecidedUpTo, IsDecided, IsProved, IsRefuted, IsSearchFor, StaysGone}
 use Rattle.certain_answers.proofs.Fronts.{at_push}
 
 -- what stands in a list stands there with more behind
@@ -101,27 +101,27 @@ refuted_at s query old new tuples place c tuple gone is are at refuted answer =
     (answers_later old new tuples gone are) ∙ at)
     (subst (λ (x : Spec). IsAnswerIn x.relations query tuple c) (sym later.spec) answer)
 
-settled_later : (old new : Search) (before after : Standing) (place step : ℕ) → HasGone old new
-    → StaysGone before after → IsSettled old before place step
-    → IsSettled new after place step
-settled_later old new before after place step gone stays (inl was) = inl (stays place was)
-settled_later old new before after place step gone stays (inr unit) = inr (proved_later old new place step gone unit)
+decided_later : (old new : Search) (before after : Standing) (place step : ℕ) → HasGone old new
+    → StaysGone before after → IsDecided old before place step
+    → IsDecided new after place step
+decided_later old new before after place step gone stays (inl was) = inl (stays place was)
+decided_later old new before after place step gone stays (inr unit) = inr (proved_later old new place step gone unit)
 
--- one candidate more is settled
-pub settled_more : (old new : Search) (before after : Standing) (count : ℕ) (steps more : List ℕ) (step : ℕ)
+-- one candidate more is decided
+pub decided_more : (old new : Search) (before after : Standing) (count : ℕ) (steps more : List ℕ) (step : ℕ)
     → HasGone old new → StaysGone before after
-    → AreSettled old before count steps → IsSettled new after count step → more ≡ steps ++ step ∷ []
-    → AreSettled new after (count + 1) more
-settled_more old new before after count steps more step gone stays are is push = record {
+    → AreDecidedUpTo old before count steps → IsDecided new after count step → more ≡ steps ++ step ∷ []
+    → AreDecidedUpTo new after (count + 1) more
+decided_more old new before after count steps more step gone stays are is push = record {
   as_many = ap length push ∙ length-append steps (step ∷ []) ∙ ap (λ n. n + 1) are.as_many;
   each = λ place unit here. pick place unit (at_push steps step place unit (ap (λ us. slice_get us place) (sym push) ∙ here));
 }
   where
     pick : (place unit : ℕ) → (slice_get steps place ≡ Some unit) ⊎ ((place ≡ length steps) × (step ≡ unit))
-        → IsSettled new after place unit
-    pick place unit (inl earlier) = settled_later old new before after place unit gone stays (are.each place unit earlier)
+        → IsDecided new after place unit
+    pick place unit (inl earlier) = decided_later old new before after place unit gone stays (are.each place unit earlier)
     pick place unit (inr last) =
-        subst (λ k. IsSettled new after k unit) (sym (last.0 ∙ are.as_many)) (subst (IsSettled new after count) last.1 is)
+        subst (λ k. IsDecided new after k unit) (sym (last.0 ∙ are.as_many)) (subst (IsDecided new after count) last.1 is)
 
 -- what the loop keeps that decides each candidate
 pub record AreKept (s : Spec) (query : Query) (old new : Search) (before after : Standing) (from left : ℕ)
@@ -130,4 +130,4 @@ pub record AreKept (s : Spec) (query : Query) (old new : Search) (before after :
   pub units : counted_steps new.log.steps + left ≡ counted_steps old.log.steps + from
   pub tuples : after.tuples ≡ before.tuples
   pub candidates : AreCandidates s query after
-  pub settled : AreSettled new after count steps
+  pub decided : AreDecidedUpTo new after count steps

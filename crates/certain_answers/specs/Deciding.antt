@@ -23,10 +23,10 @@ use Rattle.order_search.specs.Searches.{Search}
 use Rattle.order_search.specs.declared.outcome.Outcome.{Outcome}
 use Rattle.order_search.specs.declared.outcome.Outcome.TheVariants.{Model, Proved, Empty, Spent}
 use Rattle.ucq_answers.specs.Planned.{IndexedQuery}
-use Rattle.certain_answers.specs.declared.settling.Settled.{Settled}
-use Rattle.certain_answers.specs.declared.settling.Settled.TheVariants as settled
-use Rattle.certain_answers.specs.declared.settling.Step.{Step}
-use Rattle.certain_answers.specs.declared.settling.Step.TheVariants as step
+use Rattle.certain_answers.specs.declared.decisions.Decisions.{Decisions}
+use Rattle.certain_answers.specs.declared.decisions.Decisions.TheVariants as decisions
+use Rattle.certain_answers.specs.declared.decisions.Step.{Step}
+use Rattle.certain_answers.specs.declared.decisions.Step.TheVariants as step
 
 -- the relations of a disjunct's atoms
 abbrev pub relations_in : Disjunct → List RelId
@@ -85,18 +85,18 @@ IsEnd search left (Empty step) = slice_get (clauses_of search.log.steps) step �
 IsEnd search left Spent = (left ≡ 0) × IsOpenLog search.log.steps
 
 -- a candidate is gone, or the step is its unit
-abbrev pub IsSettled : Search → Standing → ℕ → ℕ → Type 0
-IsSettled search standing place step = (slice_get standing.gone place ≡ Some true) ⊎ IsProved search place step
+abbrev pub IsDecided : Search → Standing → ℕ → ℕ → Type 0
+IsDecided search standing place step = (slice_get standing.gone place ≡ Some true) ⊎ IsProved search place step
 
--- so many first candidates are settled, each by the step at its place
-pub record AreSettled (search : Search) (standing : Standing) (count : ℕ) (steps : List ℕ) : Type 0 where
+-- so many first candidates are decided, each by the step at its place
+pub record AreDecidedUpTo (search : Search) (standing : Standing) (count : ℕ) (steps : List ℕ) : Type 0 where
   pub as_many : length steps ≡ count
-  pub each : (place step : ℕ) → slice_get steps place ≡ Some step → IsSettled search standing place step
+  pub each : (place step : ℕ) → slice_get steps place ≡ Some step → IsDecided search standing place step
 
 -- what deciding all candidates came to, with so many units left
-abbrev pub TellsSettled : Search → Standing → ℕ → Settled → Type 0
-TellsSettled search standing left (settled.All steps) = AreSettled search standing (length standing.tuples) steps
-TellsSettled search standing left (settled.Ended outcome) = IsEnd search left outcome
+abbrev pub TellsDecisions : Search → Standing → ℕ → Decisions → Type 0
+TellsDecisions search standing left (decisions.All steps) = AreDecidedUpTo search standing (length standing.tuples) steps
+TellsDecisions search standing left (decisions.Ended outcome) = IsEnd search left outcome
 
 -- what is gone stays gone
 abbrev pub StaysGone : Standing → Standing → Type 0
@@ -104,7 +104,7 @@ StaysGone old new = (place : ℕ) → slice_get old.gone place ≡ Some true →
 
 -- what deciding the candidate at a place came to, with so many units left
 abbrev pub TellsStep : Search → Standing → ℕ → ℕ → Step → Type 0
-TellsStep search standing place left (step.Taken unit) = IsSettled search standing place unit
+TellsStep search standing place left (step.Taken unit) = IsDecided search standing place unit
 TellsStep search standing place left (step.Ended outcome) = IsEnd search left outcome
 
 -- ---- matches

@@ -3,8 +3,8 @@ ghost use Rattle.certain_answers.specs.Deciding.{IsSearchFor};
 ghost use Rattle.order_search.specs.Searches.{HasGone};
 ghost use Rattle.refutation_log.specs.Counted.{counted_steps};
 
-use crate::belied::answers_of;
 use crate::lists::bring_near;
+use crate::violated::answers_of;
 use answer_candidates::Candidates;
 use currency_base::NoMemory;
 use order_search::{Search, When};

@@ -8,7 +8,7 @@ ghost use Rattle.answer_laws.specs.Answered.{IsAnswerIn};
 ghost use Rattle.currency_base.specs.declared.value.Value.{Value};
 ghost use Rattle.certain_answers.specs.Deciding.{IsMatchAt, IsSearchFor, TellsAnswer};
 
-use crate::belied::bring_belied;
+use crate::violated::bring_violated;
 use crate::writable::is_writable;
 use answer_candidates::Candidates;
 use answer_laws::instances_exist;
@@ -24,7 +24,7 @@ use watch_solver::Budget;
 
 /// Decides whether the tuple at a place of the posed answers is an answer in every consistent completion. Where a model
 /// makes its statement false though it is an answer there, the axiom of a match of it is brought in, which takes a
-/// unit; so a model that is answered is one over which it is no answer. Those of other candidates that the model belies
+/// unit; so a model that is answered is one over which it is no answer. Those of other candidates that the model violates
 /// come in beside it. More than 4,294,967,294 values or entities of a match count as want of memory.
 pub fn decide_answer(
     alloc: Global,
@@ -42,7 +42,7 @@ pub fn decide_answer(
     requires place { place < length search.old.posed.answers }
     ensures gone { HasGone search.old search.new }
     ensures units { counted_steps search.new.log.steps + units.new ≡ counted_steps search.old.log.steps + units.old }
-    ensures told { IfOk result (TellsAnswer search.new place units.new) }
+    ensures outcome { IfOk result (TellsAnswer search.new place units.new) }
 {
     loop {
         match decided_once(alloc, spec, query, candidates, search, place, units, guides) {
@@ -70,13 +70,13 @@ fn decided_once(
     requires place { place < length search.old.posed.answers }
     ensures gone { HasGone search.old search.new }
     ensures units { counted_steps search.new.log.steps + units.new ≡ counted_steps search.old.log.steps + units.old }
-    ensures told { IfOk result (λ found. IfSome found (TellsAnswer search.new place units.new)) }
+    ensures outcome { IfOk result (λ found. IfSome found (TellsAnswer search.new place units.new)) }
     ensures taken { IfOk result (λ found. IfNone found (units.new < units.old)) }
 {
     search.is_search();
     let lit = search.answer(place);
     match search.decide(alloc, Some(lit), units, guides) {
-        Ok(Outcome::Model { truths, completion }) => belied(
+        Ok(Outcome::Model { truths, completion }) => checked_model(
             alloc, spec, query, candidates, search, place, truths, completion, units, guides,
         ),
         Ok(Outcome::Proved(step)) => Ok(Some(Outcome::Proved(step))),
@@ -88,7 +88,7 @@ fn decided_once(
 
 // What a model tells in which the statement of a tuple is false: that the tuple is no answer there, or that no unit is left for
 // the axiom of its match, which is else brought in.
-fn belied(
+fn checked_model(
     alloc: Global,
     spec: &Specification,
     query: &Query,
@@ -107,7 +107,7 @@ fn belied(
     requires counter { IsAnswerCounter search.old place truths completion }
     ensures gone { HasGone search.old search.new }
     ensures units { counted_steps search.new.log.steps + units.new ≡ counted_steps search.old.log.steps + units.old }
-    ensures told { IfOk result (λ found. IfSome found (TellsAnswer search.new place units.new)) }
+    ensures outcome { IfOk result (λ found. IfSome found (TellsAnswer search.new place units.new)) }
     ensures taken { IfOk result (λ found. IfNone found (units.new < units.old)) }
 {
     search.is_search();
@@ -136,7 +136,7 @@ fn belied(
     }
 }
 
-// Brings in the axiom of a match that a model belies, if a unit is left, and beside it those of other candidates that it belies.
+// Brings in the axiom of a match that a model violates, if a unit is left, and beside it those of other candidates.
 fn demanded(
     alloc: Global,
     spec: &Specification,
@@ -159,7 +159,7 @@ fn demanded(
     requires found { IsMatchAt search.old completion.now found.now place }
     ensures gone { HasGone search.old search.new }
     ensures units { counted_steps search.new.log.steps + units.new ≡ counted_steps search.old.log.steps + units.old }
-    ensures told { IfOk result (λ found. IfSome found (TellsAnswer search.new place units.new)) }
+    ensures outcome { IfOk result (λ found. IfSome found (TellsAnswer search.new place units.new)) }
     ensures taken { IfOk result (λ found. IfNone found (units.new < units.old)) }
 {
     if !is_writable(found) {
@@ -173,7 +173,7 @@ fn demanded(
         Ok(()) => {}
         Err(error) => return Err(error),
     }
-    match bring_belied(
+    match bring_violated(
         alloc, spec, query, candidates, search, place, truths, completion, guides,
     ) {
         Ok(()) => Ok(None),

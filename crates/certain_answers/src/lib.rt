@@ -2,15 +2,15 @@
 #![tactic(auto)]
 
 mod aiming;
-mod belied;
 mod deciding;
+mod decisions;
 mod lists;
 mod matches;
-mod settling;
 mod starting;
+mod violated;
 mod writable;
 
 pub use deciding::decide_answer;
+pub use decisions::{Decisions, decide_left, note};
 pub use matches::{MatchList, bring_matches, first_matches};
-pub use settling::{Settled, decide_left, note};
 pub use starting::{discard, relations_of, search_for};

@@ -2,8 +2,8 @@
 use Rattle.std.proofs.Common.{◌≡◌, ℕ, true, false, List, Result, Ok, Err, ap, arith, inl, inr, refl, subst, sym}
 use Rattle.answer_tables.proofs.Stages.{is_answers}
 use Rattle.certain_table.proofs.Replies.{of_inconsistent, of_table}
-use Rattle.certain_table.specs.Table.{IsCertainTableOf, IsCertainTableTold, IsCertainTabled, IsTableBare, IsTableOfCertain}
-use Rattle.certain_table.specs.Table.{IsTableShort, table_done, told_of}
+use Rattle.certain_table.specs.Table.{IsCertainTableOf, IsCertainTablePrinted, IsCertainTabled, IsTableBare, IsTableOfCertain}
+use Rattle.certain_table.specs.Table.{IsTableShort, table_done, verdict_done}
 use Rattle.command_stages.specs.Endings.{IsOfTable, ending_status}
 use Rattle.command_stages.specs.declared.done.Done.{Done}
 use Rattle.command_stages.specs.declared.done.Ending.{Ending}
@@ -21,8 +21,8 @@ use Rattle.report_verify.specs.Supported.{IsOneOf}
 use Rattle.spec_model.specs.Spec.{Spec}
 use Rattle.spec_model.specs.declared.question.Question.{Question}
 use Rattle.spec_model.specs.declared.question.Question.TheVariants as asked
-use Rattle.told_answers.proofs.Spent.{short}
-use Rattle.told_answers.specs.Answers.{IsAnswer, answer_text}
+use Rattle.answer_texts.proofs.Spent.{short}
+use Rattle.answer_texts.specs.Answers.{IsAnswer, answer_text}
 
 -- ---- what is told is what a report comes to
 
@@ -45,7 +45,7 @@ reported s q budget query d (inr h) = absurd (no h.2)
 
 -- it ends as a table does
 pub ends_as_table : (told : List (List ℕ × List ℕ)) (a : TableSaid) (text : List ℕ) (e : Ending)
-    → IsCertainTableTold told a text e → IsOfTable e
+    → IsCertainTablePrinted told a text e → IsOfTable e
 ends_as_table told a text e h =
     let r = reported h.spec h.question a.budget h.query (record { text = text; ending = e }) h.job in
     subst IsOfTable (sym (ap (λ (d : Done). d.ending) r.comes)) (of_table h.spec.relations h.query r.report r.report.verdict)
@@ -94,7 +94,7 @@ none_open e = by (ending_of_done e)
 module _ (s : Spec) (bound : Query) (budget : ℕ) (query : QueryTree) (text : List ℕ) (r : Report)
     (answer : IsAnswer s (asked.Answers bound) budget r) where
   certain_by : (v : Verdict) → r.verdict ≡ v
-      → ◌≡◌ {A = Done} (record { text = text; ending = ending.Tabled }) (told_of s.relations query r v)
+      → ◌≡◌ {A = Done} (record { text = text; ending = ending.Tabled }) (verdict_done s.relations query r v)
       → IsTableOfCertain s (asked.Answers bound) query text
   certain_by (verdict.Answers tuples) is e =
       let right = right_of s (asked.Answers bound) budget r (verdict.Answers tuples) is answer refl in
@@ -117,7 +117,7 @@ module _ (s : Spec) (bound : Query) (budget : ℕ) (query : QueryTree) (text : L
 
   -- the budget was spent
   undecided_by : (v : Verdict) → r.verdict ≡ v
-      → ◌≡◌ {A = Done} (record { text = text; ending = ending.Open }) (told_of s.relations query r v)
+      → ◌≡◌ {A = Done} (record { text = text; ending = ending.Open }) (verdict_done s.relations query r v)
       → (is_decided (kind_of r.verdict) ≡ false) × (text ≡ answer_text s.relations true r)
   undecided_by (verdict.Undecided n) is e = (ap (λ (w : Verdict). is_decided (kind_of w)) is, text_of_done e)
   undecided_by (verdict.Answers tuples) is e = absurd (tabled_open (sym e))
@@ -134,7 +134,7 @@ module _ (s : Spec) (bound : Query) (budget : ℕ) (query : QueryTree) (text : L
 
   -- there is no consistent completion
   inconsistent_by : (v : Verdict) → r.verdict ≡ v
-      → ◌≡◌ {A = Done} (record { text = text; ending = ending.Inconsistent }) (told_of s.relations query r v)
+      → ◌≡◌ {A = Done} (record { text = text; ending = ending.Inconsistent }) (verdict_done s.relations query r v)
       → r.verdict ≡ verdict.Inconsistent
   inconsistent_by verdict.Inconsistent is e = is
   inconsistent_by (verdict.Answers tuples) is e = absurd (tabled_none (sym e))
@@ -148,7 +148,7 @@ module _ (s : Spec) (bound : Query) (budget : ℕ) (query : QueryTree) (text : L
 -- ---- by the status
 
 module _ (told : List (List ℕ × List ℕ)) (a : TableSaid) (text : List ℕ) where
-  whole : (h : IsCertainTableTold told a text ending.Tabled) → IsTableOfCertain h.spec h.question h.query text
+  whole : (h : IsCertainTablePrinted told a text ending.Tabled) → IsTableOfCertain h.spec h.question h.query text
   whole h =
       let r = reported h.spec h.question a.budget h.query (record { text = text; ending = ending.Tabled }) h.job in
       let is = is_answers told a (IsCertainTableOf a.budget) h.spec h.question h.query h.is_read in
@@ -156,16 +156,16 @@ module _ (told : List (List ℕ × List ℕ)) (a : TableSaid) (text : List ℕ) 
       (certain_by h.spec is.0 a.budget h.query text r.report
       (subst (λ (q : Question). IsAnswer h.spec q a.budget r.report) is.1 r.answer) r.report.verdict refl r.comes)
 
-  pub tabled_told : (e : Ending) → ending_status e ≡ 0 → IsCertainTableTold told a text e → IsCertainTabled told a text
-  tabled_told ending.Tabled zero h = (h, whole h)
-  tabled_told ending.Told zero h = absurd (ends_as_table told a text ending.Told h)
-  tabled_told ending.Decided zero h = absurd (ends_as_table told a text ending.Decided h)
-  tabled_told ending.Denied zero h = absurd (ends_as_table told a text ending.Denied h)
-  tabled_told ending.Undecided zero h = absurd (ends_as_table told a text ending.Undecided h)
-  tabled_told ending.Inconsistent zero h = absurd (omega (arith, zero))
-  tabled_told ending.Open zero h = absurd (omega (arith, zero))
+  pub tabled_printed : (e : Ending) → ending_status e ≡ 0 → IsCertainTablePrinted told a text e → IsCertainTabled told a text
+  tabled_printed ending.Tabled zero h = (h, whole h)
+  tabled_printed ending.Printed zero h = absurd (ends_as_table told a text ending.Printed h)
+  tabled_printed ending.Decided zero h = absurd (ends_as_table told a text ending.Decided h)
+  tabled_printed ending.Denied zero h = absurd (ends_as_table told a text ending.Denied h)
+  tabled_printed ending.Undecided zero h = absurd (ends_as_table told a text ending.Undecided h)
+  tabled_printed ending.Inconsistent zero h = absurd (omega (arith, zero))
+  tabled_printed ending.Open zero h = absurd (omega (arith, zero))
 
-  left : (h : IsCertainTableTold told a text ending.Open) → IsTableShort told a text
+  left : (h : IsCertainTablePrinted told a text ending.Open) → IsTableShort told a text
   left h =
       let r = reported h.spec h.question a.budget h.query (record { text = text; ending = ending.Open }) h.job in
       let is = is_answers told a (IsCertainTableOf a.budget) h.spec h.question h.query h.is_read in
@@ -179,16 +179,16 @@ module _ (told : List (List ℕ × List ℕ)) (a : TableSaid) (text : List ℕ) 
         is_text = undecided.1;
       }
 
-  pub open_told : (e : Ending) → ending_status e ≡ 3 → IsCertainTableTold told a text e → IsTableShort told a text
-  open_told ending.Open three h = left h
-  open_told ending.Told three h = absurd (ends_as_table told a text ending.Told h)
-  open_told ending.Decided three h = absurd (ends_as_table told a text ending.Decided h)
-  open_told ending.Denied three h = absurd (ends_as_table told a text ending.Denied h)
-  open_told ending.Undecided three h = absurd (ends_as_table told a text ending.Undecided h)
-  open_told ending.Tabled three h = absurd (omega (arith, three))
-  open_told ending.Inconsistent three h = absurd (omega (arith, three))
+  pub open_printed : (e : Ending) → ending_status e ≡ 3 → IsCertainTablePrinted told a text e → IsTableShort told a text
+  open_printed ending.Open three h = left h
+  open_printed ending.Printed three h = absurd (ends_as_table told a text ending.Printed h)
+  open_printed ending.Decided three h = absurd (ends_as_table told a text ending.Decided h)
+  open_printed ending.Denied three h = absurd (ends_as_table told a text ending.Denied h)
+  open_printed ending.Undecided three h = absurd (ends_as_table told a text ending.Undecided h)
+  open_printed ending.Tabled three h = absurd (omega (arith, three))
+  open_printed ending.Inconsistent three h = absurd (omega (arith, three))
 
-  none : (h : IsCertainTableTold told a text ending.Inconsistent) → IsTableBare told a text
+  none : (h : IsCertainTablePrinted told a text ending.Inconsistent) → IsTableBare told a text
   none h =
       let r = reported h.spec h.question a.budget h.query (record { text = text; ending = ending.Inconsistent }) h.job in
       let is = is_answers told a (IsCertainTableOf a.budget) h.spec h.question h.query h.is_read in (
@@ -198,11 +198,11 @@ module _ (told : List (List ℕ × List ℕ)) (a : TableSaid) (text : List ℕ) 
             (subst (λ (q : Question). IsAnswer h.spec q a.budget r.report) is.1 r.answer) r.report.verdict refl r.comes),
       )
 
-  pub bare_told : (e : Ending) → ending_status e ≡ 10 → IsCertainTableTold told a text e → IsTableBare told a text
-  bare_told ending.Inconsistent ten h = none h
-  bare_told ending.Told ten h = absurd (ends_as_table told a text ending.Told h)
-  bare_told ending.Decided ten h = absurd (ends_as_table told a text ending.Decided h)
-  bare_told ending.Denied ten h = absurd (ends_as_table told a text ending.Denied h)
-  bare_told ending.Undecided ten h = absurd (ends_as_table told a text ending.Undecided h)
-  bare_told ending.Tabled ten h = absurd (omega (arith, ten))
-  bare_told ending.Open ten h = absurd (omega (arith, ten))
+  pub bare_printed : (e : Ending) → ending_status e ≡ 10 → IsCertainTablePrinted told a text e → IsTableBare told a text
+  bare_printed ending.Inconsistent ten h = none h
+  bare_printed ending.Printed ten h = absurd (ends_as_table told a text ending.Printed h)
+  bare_printed ending.Decided ten h = absurd (ends_as_table told a text ending.Decided h)
+  bare_printed ending.Denied ten h = absurd (ends_as_table told a text ending.Denied h)
+  bare_printed ending.Undecided ten h = absurd (ends_as_table told a text ending.Undecided h)
+  bare_printed ending.Tabled ten h = absurd (omega (arith, ten))
+  bare_printed ending.Open ten h = absurd (omega (arith, ten))

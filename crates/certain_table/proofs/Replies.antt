@@ -1,7 +1,7 @@
 -- Where the documents of `ask --csv` are read, a table is told, or what hinders it; and what is due is alike.
 use Rattle.std.proofs.Common.{◌≡◌, ◌∙◌, ℕ, true, List, Result, ap, inl, inr, refl, subst, sym}
 use Rattle.answer_tables.proofs.Stages.{OneQuestion, OneSpec, OneTree, table_like}
-use Rattle.certain_table.specs.Table.{ComesToTable, IsCertainTableDue, IsCertainTableOf, table_done, told_of}
+use Rattle.certain_table.specs.Table.{ComesToTable, IsCertainTableDue, IsCertainTableOf, table_done, verdict_done}
 use Rattle.command_stages.proofs.Outcomes.{IsLike, answer_or_limit, limit_or_answer, same_alike, tables_alike}
 use Rattle.command_stages.specs.Endings.{IsOfAnswers, IsOfTable, ending_status}
 use Rattle.command_stages.specs.Outcomes.{status_of}
@@ -22,12 +22,12 @@ use Rattle.spec_model.specs.Consistent.{IsSatisfiable}
 use Rattle.spec_model.specs.Spec.{Spec}
 use Rattle.spec_model.specs.declared.question.Question.{Question}
 use Rattle.spec_model.specs.declared.relation.Relation.{Relation}
-use Rattle.told_answers.specs.Answers.{IsAnswer}
+use Rattle.answer_texts.specs.Answers.{IsAnswer}
 
 -- ---- it ends as a table does
 
 pub of_table : (relations : List Relation) (query : QueryTree) (r : Report) (v : Verdict)
-    → IsOfTable (told_of relations query r v).ending
+    → IsOfTable (verdict_done relations query r v).ending
 of_table relations query r (verdict.Answers tuples) = tt
 of_table relations query r verdict.Inconsistent = tt
 of_table relations query r verdict.Consistent = tt
@@ -39,7 +39,7 @@ of_table relations query r (verdict.Undecided n) = tt
 
 -- and, where there is a consistent completion, as what looks for answers
 of_answers : (relations : List Relation) (query : QueryTree) (r : Report) (v : Verdict) → (v ≡ verdict.Inconsistent → ⊥)
-    → IsOfAnswers (told_of relations query r v).ending
+    → IsOfAnswers (verdict_done relations query r v).ending
 of_answers relations query r (verdict.Answers tuples) not = tt
 of_answers relations query r verdict.Inconsistent not = absurd (not refl)
 of_answers relations query r verdict.Consistent not = tt
@@ -86,7 +86,7 @@ certain_like trees specs questions told a =
 
 table_status : (s : Spec) (q : Question) (e : Ending) (status : ℕ) → IsOfTable e → status ≡ ending_status e
     → ComesToTable s q status
-table_status s q ending.Told status of is = absurd of
+table_status s q ending.Printed status of is = absurd of
 table_status s q ending.Decided status of is = absurd of
 table_status s q ending.Denied status of is = absurd of
 table_status s q ending.Undecided status of is = absurd of

@@ -24,7 +24,7 @@ use Rattle.spec_model.specs.Spec.{Spec}
 use Rattle.spec_model.specs.declared.question.Question.{Question}
 use Rattle.spec_model.specs.declared.question.Question.TheVariants as asked
 use Rattle.spec_model.specs.declared.relation.Relation.{Relation}
-use Rattle.told_answers.specs.Answers.{IsAnswer, IsShort, answer_text}
+use Rattle.answer_texts.specs.Answers.{IsAnswer, IsShort, answer_text}
 
 -- ---- the text
 
@@ -34,13 +34,13 @@ table_text query tuples = records_text (head_names query ∷ map tuple_fields tu
 
 -- what a verdict is told as: answers as a table; the brief text that there is no consistent completion; or the whole report where
 -- the budget is spent
-abbrev pub told_of : List Relation → QueryTree → Report → Verdict → Done
-told_of relations query r (verdict.Answers tuples) = record { text = table_text query tuples; ending = ending.Tabled }
-told_of relations query r verdict.Inconsistent = record { text = answer_text relations true r; ending = ending.Inconsistent }
-told_of relations query r other = record { text = answer_text relations true r; ending = ending.Open }
+abbrev pub verdict_done : List Relation → QueryTree → Report → Verdict → Done
+verdict_done relations query r (verdict.Answers tuples) = record { text = table_text query tuples; ending = ending.Tabled }
+verdict_done relations query r verdict.Inconsistent = record { text = answer_text relations true r; ending = ending.Inconsistent }
+verdict_done relations query r other = record { text = answer_text relations true r; ending = ending.Open }
 
 abbrev pub table_done : List Relation → QueryTree → Report → Done
-table_done relations query r = told_of relations query r r.verdict
+table_done relations query r = verdict_done relations query r r.verdict
 
 -- ---- what is due
 
@@ -57,7 +57,7 @@ IsCertainTableDue told a = IsTableDue told a (IsCertainTableOf a.budget)
 -- ---- what is told
 
 -- the documents are read as a specification and a question that asks a query, and this is told of it
-pub record IsCertainTableTold (told : List (List ℕ × List ℕ)) (a : TableSaid) (text : List ℕ) (ending : Ending) : Type 0 where
+pub record IsCertainTablePrinted (told : List (List ℕ × List ℕ)) (a : TableSaid) (text : List ℕ) (ending : Ending) : Type 0 where
   pub spec : Spec
   pub question : Question
   pub query : QueryTree
@@ -77,18 +77,18 @@ pub record IsTableOfCertain (s : Spec) (q : Question) (query : QueryTree) (text 
 
 -- such a table is told
 abbrev pub IsCertainTabled : List (List ℕ × List ℕ) → TableSaid → List ℕ → Type 0
-IsCertainTabled told a text = (t : IsCertainTableTold told a text ending.Tabled) × IsTableOfCertain t.spec t.question t.query text
+IsCertainTabled told a text = (t : IsCertainTablePrinted told a text ending.Tabled) × IsTableOfCertain t.spec t.question t.query text
 
 -- the budget was spent
 pub record IsTableShort (told : List (List ℕ × List ℕ)) (a : TableSaid) (text : List ℕ) : Type 0 where
-  pub table : IsCertainTableTold told a text ending.Open
+  pub table : IsCertainTablePrinted told a text ending.Open
   pub report : Report
   pub short : IsShort table.spec table.question a.budget report.verdict
   pub is_text : text ≡ answer_text table.spec.relations true report
 
 -- there is no consistent completion
 abbrev pub IsTableBare : List (List ℕ × List ℕ) → TableSaid → List ℕ → Type 0
-IsTableBare told a text = (t : IsCertainTableTold told a text ending.Inconsistent) × (IsSatisfiable t.spec → ⊥)
+IsTableBare told a text = (t : IsCertainTablePrinted told a text ending.Inconsistent) × (IsSatisfiable t.spec → ⊥)
 
 -- the status of a question that asks a query, both being read
 abbrev pub ComesToTable : Spec → Question → ℕ → Type 0

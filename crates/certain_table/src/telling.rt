@@ -4,9 +4,10 @@ ghost use Rattle.std.specs.Prelude.{◌≡◌, ◌∷◌, IfErr, IfOk, map, true
 ghost use Rattle.answer_tables.specs.Records.{head_names, tuple_fields};
 ghost use Rattle.certain_table.specs.Table.{table_done, table_text};
 ghost use Rattle.report_write.specs.Writable.{IsWritableReport};
-ghost use Rattle.told_answers.specs.Answers.{answer_text};
+ghost use Rattle.answer_texts.specs.Answers.{answer_text};
 
 use answer_tables::{head_record, tuple_record};
+use answer_texts::printed_report;
 use command_stages::{Done, Ending, Trouble};
 use currency_base::{ByteList, NoMemory, TupleList};
 use question_syntax::QueryTree;
@@ -14,29 +15,28 @@ use record_text::{RecordList, records_text};
 use report_model::{Report, Verdict};
 use spec_model::Specification;
 use std::alloc::Global;
-use told_answers::told_report;
 
 /// What a report on a query is told as.
-pub(crate) fn told_table(
+pub(crate) fn printed_table(
     alloc: Global,
     spec: &Specification,
     query: &QueryTree,
     report: &Report,
 ) -> Result<Done, Trouble>
     requires { IsWritableReport spec.now.relations report.now }
-    ensures told { IfOk result (λ done. done ≡ table_done spec.now.relations query.now report.now) }
+    ensures printed { IfOk result (λ done. done ≡ table_done spec.now.relations query.now report.now) }
     ensures memory { IfErr result (λ e. e ≡ Trouble.NoMemory) }
 {
     match &report.verdict {
-        Verdict::Answers(tuples) => told_tuples(alloc, query, tuples),
-        Verdict::Inconsistent => told_brief(alloc, spec, report, Ending::Inconsistent),
-        _ => told_brief(alloc, spec, report, Ending::Open),
+        Verdict::Answers(tuples) => printed_tuples(alloc, query, tuples),
+        Verdict::Inconsistent => printed_brief(alloc, spec, report, Ending::Inconsistent),
+        _ => printed_brief(alloc, spec, report, Ending::Open),
     }
 }
 
 /// The certain answers.
-fn told_tuples(alloc: Global, query: &QueryTree, tuples: &TupleList) -> Result<Done, Trouble>
-    ensures told { IfOk result (λ done. done ≡ record { text = table_text query.now tuples.now; ending = Ending.Tabled }) }
+fn printed_tuples(alloc: Global, query: &QueryTree, tuples: &TupleList) -> Result<Done, Trouble>
+    ensures printed { IfOk result (λ done. done ≡ record { text = table_text query.now tuples.now; ending = Ending.Tabled }) }
     ensures memory { IfErr result (λ e. e ≡ Trouble.NoMemory) }
 {
     match table_text(alloc, query, tuples) {
@@ -69,16 +69,16 @@ fn records(alloc: Global, query: &QueryTree, tuples: &TupleList) -> Result<Recor
 }
 
 /// That there is no consistent completion, or that the budget is spent.
-fn told_brief(
+fn printed_brief(
     alloc: Global,
     spec: &Specification,
     report: &Report,
     ending: Ending,
 ) -> Result<Done, Trouble>
     requires { IsWritableReport spec.now.relations report.now }
-    ensures told { IfOk result (λ done. done ≡ record { text = answer_text spec.now.relations true report.now; ending = ending }) }
+    ensures printed { IfOk result (λ done. done ≡ record { text = answer_text spec.now.relations true report.now; ending = ending }) }
     ensures memory { IfErr result (λ e. e ≡ Trouble.NoMemory) }
 {
-    let Done { text, .. } = told_report(alloc, spec, true, report)?;
+    let Done { text, .. } = printed_report(alloc, spec, true, report)?;
     Ok(Done { text, ending })
 }

@@ -77,7 +77,7 @@ empty_means_none s facts query log accepted empty satisfiable =
     let over : AreAnswersOver s.relations (posed_by query log) c every = record {
       instance = instance.0;
       is_current = instance.1;
-      told = λ q place tuple asked there answers. tt;
+      complete = λ q place tuple asked there answers. tt;
     } in
     let all = accepted_are_true every (λ place. inl tt) s facts c satisfiable.1 query log over accepted in
     let holds = All-contains (ClauseHolds s.relations c every log.statements) (clauses_of log.steps) [] all empty in

@@ -20,7 +20,7 @@ done_apart d e same = cc
 -- ---- alike
 
 end_alike : (e : Ending) → EndAlike e e
-end_alike ending.Told = refl
+end_alike ending.Printed = refl
 end_alike ending.Decided = tt
 end_alike ending.Denied = tt
 end_alike ending.Undecided = inl tt
@@ -40,7 +40,7 @@ is_of_question true = tt
 is_of_question false = tt
 
 questions_end_alike : (d e : Ending) → IsOfQuestion d → IsOfQuestion e → EndAlike d e
-questions_end_alike ending.Told e h k = absurd h
+questions_end_alike ending.Printed e h k = absurd h
 questions_end_alike ending.Decided e h k = k
 questions_end_alike ending.Denied e h k = absurd h
 questions_end_alike ending.Undecided e h k = inl k
@@ -49,7 +49,7 @@ questions_end_alike ending.Inconsistent e h k = absurd h
 questions_end_alike ending.Open e h k = absurd h
 
 tables_end_alike : (d e : Ending) → IsOfTable d → IsOfTable e → EndAlike d e
-tables_end_alike ending.Told e h k = absurd h
+tables_end_alike ending.Printed e h k = absurd h
 tables_end_alike ending.Decided e h k = absurd h
 tables_end_alike ending.Denied e h k = absurd h
 tables_end_alike ending.Undecided e h k = absurd h
@@ -75,7 +75,7 @@ tables_alike d e a b first second = done_alike d e a b (tables_end_alike d.endin
 
 -- a question looks for answers
 pub of_answers : (e : Ending) → IsOfQuestion e → IsOfAnswers e
-of_answers ending.Told h = h
+of_answers ending.Printed h = h
 of_answers ending.Decided h = h
 of_answers ending.Denied h = h
 of_answers ending.Undecided h = h

@@ -3,14 +3,14 @@ use Rattle.std.specs.Prelude.{◌≡◌, ◌⊎◌, Result, Ok, Err}
 use Rattle.command_stages.specs.Endings.{IsOfAnswers, IsOfDenial, IsOfQuestion, IsOfTable}
 use Rattle.command_stages.specs.declared.done.Done.{Done}
 use Rattle.command_stages.specs.declared.done.Ending.{Ending}
-use Rattle.command_stages.specs.declared.done.Ending.TheVariants.{Told, Decided, Denied, Undecided, Tabled, Inconsistent, Open}
+use Rattle.command_stages.specs.declared.done.Ending.TheVariants.{Printed, Decided, Denied, Undecided, Tabled, Inconsistent, Open}
 use Rattle.command_stages.specs.declared.trouble.Trouble.{Trouble}
 use Rattle.command_stages.specs.declared.trouble.Trouble.TheVariants.{Limit}
 
 -- both end as a text that there is just to tell, or both as a question, or both as a table; a question whose answer is no, and whose
 -- status tells that, does not end as one that is decided in another way
 abbrev pub EndAlike : Ending → Ending → Type 0
-EndAlike Told other = other ≡ Told
+EndAlike Printed other = other ≡ Printed
 EndAlike Decided other = IsOfQuestion other
 EndAlike Denied other = IsOfDenial other
 EndAlike Undecided other = IsOfQuestion other ⊎ IsOfDenial other

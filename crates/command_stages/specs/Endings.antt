@@ -2,11 +2,11 @@
 use Rattle.std.specs.Prelude.{ℕ, Bool, true, false, List}
 use Rattle.command_stages.specs.declared.done.Done.{Done}
 use Rattle.command_stages.specs.declared.done.Ending.{Ending}
-use Rattle.command_stages.specs.declared.done.Ending.TheVariants.{Told, Decided, Denied, Undecided, Tabled, Inconsistent, Open}
+use Rattle.command_stages.specs.declared.done.Ending.TheVariants.{Printed, Decided, Denied, Undecided, Tabled, Inconsistent, Open}
 
 -- the status, the text being written
 abbrev pub ending_status : Ending → ℕ
-ending_status Told = 0
+ending_status Printed = 0
 ending_status Decided = 0
 ending_status Denied = 1
 ending_status Undecided = 3
@@ -21,7 +21,7 @@ ending_of false = Undecided
 
 -- a question ends so, where the status tells no answer of no
 abbrev pub IsOfQuestion : Ending → Type 0
-IsOfQuestion Told = ⊥
+IsOfQuestion Printed = ⊥
 IsOfQuestion Decided = Unit {0}
 IsOfQuestion Denied = ⊥
 IsOfQuestion Undecided = Unit {0}
@@ -31,7 +31,7 @@ IsOfQuestion Open = ⊥
 
 -- a question whose answer is no ends so, where the status tells that
 abbrev pub IsOfDenial : Ending → Type 0
-IsOfDenial Told = ⊥
+IsOfDenial Printed = ⊥
 IsOfDenial Decided = ⊥
 IsOfDenial Denied = Unit {0}
 IsOfDenial Undecided = Unit {0}
@@ -41,7 +41,7 @@ IsOfDenial Open = ⊥
 
 -- a command that gives a table ends so
 abbrev pub IsOfTable : Ending → Type 0
-IsOfTable Told = ⊥
+IsOfTable Printed = ⊥
 IsOfTable Decided = ⊥
 IsOfTable Denied = ⊥
 IsOfTable Undecided = ⊥
@@ -51,7 +51,7 @@ IsOfTable Open = Unit {0}
 
 -- a command that looks for answers of a query ends so, where there is a consistent completion or none is known
 abbrev pub IsOfAnswers : Ending → Type 0
-IsOfAnswers Told = ⊥
+IsOfAnswers Printed = ⊥
 IsOfAnswers Decided = Unit {0}
 IsOfAnswers Denied = ⊥
 IsOfAnswers Undecided = Unit {0}
@@ -60,5 +60,5 @@ IsOfAnswers Inconsistent = ⊥
 IsOfAnswers Open = Unit {0}
 
 -- a text that there is just to tell
-abbrev pub told_text : List ℕ → Done
-told_text text = record { text = text; ending = Told }
+abbrev pub printed_text : List ℕ → Done
+printed_text text = record { text = text; ending = Printed }

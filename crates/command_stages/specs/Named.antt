@@ -4,19 +4,19 @@ use Rattle.command_stages.specs.declared.trouble.Trouble.{Trouble}
 use Rattle.command_stages.specs.declared.trouble.Trouble.TheVariants.{Words, Unshown, Refused, CopyDiffers, Limit, ReadFault, NoMemory}
 
 -- a trouble that the words and the documents determine: no fault of the outside, and no want of memory
-abbrev pub IsDetermined : Trouble → Type 0
-IsDetermined Words = Unit {0}
-IsDetermined (Unshown check document line) = Unit {0}
-IsDetermined (Refused code document line) = Unit {0}
-IsDetermined (CopyDiffers document line target source) = Unit {0}
-IsDetermined (Limit k) = Unit {0}
-IsDetermined (ReadFault document) = ⊥
-IsDetermined NoMemory = ⊥
+abbrev pub IsDeterminedTrouble : Trouble → Type 0
+IsDeterminedTrouble Words = Unit {0}
+IsDeterminedTrouble (Unshown check document line) = Unit {0}
+IsDeterminedTrouble (Refused code document line) = Unit {0}
+IsDeterminedTrouble (CopyDiffers document line target source) = Unit {0}
+IsDeterminedTrouble (Limit k) = Unit {0}
+IsDeterminedTrouble (ReadFault document) = ⊥
+IsDeterminedTrouble NoMemory = ⊥
 
 -- an outcome that the words and the documents determine
-abbrev pub IsSettled : {A : Type 0} → Result A Trouble → Type 0
-IsSettled (Ok a) = Unit {0}
-IsSettled (Err e) = IsDetermined e
+abbrev pub IsDetermined : {A : Type 0} → Result A Trouble → Type 0
+IsDetermined (Ok a) = Unit {0}
+IsDetermined (Err e) = IsDeterminedTrouble e
 
 -- the trouble is that the document of this name could not be read
 abbrev pub IsUnread : Trouble → List ℕ → Type 0

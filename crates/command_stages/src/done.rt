@@ -7,7 +7,7 @@ use currency_base::ByteList;
 #[derive(Clone, Copy)]
 pub enum Ending {
     /// There is just this to tell.
-    Told,
+    Printed,
     /// A question is decided, or all that were asked are.
     Decided,
     /// A question is decided, the answer is no, and the status is to tell that.
@@ -28,7 +28,7 @@ impl Ending {
         ensures { result ≡ ending_status self }
     {
         match self {
-            Ending::Told => 0,
+            Ending::Printed => 0,
             Ending::Decided => 0,
             Ending::Denied => 1,
             Ending::Undecided => 3,

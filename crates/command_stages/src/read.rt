@@ -1,7 +1,7 @@
 ghost use Rattle.std.specs.Prelude.{◌≡◌, ◌≢◌, ℕ, List, ◌≤◌, ◌<◌, IfOk, IfSome, IfErr, length, vec_len};
 ghost use Rattle.currency_edge.specs.Fault.{Rose};
 ghost use Rattle.currency_edge.specs.Shelf.{document};
-ghost use Rattle.command_stages.specs.Named.{IsDetermined, IsSettled, IsReadFault, IsReadFaultOf, IsUnread};
+ghost use Rattle.command_stages.specs.Named.{IsDeterminedTrouble, IsDetermined, IsReadFault, IsReadFaultOf, IsUnread};
 
 use crate::Trouble;
 use currency_base::Name;
@@ -13,7 +13,7 @@ pub const TEXT_BOUND: usize = 16_777_216;
 
 // The trouble that names a document which could not be read.
 fn read_fault(alloc: Global, name: &str) -> Trouble
-    ensures outside { IsDetermined result → ⊥ }
+    ensures outside { IsDeterminedTrouble result → ⊥ }
     ensures named { (n : List ℕ) → IsUnread result n → n ≡ name.now }
     ensures not_words { result ≢ Trouble.Words }
 {
@@ -34,8 +34,8 @@ pub fn read_bytes<S: Shelf>(
     ensures later { S.faults shelf.old ≤ S.faults shelf.new }
     ensures whole { IfOk result (λ bytes. IfSome (S.texts shelf.old) (λ told. bytes.items ≡ document told name.now)) }
     ensures within { IfOk result (λ bytes. vec_len bytes ≤ at_most) }
-    ensures long { IfErr result (λ e. IsDetermined e → (e ≡ Trouble.Limit 1)) }
-    ensures longer { IfErr result (λ e. IsDetermined e → IfSome (S.texts shelf.old)
+    ensures long { IfErr result (λ e. IsDeterminedTrouble e → (e ≡ Trouble.Limit 1)) }
+    ensures longer { IfErr result (λ e. IsDeterminedTrouble e → IfSome (S.texts shelf.old)
         (λ told. at_most < length (document told name.now))) }
     ensures read_fault { IsReadFault result → Rose (S.faults shelf.old) (S.faults shelf.new) }
     ensures named { (n : List ℕ) → IsReadFaultOf result n → n ≡ name.now }

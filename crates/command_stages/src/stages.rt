@@ -7,7 +7,7 @@ ghost use Rattle.bound_spec.specs.Growth.{IsWithinLimits};
 ghost use Rattle.command_stages.specs.Stages.{IsSpecTree, IsSpecSaid, IsSpecRead, IsQuestionTree, IsQuestionSaid, IsQuestionRead};
 ghost use Rattle.command_stages.specs.Trees.{spec_result, IsTreeOf, question_result, IsQuestionTreeOf};
 ghost use Rattle.command_stages.specs.Documents.{IsSaidTableDue, IsSpecDocumentDue, IsQuestionSaidTableDue, IsQuestionDocumentDue};
-ghost use Rattle.command_stages.specs.Named.{IsSettled, IsReadFault, IsReadFaultOf};
+ghost use Rattle.command_stages.specs.Named.{IsDetermined, IsReadFault, IsReadFaultOf};
 
 use crate::read::{TEXT_BOUND, read_bytes};
 use crate::troubles::{of_binding, of_text};
@@ -22,7 +22,7 @@ use std::alloc::Global;
 
 // The tree of a specification's text.
 fn spec_tree(alloc: Global, name: &str, bytes: &[u8]) -> Result<SpecTree, Trouble>
-    ensures tree { IsSettled result → IsSpecTree name.now bytes.now result }
+    ensures tree { IsDetermined result → IsSpecTree name.now bytes.now result }
     ensures inside { IsReadFault result → ⊥ }
     ensures not_words { IfErr result (λ e. e ≢ Trouble.Words) }
 {
@@ -41,7 +41,7 @@ fn spec_said<S: Shelf>(
 ) -> Result<ReadSpec, Trouble>
     ensures kept { S.texts shelf.new ≡ S.texts shelf.old }
     ensures later { S.faults shelf.old ≤ S.faults shelf.new }
-    ensures said { IsSettled result → IfSome (S.texts shelf.old)
+    ensures said { IsDetermined result → IfSome (S.texts shelf.old)
         (λ told. IsSpecSaid told name.now bytes.now (spec_result result)) }
     ensures tree { IfOk result (λ read. IsSpecTree name.now bytes.now (Ok read.tree)) }
     ensures bound { IfOk result (λ read. IfSome (S.texts shelf.old) (λ told. IsBound told read.tree (Ok read.spec))) }
@@ -69,7 +69,7 @@ pub fn read_with_tree<S: Shelf>(
 ) -> Result<ReadSpec, Trouble>
     ensures kept { S.texts shelf.new ≡ S.texts shelf.old }
     ensures later { S.faults shelf.old ≤ S.faults shelf.new }
-    ensures stage { IsSettled result → IfSome (S.texts shelf.old) (λ told. IsSpecRead told name.now (spec_result result)) }
+    ensures stage { IsDetermined result → IfSome (S.texts shelf.old) (λ told. IsSpecRead told name.now (spec_result result)) }
     ensures tree { IfOk result (λ read. IfSome (S.texts shelf.old) (λ told. IsTreeOf told name.now read.tree read.spec)) }
     ensures read_fault { IsReadFault result → Rose (S.faults shelf.old) (S.faults shelf.new) }
     ensures unread { (n : List ℕ) → IsReadFaultOf result n
@@ -89,7 +89,7 @@ pub fn read_specification<S: Shelf>(
 ) -> Result<Specification, Trouble>
     ensures kept { S.texts shelf.new ≡ S.texts shelf.old }
     ensures later { S.faults shelf.old ≤ S.faults shelf.new }
-    ensures stage { IsSettled result → IfSome (S.texts shelf.old) (λ told. IsSpecRead told name.now result) }
+    ensures stage { IsDetermined result → IfSome (S.texts shelf.old) (λ told. IsSpecRead told name.now result) }
     ensures read_fault { IsReadFault result → Rose (S.faults shelf.old) (S.faults shelf.new) }
     ensures unread { (n : List ℕ) → IsReadFaultOf result n
         → IfSome (S.texts shelf.old) (λ told. IsSpecDocumentDue told name.now n) }
@@ -102,7 +102,7 @@ pub fn read_specification<S: Shelf>(
 
 // The tree of a question's text.
 fn question_tree(alloc: Global, name: &str, bytes: &[u8]) -> Result<QuestionTree, Trouble>
-    ensures tree { IsSettled result → IsQuestionTree name.now bytes.now result }
+    ensures tree { IsDetermined result → IsQuestionTree name.now bytes.now result }
     ensures inside { IsReadFault result → ⊥ }
     ensures not_words { IfErr result (λ e. e ≢ Trouble.Words) }
 {
@@ -122,7 +122,7 @@ fn question_said<S: Shelf>(
 ) -> Result<ReadQuestion, Trouble>
     ensures kept { S.texts shelf.new ≡ S.texts shelf.old }
     ensures later { S.faults shelf.old ≤ S.faults shelf.new }
-    ensures said { IsSettled result → IfSome (S.texts shelf.old)
+    ensures said { IsDetermined result → IfSome (S.texts shelf.old)
         (λ told. IsQuestionSaid told spec.now.relations name.now bytes.now (question_result result)) }
     ensures tree { IfOk result (λ read. IsQuestionTree name.now bytes.now (Ok read.tree)) }
     ensures bound { IfOk result (λ read. IfSome (S.texts shelf.old)
@@ -153,7 +153,7 @@ pub fn read_question_with_tree<S: Shelf>(
 ) -> Result<ReadQuestion, Trouble>
     ensures kept { S.texts shelf.new ≡ S.texts shelf.old }
     ensures later { S.faults shelf.old ≤ S.faults shelf.new }
-    ensures stage { IsSettled result → IfSome (S.texts shelf.old)
+    ensures stage { IsDetermined result → IfSome (S.texts shelf.old)
         (λ told. IsQuestionRead told spec.now.relations name.now (question_result result)) }
     ensures tree { IfOk result (λ read. IfSome (S.texts shelf.old)
         (λ told. IsQuestionTreeOf told spec.now.relations name.now read.tree read.question)) }
@@ -177,7 +177,7 @@ pub fn read_the_question<S: Shelf>(
 ) -> Result<Question, Trouble>
     ensures kept { S.texts shelf.new ≡ S.texts shelf.old }
     ensures later { S.faults shelf.old ≤ S.faults shelf.new }
-    ensures stage { IsSettled result → IfSome (S.texts shelf.old)
+    ensures stage { IsDetermined result → IfSome (S.texts shelf.old)
         (λ told. IsQuestionRead told spec.now.relations name.now result) }
     ensures fits { IfOk result (IsQuestionOn spec.now.relations) }
     ensures read_fault { IsReadFault result → Rose (S.faults shelf.old) (S.faults shelf.new) }

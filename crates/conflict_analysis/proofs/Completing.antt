@@ -4,7 +4,7 @@ use Rattle.std.proofs.lemmas.List.Elements.{Contains-get_or}
 use Rattle.currency_base.specs.Lists.{OnlyOnce}
 use Rattle.search_trail.specs.Trails.{Entry}
 use Rattle.clause_arena.specs.Arenas.{Arena}
-use Rattle.conflict_analysis.specs.Steps.{AreMet, ClosesAll, Completes, Fate, HasSeen, IsEnded, IsSeen, Settles, Sorts, State}
+use Rattle.conflict_analysis.specs.Steps.{AreMet, ClosesAll, Completes, Fate, HasSeen, IsEnded, IsSeen, Minimizes, Sorts, State}
 use Rattle.conflict_analysis.specs.Steps.Fate.{is_kept, is_resolved, is_leaf, waits}
 
 module _ (a : Arena) (es : List Entry) (base level at : ℕ) where
@@ -46,7 +46,7 @@ module _ (a : Arena) (es : List Entry) (base level at : ℕ) where
       fate q (is_leaf h) = is_leaf (subst (λ ps. Contains ps q) (sym x.leaves) h)
       fate q (waits h g) = waits h g
 
-  pub completes : (old mid closed new : State) → Settles a es base level old mid → mid.kept ≡ []
+  pub completes : (old mid closed new : State) → Minimizes a es base level old mid → mid.kept ≡ []
       → ClosesAll a es base level at mid closed → Sorts closed new
       → Completes a es base level at old new
   completes old mid closed new s none c x =

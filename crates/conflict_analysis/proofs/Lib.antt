@@ -5,7 +5,7 @@ pub mod Meeting
 pub mod Entries
 pub mod Literals
 pub mod Passing
-pub mod Settling
+pub mod Minimizing
 pub mod Closing
 pub mod Sorting
 pub mod Completing

@@ -200,7 +200,7 @@ pub record Walks (a : Arena) (entries : List Entry) (base level : ℕ) (old new 
   pub met : AreMet a entries base level (new.low + 1) new
 
 -- each place that was kept is resolved or in the clause
-pub record Settles (a : Arena) (entries : List Entry) (base level : ℕ) (old new : State) : Type 0 where
+pub record Minimizes (a : Arena) (entries : List Entry) (base level : ℕ) (old new : State) : Type 0 where
   pub seen : new.seen ≡ old.seen
   pub low : new.low ≡ old.low
   pub met : (at : ℕ) → AreMet a entries base level at old → AreMet a entries base level at new

@@ -1,6 +1,7 @@
 ghost use Rattle.std.specs.Prelude.{◌≡◌, ◌≤◌, ◌<◌, ◌+◌, All, Contains, List, [], Some, OnOk, ℕ, true, length};
 ghost use Rattle.watch_propagate.specs.WatchRule.{AreReasons};
-ghost use Rattle.conflict_analysis.specs.Steps.{AreMet, AreReasoned, AreSeen, Closes, ClosesAll, Completes, HasSeen, IsAssigned, IsReasoned, MeetsReason, Passes, PopsKept, Settles, State, Walks};
+ghost use Rattle.conflict_analysis.specs.Steps.{AreMet, AreReasoned, AreSeen, Closes, ClosesAll, Completes, HasSeen, IsAssigned};
+ghost use Rattle.conflict_analysis.specs.Steps.{IsReasoned, MeetsReason, Minimizes, Passes, PopsKept, State, Walks};
 
 use crate::clauses::{all_met, meet_all};
 use crate::reasons::reason_at;
@@ -100,7 +101,7 @@ fn is_implied(found: &Resolution, arena: &Arena, trail: &Trail, base: u32, place
 }
 
 // Resolves the literal at a place that was kept, where the others imply it; else its negation goes into the clause.
-fn settle(
+fn minimize_at(
     found: &mut Resolution,
     arena: &Arena,
     trail: &Trail,
@@ -113,7 +114,7 @@ fn settle(
     ensures long { length found.new.seen ≡ length found.old.seen }
     ensures kept { OnOk result (found.new.kept ≡ found.old.kept) }
     ensures ok { OnOk result ((before : State) → PopsKept before found.old (Some place)
-        → Settles arena.now trail.now.entries bounds.base bounds.level before found.new) }
+        → Minimizes arena.now trail.now.entries bounds.base bounds.level before found.new) }
 {
     if is_implied(found, arena, trail, bounds.base, place) {
         found.resolve(place)
@@ -123,7 +124,7 @@ fn settle(
 }
 
 /// Resolves the kept literals that the others imply. The negations of those that are left go into the clause.
-pub(crate) fn settle_all(
+pub(crate) fn minimize(
     found: &mut Resolution,
     arena: &Arena,
     trail: &Trail,
@@ -134,10 +135,10 @@ pub(crate) fn settle_all(
     requires kept { All (λ place. place < length trail.now.entries) found.old.kept }
     ensures long { length found.new.seen ≡ length found.old.seen }
     ensures kept { OnOk result (found.new.kept ≡ []) }
-    ensures ok { OnOk result (Settles arena.now trail.now.entries bounds.base bounds.level found.old found.new) }
+    ensures ok { OnOk result (Minimizes arena.now trail.now.entries bounds.base bounds.level found.old found.new) }
 {
     while let Some(place) = found.pop_kept() {
-        match settle(found, arena, trail, bounds, place) {
+        match minimize_at(found, arena, trail, bounds, place) {
             Ok(()) => {}
             Err(error) => return Err(error),
         }
@@ -214,7 +215,7 @@ pub(crate) fn complete(
     ensures long { length found.new.seen ≡ length found.old.seen }
     ensures ok { OnOk result (Completes arena.now trail.now.entries bounds.base bounds.level at found.old found.new) }
 {
-    match settle_all(found, arena, trail, bounds) {
+    match minimize(found, arena, trail, bounds) {
         Ok(()) => {}
         Err(error) => return Err(error),
     }

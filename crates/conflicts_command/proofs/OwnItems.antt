@@ -13,7 +13,7 @@ use Rattle.part_conflicts.specs.declared.found.Found.TheVariants as found
 use Rattle.spec_items.specs.Items.{items_of}
 use Rattle.spec_items.specs.declared.item.Item.{Item}
 use Rattle.spec_model.specs.Spec.{Spec}
-use Rattle.conflicts_command.specs.Listed.{AreListedIn, CanBeTold, IsListed}
+use Rattle.conflicts_command.specs.Listed.{AreListedIn, IsListed, IsWritableFound}
 
 contains_at : {A : Type 0} (xs : List A) (i : ℕ) (x : A) → slice_get xs i ≡ Some x → Contains xs x
 contains_at xs i x at = (i, slice_get_within xs i x at, get_or_from_slice_get xs i x x at)
@@ -53,10 +53,10 @@ all_listed s t bound list are k d inside =
     (slice_get-get_or list k d inside) in
     listed_in (get_or list k d).part (get_or list k d).needed is.explained
 
-pub can_be_told : (s : Spec) (budget : ℕ) (f : Found) → AreConflicts s budget f → CanBeTold f
-can_be_told s budget (found.All list) is = all_listed s is.0 is.0.count list is.2
-can_be_told s budget (found.Undecided part report) is = is.2.spent.writable
-can_be_told s budget (found.Open part spent) is = (
+pub is_writable : (s : Spec) (budget : ℕ) (f : Found) → AreConflicts s budget f → IsWritableFound f
+is_writable s budget (found.All list) is = all_listed s is.0 is.0.count list is.2
+is_writable s budget (found.Undecided part report) is = is.2.spent.writable
+is_writable s budget (found.Open part spent) is = (
   own_items (items_of part) spent.items is.2.spent_on.in_order,
   is.2.spent_on.spent.writable,
 )

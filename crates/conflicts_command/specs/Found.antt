@@ -25,7 +25,7 @@ IsConflictsDue told c = Then (IsSpecRead told c.spec) (λ s. IsConflictsFound s 
 
 -- the document is read as a specification, and this is the text of what is found of its smallest parts, and how that
 -- ends
-pub record AreConflictsTold (told : List (List ℕ × List ℕ)) (c : ConflictsSaid) (text : List ℕ) (ending : Ending)
+pub record AreConflictsPrinted (told : List (List ℕ × List ℕ)) (c : ConflictsSaid) (text : List ℕ) (ending : Ending)
     : Type 0 where
   pub spec : Spec
   pub spec_read : IsSpecRead told c.spec (Ok spec)

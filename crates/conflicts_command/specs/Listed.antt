@@ -17,8 +17,8 @@ abbrev pub IsListed : Conflict → Type 0
 IsListed c = AreListedIn c.part c.needed
 
 -- items are those of their part, and a report can be written on its relations
-abbrev pub CanBeTold : Found → Type 0
-CanBeTold (found.All list) = All IsListed list
-CanBeTold (found.Undecided part report) = IsWritableReport part.relations report
-CanBeTold (found.Open part spent) =
+abbrev pub IsWritableFound : Found → Type 0
+IsWritableFound (found.All list) = All IsListed list
+IsWritableFound (found.Undecided part report) = IsWritableReport part.relations report
+IsWritableFound (found.Open part spent) =
     All (Contains (items_of part)) spent.items × IsWritableReport spent.part.relations spent.report

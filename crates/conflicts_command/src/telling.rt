@@ -1,7 +1,7 @@
 ghost use Rattle.std.specs.Prelude.{◌≡◌, All, Contains, IfErr, IfOk};
 ghost use Rattle.report_write.specs.Writable.{IsWritableReport};
 ghost use Rattle.spec_items.specs.Items.{items_of};
-ghost use Rattle.conflicts_command.specs.Listed.{CanBeTold, IsListed};
+ghost use Rattle.conflicts_command.specs.Listed.{IsListed, IsWritableFound};
 ghost use Rattle.conflicts_command.specs.Text.{conflicts_done, conflicts_ending, conflicts_text, listed_text};
 ghost use Rattle.conflicts_command.specs.Text.{stopped_text};
 
@@ -17,9 +17,9 @@ use std::alloc::Global;
 use text_write::TextWriter;
 
 /// What is told of what is found of the smallest parts.
-pub(crate) fn told_found(alloc: Global, found: &Found) -> Result<Done, Trouble>
-    requires { CanBeTold found.now }
-    ensures told { IfOk result (λ done. done ≡ conflicts_done found.now) }
+pub(crate) fn printed_found(alloc: Global, found: &Found) -> Result<Done, Trouble>
+    requires { IsWritableFound found.now }
+    ensures printed { IfOk result (λ done. done ≡ conflicts_done found.now) }
     ensures memory { IfErr result (λ e. e ≡ Trouble.NoMemory) }
 {
     match found_text(alloc, found) {
@@ -44,7 +44,7 @@ fn ending_of(found: &Found) -> Ending
 
 // The text of what is found.
 fn found_text(alloc: Global, found: &Found) -> Result<ByteList, NoMemory>
-    requires { CanBeTold found.now }
+    requires { IsWritableFound found.now }
     ensures { IfOk result (λ text. text ≡ conflicts_text found.now) }
 {
     match found {

@@ -4,8 +4,8 @@ use Rattle.std.specs.Prelude.{if◌then◌else◌, slice_get}
 use Rattle.std.proofs.lemmas.Bool.{and_parts}
 use Rattle.std.proofs.lemmas.List.Elements.{All-cons, All-nil}
 use Rattle.currency_base.specs.declared.error_code.ErrorCode.TheVariants.{UnknownName}
-use Rattle.currency_base.specs.declared.value.Kind.{Kind}
-use Rattle.currency_base.specs.declared.value.Kind.TheVariants.{Text, Int}
+use Rattle.currency_base.specs.declared.value.ValueKind.{ValueKind}
+use Rattle.currency_base.specs.declared.value.ValueKind.TheVariants.{Text, Int}
 use Rattle.text_grammar.specs.declared.named.Named.{Named}
 use Rattle.copy_syntax.specs.declared.trees.CopyTree.{CopyTree}
 use Rattle.copy_functions.specs.declared.place.Place.{Place}
@@ -57,7 +57,7 @@ side_is relations name attrs side is = found_is relations name attrs
     (place_of (map (λ (r : Relation). r.name) relations) name.name) side is
 
 -- a kind that two attributes have
-one_kind : (a b : Option Kind) → same_kind a b ≡ true → (kind : Kind) × (a ≡ Some kind) × (b ≡ Some kind)
+one_kind : (a b : Option ValueKind) → same_kind a b ≡ true → (kind : ValueKind) × (a ≡ Some kind) × (b ≡ Some kind)
 one_kind None b is = absurd (cc)
 one_kind (Some Text) None is = absurd (cc)
 one_kind (Some Text) (Some Text) is = (Text, refl, refl)

@@ -7,7 +7,7 @@ use Rattle.currency_base.specs.declared.ids.RowId.{RowId}
 use Rattle.currency_base.specs.declared.row.Row.{Row}
 use Rattle.currency_base.specs.declared.value.Value.{Value}
 use Rattle.currency_base.specs.declared.value.Value.TheVariants.{Text}
-use Rattle.currency_csv.specs.Told.{told}
+use Rattle.currency_csv.specs.Capped.{capped}
 use Rattle.text_grammar.specs.declared.named.Named.{Named}
 use Rattle.text_grammar.specs.declared.named.NamedPair.{NamedPair}
 use Rattle.bind_faults.specs.Faults.{refused_of, found_or, and_then, unless, all_of}
@@ -104,4 +104,4 @@ pair_in number tuple = record {
 -- the same for each tuple, where the first is that of the record of this number
 abbrev pub pairs_from : ℕ → List (List Value) → List NamedPair
 pairs_from number [] = []
-pairs_from number (tuple ∷ tuples) = pair_in number tuple ∷ pairs_from (told (number + 1)) tuples
+pairs_from number (tuple ∷ tuples) = pair_in number tuple ∷ pairs_from (capped (number + 1)) tuples

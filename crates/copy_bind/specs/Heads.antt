@@ -4,8 +4,8 @@ use Rattle.std.specs.Prelude.{ℕ, ◌==◌, ◌&&◌, Bool, true, false, List, 
 use Rattle.std.specs.List.{list_all, zip}
 use Rattle.currency_base.specs.declared.error_code.ErrorCode.TheVariants.{UnknownName, DuplicateName, Mismatch}
 use Rattle.currency_base.specs.declared.ids.AttrId.{AttrId}
-use Rattle.currency_base.specs.declared.value.Kind.{Kind}
-use Rattle.currency_base.specs.declared.value.Kind.TheVariants.{Text, Int}
+use Rattle.currency_base.specs.declared.value.ValueKind.{ValueKind}
+use Rattle.currency_base.specs.declared.value.ValueKind.TheVariants.{Text, Int}
 use Rattle.text_grammar.specs.declared.named.Named.{Named}
 use Rattle.copy_syntax.specs.declared.trees.CopyTree.{CopyTree}
 use Rattle.copy_functions.specs.declared.place.Place.{Place}
@@ -69,11 +69,11 @@ abbrev pub places_of : List AttrId → List AttrId → List Place
 places_of targets sources = map (λ p. record { target = p.0; source = p.1 }) (zip targets sources)
 
 -- the kind of an attribute, where it is there
-abbrev pub kind_at : Relation → AttrId → Option Kind
+abbrev pub kind_at : Relation → AttrId → Option ValueKind
 kind_at r attr = slice_get (kinds_of r) attr.0
 
 -- two kinds that are one
-abbrev pub same_kind : Option Kind → Option Kind → Bool
+abbrev pub same_kind : Option ValueKind → Option ValueKind → Bool
 same_kind (Some Text) (Some Text) = true
 same_kind (Some Int) (Some Int) = true
 same_kind a b = false

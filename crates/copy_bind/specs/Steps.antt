@@ -1,7 +1,7 @@
 -- What the parts of binding a copy leave: the words of private contracts.
 use Rattle.std.specs.Prelude.{◌≡◌, ◌<◌, ℕ, List, [], ◌∷◌, length, map}
 use Rattle.currency_base.specs.Values.{kind_of}
-use Rattle.currency_base.specs.declared.value.Kind.TheVariants.{Text}
+use Rattle.currency_base.specs.declared.value.ValueKind.TheVariants.{Text}
 use Rattle.currency_base.specs.declared.value.Value.{Value}
 use Rattle.copy_functions.specs.Copies.{CopyFunction, IsCopied}
 use Rattle.spec_model.specs.declared.relation.Relation.{Relation}

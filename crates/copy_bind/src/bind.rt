@@ -1,6 +1,6 @@
 ghost use Rattle.std.specs.Prelude.{◌≡◌, ◌≤◌, ℕ, List, All, Contains, IfOk, IfSome, map, option_map};
 ghost use Rattle.currency_edge.specs.Fault.{Rose};
-ghost use Rattle.bind_faults.specs.Faults.{IsDue, IsReadFault, IsReadFaultOf, IsSettled};
+ghost use Rattle.bind_faults.specs.Faults.{IsDetermined, IsDue, IsReadFault, IsReadFaultOf};
 ghost use Rattle.spec_model.specs.Facts.{IsCopyAmong, IsPlaceBetween};
 ghost use Rattle.spec_names.specs.Names.{all_names_of};
 ghost use Rattle.copy_bind.specs.Copied.{copied};
@@ -34,7 +34,7 @@ pub fn bind_copy<S: Shelf>(
     requires { names.now ≡ all_names_of spec.now }
     ensures kept { S.texts shelf.new ≡ S.texts shelf.old }
     ensures later { S.faults shelf.old ≤ S.faults shelf.new }
-    ensures made { IsSettled result → IfSome (S.texts shelf.old) (λ told. IsCopyMade told spec.now tree.now result) }
+    ensures made { IsDetermined result → IfSome (S.texts shelf.old) (λ told. IsCopyMade told spec.now tree.now result) }
     ensures fits { IfOk result (IsCopyAmong spec.now.relations) }
     ensures fresh { IfOk result (λ copy. Contains (map (λ c. c.name) spec.now.copies) copy.name → ⊥) }
     ensures read_fault { IsReadFault result → Rose (S.faults shelf.old) (S.faults shelf.new) }
@@ -56,7 +56,7 @@ fn mapped<S: Shelf>(
     requires { All (IsPlaceBetween head.target.relation head.source.relation) head.places }
     ensures kept { S.texts shelf.new ≡ S.texts shelf.old }
     ensures later { S.faults shelf.old ≤ S.faults shelf.new }
-    ensures made { IsSettled result → IfSome (S.texts shelf.old) (λ told. IsMapped told tree.now.name.name head.entry
+    ensures made { IsDetermined result → IfSome (S.texts shelf.old) (λ told. IsMapped told tree.now.name.name head.entry
         tree.now.mappings result) }
     ensures of { IfOk result (IsCopyOfHead tree.now.name.name head.entry) }
     ensures read_fault { IsReadFault result → Rose (S.faults shelf.old) (S.faults shelf.new) }

@@ -12,7 +12,7 @@ use crate::side::CopySide;
 use bind_faults::{BindFault, find};
 use copy_functions::{Place, PlaceList};
 use copy_syntax::CopyTree;
-use currency_base::{AttrId, ErrorCode, Kind, RelId};
+use currency_base::{AttrId, ErrorCode, RelId, ValueKind};
 use name_index::NameIndex;
 use spec_model::{Relation, Specification};
 use spec_names::{RelationNames, SpecNames};
@@ -160,14 +160,14 @@ fn is_of_one_kind(target: &Relation, source: &Relation, place: &Place) -> bool
     ensures { result ≡ is_of_one_kind target.now source.now place.now }
 {
     match (kind_at(target, place.target), kind_at(source, place.source)) {
-        (Some(Kind::Text), Some(Kind::Text)) => true,
-        (Some(Kind::Int), Some(Kind::Int)) => true,
+        (Some(ValueKind::Text), Some(ValueKind::Text)) => true,
+        (Some(ValueKind::Int), Some(ValueKind::Int)) => true,
         _ => false,
     }
 }
 
 /// The kind of an attribute, where it is there.
-fn kind_at(relation: &Relation, attr: AttrId) -> Option<Kind>
+fn kind_at(relation: &Relation, attr: AttrId) -> Option<ValueKind>
     ensures { result ≡ kind_at relation.now attr }
 {
     let attr = relation.attrs.as_slice().get(attr.0 as usize)?;

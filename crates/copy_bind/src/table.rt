@@ -2,9 +2,8 @@
 
 ghost use Rattle.std.specs.Prelude.{◌≡◌, ◌≤◌, ◌∷◌, [], ℕ, List, All, IfOk, IfSome, map};
 ghost use Rattle.currency_base.specs.Values.{kind_of};
-ghost use Rattle.currency_csv.specs.Told.{told};
 ghost use Rattle.currency_edge.specs.Fault.{Rose};
-ghost use Rattle.bind_faults.specs.Faults.{IsReadFault, IsReadFaultOf, IsSettled};
+ghost use Rattle.bind_faults.specs.Faults.{IsDetermined, IsReadFault, IsReadFaultOf};
 ghost use Rattle.copy_bind.specs.Copied.{pair_in, pairs_from};
 ghost use Rattle.copy_bind.specs.Made.{AreListed, copy_columns};
 ghost use Rattle.copy_bind.specs.Steps.{AreTexts, IsText};
@@ -27,7 +26,7 @@ pub fn read_pairs<S: Shelf>(
 ) -> Result<NamedPairList, BindFault>
     ensures kept { S.texts shelf.new ≡ S.texts shelf.old }
     ensures later { S.faults shelf.old ≤ S.faults shelf.new }
-    ensures pairs { IsSettled result → IfSome (S.texts shelf.old) (λ told. AreListed told document.now result) }
+    ensures pairs { IsDetermined result → IfSome (S.texts shelf.old) (λ told. AreListed told document.now result) }
     ensures read_fault { IsReadFault result → Rose (S.faults shelf.old) (S.faults shelf.new) }
     ensures names_it { (table : List ℕ) → IsReadFaultOf result table → document.now ≡ table }
 {

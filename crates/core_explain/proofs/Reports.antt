@@ -5,8 +5,8 @@ use Rattle.fact_trials.specs.Trials.{IsSpent}
 use Rattle.refutation_log.specs.declared.log.Log.{Log}
 use Rattle.report_model.specs.Verdicts.{is_decided, kind_of}
 use Rattle.report_model.specs.declared.report.Report.{Report}
-use Rattle.report_model.specs.declared.verdict.Kind.{Kind}
-use Rattle.report_model.specs.declared.verdict.Kind.TheVariants as kind
+use Rattle.report_model.specs.declared.verdict.VerdictKind.{VerdictKind}
+use Rattle.report_model.specs.declared.verdict.VerdictKind.TheVariants as kind
 use Rattle.report_model.specs.declared.verdict.Verdict.{Verdict}
 use Rattle.report_model.specs.declared.verdict.Verdict.TheVariants as verdict
 use Rattle.report_verify.specs.Right.{IsRight}
@@ -37,7 +37,7 @@ is_undecided (verdict.NotSame rel attr ent) e = cc
 is_undecided (verdict.Answers tuples) e = cc
 is_undecided (verdict.Undecided counted) e = (counted, refl)
 
-decided : (k : Kind) → k ≢ kind.Undecided → is_decided k ≡ true
+decided : (k : VerdictKind) → k ≢ kind.Undecided → is_decided k ≡ true
 decided kind.Inconsistent other = refl
 decided kind.Consistent other = refl
 decided kind.Certain other = refl

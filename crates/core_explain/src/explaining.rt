@@ -11,7 +11,7 @@ use currency_base::NoMemory;
 use minimal_items::{NeededList, Spent};
 use near_items::{Sought, seek};
 use refutation_log::Log;
-use report_model::{Kind, Report};
+use report_model::{Report, VerdictKind};
 use solver_guides::Guides;
 use spec_model::{Completion, Question, Specification};
 use std::alloc::Global;
@@ -72,8 +72,8 @@ fn of_report(
     ensures { IfOk result (IsExplained spec.now question.now unit budget) }
 {
     match report.verdict.kind() {
-        Kind::Undecided => Ok(Explained::Undecided(report)),
-        Kind::Inconsistent => of_contradiction(
+        VerdictKind::Undecided => Ok(Explained::Undecided(report)),
+        VerdictKind::Inconsistent => of_contradiction(
             alloc,
             spec,
             question,

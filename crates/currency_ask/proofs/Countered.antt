@@ -217,23 +217,23 @@ if_ok P Q more (Err e) p = p
 
 -- ---- goals that are decided
 
-pub pair_told : {E : Type 0} (old middle new : Search) (asked : Asked) (lit : Lit) (left : ℕ) → IsSearch new
+pub pair_decided : {E : Type 0} (old middle new : Search) (asked : Asked) (lit : Lit) (left : ℕ) → IsSearch new
     → HasGone old middle → HasGone middle new
     → IsAskedPair old.spec.relations asked → Says middle.log.statements lit (said_of middle.spec (Pair asked)) →
     (r : Result Outcome E)
     → IfOk r (Tells new (Some lit) left) → IfOk r (TellsGoal new (Pair asked) left)
-pair_told old middle new asked lit left is one other on says =
+pair_decided old middle new asked lit left is one other on says =
     if_ok (Tells new (Some lit) left) (TellsGoal new (Pair asked) left)
     (λ outcome found. tells_after middle new (Pair asked) lit left outcome is other
     (goal_later old middle (Pair asked) one on) says found)
 
-pub current_told : {E : Type 0} (old middle new : Search) (p : CurrentRow) (lit : Lit) (left : ℕ) → IsSearch new
+pub current_decided : {E : Type 0} (old middle new : Search) (p : CurrentRow) (lit : Lit) (left : ℕ) → IsSearch new
     → HasGone old middle → HasGone middle new
     → IsCurrentGoal old.spec old.wanted p
     → ((r : Relation) → slice_get middle.spec.relations p.rel.0 ≡ Some r → Says middle.log.statements lit
     (last p.rel p.attr (name_of r.rows p.attr.0 p.row)))
     → (r : Result Outcome E) → IfOk r (Tells new (Some lit) left) → IfOk r (TellsGoal new (Current p) left)
-current_told old middle new p lit left is one other on says =
+current_decided old middle new p lit left is one other on says =
     let g : IsCurrentGoal middle.spec middle.wanted p = goal_later old middle (Current p) one on in
     let said = subst (λ (o : Option Relation). Says middle.log.statements lit
     (last p.rel p.attr (name_of (rows_at o) p.attr.0 p.row))) (sym g.is_relation)
@@ -257,10 +257,10 @@ decided_more before old new goals place steps pushed goal step was now start so_
       (proved_more old new (take place goals) steps goal step gone so_far.2 is)),
 )
 
-pub told_proved : (search : Search) (goal : Goal) (left : ℕ) (outcome : Outcome) (step : ℕ) → outcome ≡ Proved step
+pub decided_proved : (search : Search) (goal : Goal) (left : ℕ) (outcome : Outcome) (step : ℕ) → outcome ≡ Proved step
     → TellsGoal search goal left outcome
     → IsProved search goal step
-told_proved search goal left outcome step e told = subst (TellsGoal search goal left) e told
+decided_proved search goal left outcome step e told = subst (TellsGoal search goal left) e told
 
 -- a goal fails, once those before it were proved
 pub failed_after : (old new : Search) (goals : List Goal) (place : ℕ) (steps : List ℕ) (goal : Goal) (left : ℕ)

@@ -25,14 +25,14 @@ use Rattle.spec_model.specs.declared.question.Asked.{Asked}
 use Rattle.spec_model.specs.declared.question.Question.{Question}
 use Rattle.spec_model.specs.declared.question.Question.TheVariants as asked
 use Rattle.currency_ask.specs.Goals.{AreProved, FailsAfter, TellsGoals}
-use Rattle.currency_ask.specs.Settled.{AreFirstPairs, ProvedHold}
+use Rattle.currency_ask.specs.Deciding.{AreFirstPairs, ProvedHold}
 use Rattle.currency_ask.specs.declared.deciding.Decided.{Decided}
 use Rattle.currency_ask.specs.declared.deciding.Decided.TheVariants as decided
 use Rattle.currency_ask.specs.declared.goal.Goal.{Goal}
 use Rattle.currency_ask.specs.declared.goal.Goal.TheVariants.{Pair}
 use Rattle.currency_ask.proofs.Derived.{derived_claim}
 use Rattle.currency_ask.proofs.Places.{each_has, item_at, item_has}
-use Rattle.currency_ask.proofs.Settling.{at_map, at_take, need_of}
+use Rattle.currency_ask.proofs.GoalFacts.{at_map, at_take, need_of}
 
 -- a verdict that is shown is right
 abbrev pub ShownIsRight : Type 0

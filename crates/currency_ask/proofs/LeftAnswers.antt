@@ -8,7 +8,7 @@ use Rattle.std.proofs.lemmas.List.Sums.{count_by-le-length, length-filter}
 use Rattle.std.proofs.lemmas.List.FromFn.{get_or-range_with_len, length-range_with_len}
 use Rattle.std.proofs.lemmas.Option.{same_Some, slice_get-get_or}
 use Rattle.answer_candidates.specs.Candidates.{AreCandidates, LeftAreCommon, Standing, is_left, left_of, left_tuples}
-use Rattle.certain_answers.specs.Deciding.{AreSettled, IsProved as HasItsUnit}
+use Rattle.certain_answers.specs.Deciding.{AreDecidedUpTo, IsProved as HasItsUnit}
 use Rattle.currency_base.specs.declared.value.Value.{Value}
 use Rattle.refutation_log.specs.Writable.{AreFew}
 use Rattle.order_search.specs.Searches.{IsSearch, Search}
@@ -26,7 +26,7 @@ use Rattle.currency_ask.specs.Reported.{IsListedFor}
 use Rattle.currency_ask.specs.declared.goal.Goal.{Goal}
 use Rattle.currency_ask.specs.declared.goal.Goal.TheVariants.{Answer}
 use Rattle.currency_ask.proofs.Places.{each_has, item_has}
-use Rattle.currency_ask.proofs.Settling.{at_map}
+use Rattle.currency_ask.proofs.GoalFacts.{at_map}
 
 -- ---- places that are left
 
@@ -84,13 +84,13 @@ need_at n (tuple ∷ tuples) (suc k) need at = need_at (n + 1) tuples k need at
 
 -- ---- the answers that are left
 
--- a search in which the tuples are posed, and whose steps settle them
+-- a search in which the tuples are posed, and whose steps decide them
 pub record AreDecided (search : Search) (s : Spec) (query : Query) (standing : Standing) (steps : List ℕ) : Type 0 where
   pub search_is : IsSearch search
   pub spec : search.spec ≡ s
   pub posed : search.posed.answers ≡ standing.tuples
   pub candidates : AreCandidates s query standing
-  pub settled : AreSettled search standing (length standing.tuples) steps
+  pub decided : AreDecidedUpTo search standing (length standing.tuples) steps
 
 module _ (search : Search) (s : Spec) (query : Query) (standing : Standing) (steps : List ℕ)
     (are : AreDecided search s query standing steps) where
@@ -135,9 +135,9 @@ module _ (search : Search) (s : Spec) (query : Query) (standing : Standing) (ste
         let step_is : step ≡ slice_index_or steps found.0 0 = unit.2 ∙ ap (λ place. slice_index_or steps place 0) one in
         let below = within k found.0 found.1 in
         let there : slice_get steps found.0 ≡ Some step =
-        slice_get-get_or steps found.0 0 (omega (arith, below, are.settled.as_many)) ∙ ap (λ n. Some n) (sym step_is) in
+        slice_get-get_or steps found.0 0 (omega (arith, below, are.decided.as_many)) ∙ ap (λ n. Some n) (sym step_is) in
         subst (λ (g : Goal). IsProved search g step) (sym found.2)
-        (has_unit found.0 step (at_left k found.0 found.1).1 (are.settled.each found.0 step there));
+        (has_unit found.0 step (at_left k found.0 found.1).1 (are.decided.each found.0 step there));
   }
 
   pub claims_are : AreClaims search.spec search.posed (map Answer (left_of standing.gone)) (answer_needs 0 (left_tuples standing))

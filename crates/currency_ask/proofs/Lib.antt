@@ -7,7 +7,7 @@ mod Derived
 mod FoundEmpty
 mod FoundSpent
 mod Listings
-mod Settling
+mod GoalFacts
 mod LeftAnswers
 mod Searched
 mod Earlier

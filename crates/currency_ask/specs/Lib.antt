@@ -2,4 +2,4 @@ pub mod Answered
 pub mod Answering
 pub mod Goals
 pub mod Reported
-pub mod Settled
+pub mod Deciding

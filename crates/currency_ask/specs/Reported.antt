@@ -36,7 +36,7 @@ pub record IsSearchFor (q : Question) (search : Search) : Type 0 where
 pub record HasEnded (search : Search) (budget : ℕ) (outcome : Outcome) : Type 0 where
   pub left : ℕ
   pub units : counted_steps search.log.steps + left ≡ budget
-  pub told : IsEnd search left outcome
+  pub is_end : IsEnd search left outcome
 
 -- the search has used the whole budget, and its log is open
 pub record HasSpent (search : Search) (budget : ℕ) : Type 0 where

@@ -1,7 +1,7 @@
 ghost use Rattle.std.specs.Prelude.{◌≡◌, ◌+◌, ◌<◌, ◌≤◌, ℕ, All, Err, IfOk, length, map, slice_index_or};
 ghost use Rattle.answer_candidates.specs.Candidates.{AreCandidates};
 ghost use Rattle.answer_candidates.specs.declared.candidates.CandidateFault.TheVariants as candidates;
-ghost use Rattle.certain_answers.specs.Deciding.{AreSettled, IsSearchFor as IsSearchOf};
+ghost use Rattle.certain_answers.specs.Deciding.{AreDecidedUpTo, IsSearchFor as IsSearchOf};
 ghost use Rattle.refutation_log.specs.Counted.{counted_steps};
 ghost use Rattle.search_logs.specs.SearchLogs.{IsWithin};
 ghost use Rattle.spec_model.specs.Completion.{Rankings};
@@ -19,7 +19,7 @@ use crate::AskFault;
 use crate::goal::{Goal, GoalList};
 use crate::reporting::{derived, ended};
 use answer_candidates::{CandidateFault, Candidates, PlaceList, left_are_common};
-use certain_answers::{Settled, decide_left, discard, note, search_for};
+use certain_answers::{Decisions, decide_left, discard, note, search_for};
 use currency_base::NoMemory;
 use order_search::{Outcome, Search};
 use query_model::Query;
@@ -86,13 +86,13 @@ fn searched(
     ensures { IfOk result (IsReported spec.now (asked.Answers query.now) budget) }
 {
     match search_for(alloc, spec, query, &candidates, candidates.first(), guides) {
-        Ok(search) => opposed(alloc, spec, query, candidates, search, budget, guides),
+        Ok(search) => second_compared(alloc, spec, query, candidates, search, budget, guides),
         Err(error) => Err(error),
     }
 }
 
-// The report, once a completion from the opposite of the first guess is looked at.
-fn opposed(
+// The report, once a completion from the opposite of the first guess is compared.
+fn second_compared(
     alloc: Global,
     spec: &Specification,
     query: &Query,
@@ -115,7 +115,7 @@ fn opposed(
     match second(alloc, &mut search, &mut units, guides) {
         Ok(Outcome::Model { completion, .. }) => {
             match note(alloc, spec, query, &mut candidates, completion) {
-                Ok(()) => settled(
+                Ok(()) => all_decided(
                     alloc, spec, query, candidates, search, units, budget, guides,
                 ),
                 Err(error) => {
@@ -144,7 +144,7 @@ fn second(
     requires { counted_steps search.old.log.steps ≡ 0 }
     ensures gone { HasGone search.old search.new }
     ensures units { counted_steps search.new.log.steps + units.new ≡ counted_steps search.old.log.steps + units.old }
-    ensures told { IfOk result (TellsSecond search.new units.new) }
+    ensures outcome { IfOk result (TellsSecond search.new units.new) }
 {
     match search.turn(alloc, guides) {
         Ok(()) => search.decide(alloc, None, units, guides),
@@ -153,7 +153,7 @@ fn second(
 }
 
 // The report, once each candidate that is left is decided.
-fn settled(
+fn all_decided(
     alloc: Global,
     spec: &Specification,
     query: &Query,
@@ -182,8 +182,8 @@ fn settled(
         &mut units,
         guides,
     ) {
-        Ok(Settled::All(steps)) => reported(alloc, spec, query, candidates, search, &steps),
-        Ok(Settled::Ended(outcome)) => ended(alloc, search, outcome, budget),
+        Ok(Decisions::All(steps)) => reported(alloc, spec, query, candidates, search, &steps),
+        Ok(Decisions::Ended(outcome)) => ended(alloc, search, outcome, budget),
         Err(error) => {
             discard(search);
             Err(error)
@@ -207,7 +207,7 @@ fn reported(
     requires posed { search.posed.answers ≡ candidates.tuples }
     requires few { length candidates.tuples ≤ 1000000 }
     requires over { AreAnswersOverSome spec.now query.now candidates.tuples }
-    requires settled { AreSettled search candidates (length candidates.tuples) steps.now }
+    requires decided { AreDecidedUpTo search candidates (length candidates.tuples) steps.now }
     ensures { (budget : ℕ) → IfOk result (IsReported spec.now (asked.Answers query.now) budget) }
 {
     left_are_common();

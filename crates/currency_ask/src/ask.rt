@@ -136,8 +136,13 @@ fn decided(
             alloc, spec, question, search, completion, units, budget, guides,
         ),
         Ok(Outcome::Proved(_)) => unreachable!(),
-        Ok(Outcome::Empty(place)) => told(ended(alloc, search, Outcome::Empty(place), budget)),
-        Ok(Outcome::Spent) => told(ended(alloc, search, Outcome::Spent, budget)),
+        Ok(Outcome::Empty(place)) => or_no_memory(ended(
+            alloc,
+            search,
+            Outcome::Empty(place),
+            budget,
+        )),
+        Ok(Outcome::Spent) => or_no_memory(ended(alloc, search, Outcome::Spent, budget)),
         Err(_) => {
             discard(search);
             Err(AskFault::NoMemory)
@@ -168,12 +173,14 @@ fn claimed(
     match question {
         Question::Consistent => {
             discard(search);
-            told(consistent(alloc, spec, first))
+            or_no_memory(consistent(alloc, spec, first))
         }
-        Question::Certain(pairs) => told(certain(
+        Question::Certain(pairs) => or_no_memory(certain(
             alloc, spec, pairs, search, first, units, budget, guides,
         )),
-        Question::Same(rels) => told(same(alloc, spec, rels, search, first, units, budget, guides)),
+        Question::Same(rels) => or_no_memory(same(
+            alloc, spec, rels, search, first, units, budget, guides,
+        )),
         Question::Answers(query) => {
             discard(search);
             answers(alloc, spec, query, first, budget, guides)
@@ -182,7 +189,7 @@ fn claimed(
 }
 
 // A report, or that memory is wanting.
-fn told(report: Result<Report, NoMemory>) -> Result<Report, AskFault>
+fn or_no_memory(report: Result<Report, NoMemory>) -> Result<Report, AskFault>
     ensures report { IfOk result (λ r. report ≡ Ok r) }
     ensures no_memory { (c : Rankings) → result ≡ Err (fault.TooMany c) → ⊥ }
 {

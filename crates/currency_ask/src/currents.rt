@@ -6,7 +6,7 @@ ghost use Rattle.spec_model.specs.Consistent.{IsConsistent};
 ghost use Rattle.spec_model.specs.Questions.{AreAskedRelations};
 ghost use Rattle.spec_model.specs.declared.question.Question.TheVariants as asked;
 ghost use Rattle.currency_ask.specs.Reported.{IsReported, IsSearchFor};
-ghost use Rattle.currency_ask.specs.Settled.{AreValuesIn, HasDecided};
+ghost use Rattle.currency_ask.specs.Deciding.{AreValuesIn, HasDecided};
 
 use crate::deciding::{Decided, decide_all};
 use crate::goal::{Goal, GoalList};
@@ -178,7 +178,7 @@ fn reported(
     requires first { IsConsistent spec.now first }
     requires asked_for { IsSearchFor (asked.Same rels.now) search }
     requires values { AreValuesIn spec.now rels.now first values }
-    requires told { HasDecided search values.goals budget decided }
+    requires outcome { HasDecided search values.goals budget decided }
     ensures { IfOk result (IsReported spec.now (asked.Same rels.now) budget) }
 {
     search.is_search();

@@ -43,7 +43,7 @@ pub(crate) fn decide_all(
     requires goals { All (IsListGoalOn search.old.spec search.old.wanted) goals.now }
     ensures gone { HasGone search.old search.new }
     ensures units { counted_steps search.new.log.steps + units.new ≡ counted_steps search.old.log.steps + units.old }
-    ensures told { IfOk result (TellsGoals search.new goals.now units.new) }
+    ensures outcome { IfOk result (TellsGoals search.new goals.now units.new) }
 {
     let mut steps = HintList::new(alloc);
     for place in 0..goals.len() {
@@ -75,7 +75,7 @@ fn decide(
     requires goal { IsListGoalOn search.old.spec search.old.wanted goal }
     ensures gone { HasGone search.old search.new }
     ensures units { counted_steps search.new.log.steps + units.new ≡ counted_steps search.old.log.steps + units.old }
-    ensures told { IfOk result (TellsGoal search.new goal units.new) }
+    ensures outcome { IfOk result (TellsGoal search.new goal units.new) }
 {
     match goal {
         Goal::Pair(asked) => decide_pair(alloc, spec, search, asked, units, guides),
@@ -97,7 +97,7 @@ fn decide_pair(
     requires pair { IsAskedPair search.old.spec.relations asked }
     ensures gone { HasGone search.old search.new }
     ensures units { counted_steps search.new.log.steps + units.new ≡ counted_steps search.old.log.steps + units.old }
-    ensures told { IfOk result (TellsGoal search.new (Goal.Pair asked) units.new) }
+    ensures outcome { IfOk result (TellsGoal search.new (Goal.Pair asked) units.new) }
 {
     search.is_search();
     let list = list_of(spec, asked);
@@ -136,7 +136,7 @@ fn decide_current(
     requires { IsCurrentGoal search.old.spec search.old.wanted place }
     ensures gone { HasGone search.old search.new }
     ensures units { counted_steps search.new.log.steps + units.new ≡ counted_steps search.old.log.steps + units.old }
-    ensures told { IfOk result (TellsGoal search.new (Goal.Current place) units.new) }
+    ensures outcome { IfOk result (TellsGoal search.new (Goal.Current place) units.new) }
 {
     search.is_search();
     let CurrentRow {

@@ -8,7 +8,7 @@ ghost use Rattle.refutation_log.specs.Counted.{counted_steps};
 ghost use Rattle.currency_ask.specs.Goals.{AreProved};
 ghost use Rattle.currency_ask.specs.Reported.{IsReported, IsSearchFor};
 ghost use Rattle.report_verify.specs.Right.{EachConsistent, PairHolds};
-ghost use Rattle.currency_ask.specs.Settled.{AreFirstPairs, FailsFirst, HasDecided, ProvedHold};
+ghost use Rattle.currency_ask.specs.Deciding.{AreFirstPairs, FailsFirst, HasDecided, ProvedHold};
 
 use crate::deciding::{Decided, decide_all};
 use crate::goal::{Goal, GoalList};
@@ -84,7 +84,7 @@ fn reported(
     requires asked_for { IsSearchFor (asked.Certain pairs.now) search }
     requires failing { IfSome failing (FailsFirst pairs.now first) }
     requires goals { AreFirstPairs pairs.now failing goals.now }
-    requires told { HasDecided search goals.now budget decided }
+    requires outcome { HasDecided search goals.now budget decided }
     ensures { IfOk result (IsReported spec.now (asked.Certain pairs.now) budget) }
 {
     search.is_search();
@@ -96,13 +96,13 @@ fn reported(
         }
         Decided::Ended(outcome) => ended(alloc, search, outcome, budget),
         Decided::Proved(steps) => {
-            settled(alloc, spec, pairs, failing, goals, search, &steps, first)
+            pairs_derived(alloc, spec, pairs, failing, goals, search, &steps, first)
         }
     }
 }
 
 // The report, once the pairs before the first that fails in a completion are derived; all of them, if none fails.
-fn settled(
+fn pairs_derived(
     alloc: Global,
     spec: &Specification,
     pairs: &AskedList,

@@ -4,15 +4,15 @@ use Rattle.std.specs.Ordering.{nat_cmp, int_cmp}
 use Rattle.std.specs.Cmp.Lexicographic.{slice_cmp}
 use Rattle.std.specs.declared.cmp.Ordering.{Ordering}
 use Rattle.std.specs.declared.cmp.Ordering.TheVariants.{Less, Equal, Greater}
-use Rattle.currency_base.specs.declared.value.Kind.{Kind}
-use Rattle.currency_base.specs.declared.value.Kind.TheVariants as kind
+use Rattle.currency_base.specs.declared.value.ValueKind.{ValueKind}
+use Rattle.currency_base.specs.declared.value.ValueKind.TheVariants as kind
 use Rattle.currency_base.specs.declared.value.Value.{Value}
 use Rattle.currency_base.specs.declared.value.Value.TheVariants.{Int, Text}
 use Rattle.currency_base.specs.declared.value.Cmp.{Cmp}
 use Rattle.currency_base.specs.declared.value.Cmp.TheVariants.{Eq, Ne, Lt, Le, Gt, Ge}
 
 -- the kind of a value
-abbrev pub kind_of : Value → Kind
+abbrev pub kind_of : Value → ValueKind
 kind_of (Int n) = kind.Int
 kind_of (Text bytes) = kind.Text
 

@@ -28,7 +28,7 @@ pub use number::read_int;
 pub use pair::Pair;
 pub use row::Row;
 pub use tuple::laws_of_tuple_order;
-pub use value::{Cmp, Kind, Value};
+pub use value::{Cmp, Value, ValueKind};
 
 /// Bytes of a text.
 pub type ByteList = ItemList<u8>;

@@ -7,7 +7,7 @@ use std::cmp::Ordering;
 
 /// What kind of values an attribute holds.
 #[derive(Clone, Copy, Debug, PartialEq, Eq)]
-pub enum Kind {
+pub enum ValueKind {
     /// Text, ordered by its bytes.
     Text,
     /// A signed number of 64 bits.
@@ -51,12 +51,12 @@ impl Cmp {
 
 impl Value {
     /// What kind of value it is.
-    pub fn kind(&self) -> Kind
+    pub fn kind(&self) -> ValueKind
         ensures { result ≡ kind_of self.now }
     {
         match self {
-            Value::Int(_) => Kind::Int,
-            Value::Text(_) => Kind::Text,
+            Value::Int(_) => ValueKind::Int,
+            Value::Text(_) => ValueKind::Text,
         }
     }
 

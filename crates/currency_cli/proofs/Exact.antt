@@ -8,7 +8,7 @@ use Rattle.command_stages.specs.declared.done.Ending.TheVariants as ending
 use Rattle.currency_cli.specs.Due.{IsDue}
 use Rattle.currency_cli.specs.Ends.{EndsWith, HasEndStatus, HasStatus, HasFailedStatus, ComesTo, failed_status_of}
 use Rattle.command_stages.specs.Outcomes.{status_of}
-use Rattle.command_stages.specs.Named.{IsSettled, IsReadFault}
+use Rattle.command_stages.specs.Named.{IsDetermined, IsReadFault}
 use Rattle.command_stages.specs.Texts.{trouble_status}
 use Rattle.command_stages.specs.declared.done.Done.{Done}
 use Rattle.command_stages.specs.declared.trouble.Trouble.{Trouble}
@@ -22,7 +22,7 @@ OneDue = (told : List (List ℕ × List ℕ)) (count : ℕ) (words : List (List 
 -- ---- the outcome that was come to is like the one that is due
 
 zero_or_three : (e : Ending) (status : ℕ) → IsOfAnswers e → status ≡ ending_status e → (status ≡ 0) ⊎ (status ≡ 3)
-zero_or_three ending.Told status of is = absurd of
+zero_or_three ending.Printed status of is = absurd of
 zero_or_three ending.Decided status of is = inl is
 zero_or_three ending.Denied status of is = absurd of
 zero_or_three ending.Undecided status of is = inr is
@@ -32,7 +32,7 @@ zero_or_three ending.Open status of is = inr is
 
 -- where a limit on answers is exceeded over one completion
 six_of_answers : (e : Ending) (status : ℕ) → IsOfAnswers e → status ≡ 6 → HasEndStatus e status
-six_of_answers ending.Told status of is = absurd of
+six_of_answers ending.Printed status of is = absurd of
 six_of_answers ending.Decided status of is = inr (inr is)
 six_of_answers ending.Denied status of is = absurd of
 six_of_answers ending.Undecided status of is = inr (inr (inr is))
@@ -42,7 +42,7 @@ six_of_answers ending.Open status of is = inr (inr (inr is))
 
 any_of_question : (e : Ending) (status : ℕ) → IsOfQuestion e → (status ≡ 0) ⊎ ((status ≡ 3) ⊎ (status ≡ 6))
     → HasEndStatus e status
-any_of_question ending.Told status of is = absurd of
+any_of_question ending.Printed status of is = absurd of
 any_of_question ending.Decided status of is = is
 any_of_question ending.Denied status of is = absurd of
 any_of_question ending.Undecided status of is = inr is
@@ -51,7 +51,7 @@ any_of_question ending.Inconsistent status of is = absurd of
 any_of_question ending.Open status of is = absurd of
 
 any_of_denial : (e : Ending) (status : ℕ) → IsOfDenial e → (status ≡ 1) ⊎ (status ≡ 3) → HasEndStatus e status
-any_of_denial ending.Told status of is = absurd of
+any_of_denial ending.Printed status of is = absurd of
 any_of_denial ending.Decided status of is = absurd of
 any_of_denial ending.Denied status of is = is
 any_of_denial ending.Undecided status of (inl one) = inl one
@@ -62,7 +62,7 @@ any_of_denial ending.Open status of is = absurd of
 
 any_of_table : (e : Ending) (status : ℕ) → IsOfTable e → (status ≡ 0) ⊎ ((status ≡ 3) ⊎ (status ≡ 10))
     → HasEndStatus e status
-any_of_table ending.Told status of is = absurd of
+any_of_table ending.Printed status of is = absurd of
 any_of_table ending.Decided status of is = absurd of
 any_of_table ending.Denied status of is = absurd of
 any_of_table ending.Undecided status of is = absurd of
@@ -75,7 +75,7 @@ any_of_table ending.Open status of (inr (inl three)) = inr (inl three)
 any_of_table ending.Open status of (inr (inr ten)) = inr (inr (inl ten))
 
 end_status : (d e : Ending) (status : ℕ) → EndAlike d e → status ≡ ending_status d → HasEndStatus e status
-end_status ending.Told e status alike is = subst (λ (x : Ending). HasEndStatus x status) (sym alike) is
+end_status ending.Printed e status alike is = subst (λ (x : Ending). HasEndStatus x status) (sym alike) is
 end_status ending.Decided e status alike is = any_of_question e status alike (inl is)
 end_status ending.Denied e status alike is = any_of_denial e status alike (inl is)
 end_status ending.Undecided e status (inl alike) is = any_of_question e status alike (inr (inl is))
@@ -114,7 +114,7 @@ of_ends old new rb rn wb wn got outcome status alike (inr (inr h)) = inr (inr (i
 -- ---- a document could not be read, or memory ran out
 
 of_outside : (old new : Option (List ℕ)) (rb rn wb wn : ℕ) (e : Trouble) (outcome : Result Done Trouble) (status : ℕ)
-    → (IsSettled {A = Done} (Err e) → ⊥) → (IsReadFault {A = Done} (Err e) → Rose rb rn) → EndsWith old new wb wn
+    → (IsDetermined {A = Done} (Err e) → ⊥) → (IsReadFault {A = Done} (Err e) → Rose rb rn) → EndsWith old new wb wn
     (Err e) status → ComesTo outcome rb rn wb wn status
 of_outside old new rb rn wb wn (trouble.ReadFault name) outcome status never rose (inl h) = inr (inr (inl (h.0, rose tt)))
 of_outside old new rb rn wb wn (trouble.ReadFault name) outcome status never rose (inr (inl h)) = inr (inr (inl (h.0, rose tt)))
@@ -128,44 +128,45 @@ of_outside old new rb rn wb wn (trouble.Refused c d l) outcome status never rose
 of_outside old new rb rn wb wn (trouble.CopyDiffers d l t s) outcome status never rose h = absurd (never tt)
 of_outside old new rb rn wb wn (trouble.Limit k) outcome status never rose h = absurd (never tt)
 
--- an outcome is settled, or it is of the outside
-settled_or : (outcome : Result Done Trouble) → IsSettled outcome ⊎ ((e : Trouble) × (outcome ≡ Err e) × (IsSettled outcome → ⊥))
-settled_or (Ok d) = inl tt
-settled_or (Err trouble.Words) = inl tt
-settled_or (Err (trouble.Unshown c d l)) = inl tt
-settled_or (Err (trouble.Refused c d l)) = inl tt
-settled_or (Err (trouble.CopyDiffers d l t s)) = inl tt
-settled_or (Err (trouble.Limit k)) = inl tt
-settled_or (Err (trouble.ReadFault name)) = inr (trouble.ReadFault name, refl, λ h. h)
-settled_or (Err trouble.NoMemory) = inr (trouble.NoMemory, refl, λ h. h)
+-- an outcome is determined, or it is of the outside
+determined_or : (outcome : Result Done Trouble)
+    → IsDetermined outcome ⊎ ((e : Trouble) × (outcome ≡ Err e) × (IsDetermined outcome → ⊥))
+determined_or (Ok d) = inl tt
+determined_or (Err trouble.Words) = inl tt
+determined_or (Err (trouble.Unshown c d l)) = inl tt
+determined_or (Err (trouble.Refused c d l)) = inl tt
+determined_or (Err (trouble.CopyDiffers d l t s)) = inl tt
+determined_or (Err (trouble.Limit k)) = inl tt
+determined_or (Err (trouble.ReadFault name)) = inr (trouble.ReadFault name, refl, λ h. h)
+determined_or (Err trouble.NoMemory) = inr (trouble.NoMemory, refl, λ h. h)
 
 -- ---- together
 
 comes_at : (got : Result Done Trouble) (old new : Option (List ℕ)) (rb rn wb wn status : ℕ) → (IsReadFault got → Rose rb rn)
-    → EndsWith old new wb wn got status → (outcome : Result Done Trouble) → (IsSettled got → AreAlike got outcome)
-    → IsSettled got ⊎ ((e : Trouble) × (got ≡ Err e) × (IsSettled got → ⊥)) → ComesTo outcome rb rn wb wn status
-comes_at got old new rb rn wb wn status rose ends outcome alike (inl settled) = of_ends old new rb rn wb wn got
-    outcome status (alike settled) ends
+    → EndsWith old new wb wn got status → (outcome : Result Done Trouble) → (IsDetermined got → AreAlike got outcome)
+    → IsDetermined got ⊎ ((e : Trouble) × (got ≡ Err e) × (IsDetermined got → ⊥)) → ComesTo outcome rb rn wb wn status
+comes_at got old new rb rn wb wn status rose ends outcome alike (inl determined) = of_ends old new rb rn wb wn got
+    outcome status (alike determined) ends
 comes_at got old new rb rn wb wn status rose ends outcome alike (inr h) =
     of_outside old new rb rn wb wn h.0 outcome status
-    (λ s. h.2 (subst IsSettled (sym h.1) s)) (λ f. rose (subst IsReadFault (sym h.1) f))
+    (λ s. h.2 (subst IsDetermined (sym h.1) s)) (λ f. rose (subst IsReadFault (sym h.1) f))
     (subst (λ (o : Result Done Trouble). EndsWith old new wb wn o status) h.1 ends)
 
--- the program comes to each outcome that is like its own, where its own is settled
+-- the program comes to each outcome that is like its own, where its own is determined
 pub comes : (got : Result Done Trouble) (old new : Option (List ℕ)) (rb rn wb wn status : ℕ) → (IsReadFault got → Rose rb rn)
-    → EndsWith old new wb wn got status → (outcome : Result Done Trouble) → (IsSettled got → AreAlike got outcome)
+    → EndsWith old new wb wn got status → (outcome : Result Done Trouble) → (IsDetermined got → AreAlike got outcome)
     → ComesTo outcome rb rn wb wn status
 comes got old new rb rn wb wn status rose ends outcome alike = comes_at got old new rb rn wb wn status rose ends
-    outcome alike (settled_or got)
+    outcome alike (determined_or got)
 
 pub comes_to : OneDue → (texts : Option (List (List ℕ × List ℕ))) (count : ℕ) (words : List (List ℕ)) (got : Result Done Trouble)
     (old new : Option (List ℕ)) (rb rn wb wn status : ℕ)
-    → (IsSettled got → IfSome texts (λ told. IsDue told count words got)) → (IsReadFault got → Rose rb rn)
+    → (IsDetermined got → IfSome texts (λ told. IsDue told count words got)) → (IsReadFault got → Rose rb rn)
     → EndsWith old new wb wn got status
     → (outcome : Result Done Trouble) → IfSome texts (λ told. IsDue told count words outcome → ComesTo outcome rb rn wb wn status)
 comes_to law None count words got old new rb rn wb wn status due rose ends outcome = tt
 comes_to law (Some told) count words got old new rb rn wb wn status due rose ends outcome =
-    λ is. comes got old new rb rn wb wn status rose ends outcome (λ settled. law told count words got outcome (due settled) is)
+    λ is. comes got old new rb rn wb wn status rose ends outcome (λ determined. law told count words got outcome (due determined) is)
 
 -- where no count of faults rose
 pub steady : (outcome : Result Done Trouble) (rb rn wb wn status : ℕ) → (Rose rb rn → ⊥) → (Rose wb wn → ⊥)
@@ -188,14 +189,14 @@ comes_to_its_own (Some told) count words rb rn wb wn status exact reads writes o
 -- its own status, where no count of faults rose
 own_at : (got : Result Done Trouble) (old new : Option (List ℕ)) (rb rn wb wn status : ℕ) → (IsReadFault got → Rose rb rn)
     → EndsWith old new wb wn got status → (Rose rb rn → ⊥) → (Rose wb wn → ⊥)
-    → IsSettled got ⊎ ((e : Trouble) × (got ≡ Err e) × (IsSettled got → ⊥)) →
-    (IsSettled got × (status ≡ status_of got)) ⊎ (status ≡ 9)
-own_at got old new rb rn wb wn status rose (inl h) reads writes (inl settled) = inl (settled, h.0)
-own_at got old new rb rn wb wn status rose (inr (inl h)) reads writes (inl settled) = absurd (writes h.1)
-own_at got old new rb rn wb wn status rose (inr (inr h)) reads writes (inl settled) = inr h.0
+    → IsDetermined got ⊎ ((e : Trouble) × (got ≡ Err e) × (IsDetermined got → ⊥)) →
+    (IsDetermined got × (status ≡ status_of got)) ⊎ (status ≡ 9)
+own_at got old new rb rn wb wn status rose (inl h) reads writes (inl determined) = inl (determined, h.0)
+own_at got old new rb rn wb wn status rose (inr (inl h)) reads writes (inl determined) = absurd (writes h.1)
+own_at got old new rb rn wb wn status rose (inr (inr h)) reads writes (inl determined) = inr h.0
 own_at got old new rb rn wb wn status rose ends reads writes (inr h) =
     nine (of_outside old new rb rn wb wn h.0 (Err trouble.NoMemory) status
-    (λ s. h.2 (subst IsSettled (sym h.1) s)) (λ f. rose (subst IsReadFault (sym h.1) f))
+    (λ s. h.2 (subst IsDetermined (sym h.1) s)) (λ f. rose (subst IsReadFault (sym h.1) f))
     (subst (λ (o : Result Done Trouble). EndsWith old new wb wn o status) h.1 ends))
   where
     no_limit : trouble.NoMemory ≡ trouble.Limit 3 → ⊥
@@ -205,7 +206,7 @@ own_at got old new rb rn wb wn status rose ends reads writes (inr h) =
     has_nine (inl is) = is
     has_nine (inr is) = absurd (no_limit is.0)
 
-    nine : ComesTo (Err trouble.NoMemory) rb rn wb wn status → (IsSettled got × (status ≡ status_of got)) ⊎ (status ≡ 9)
+    nine : ComesTo (Err trouble.NoMemory) rb rn wb wn status → (IsDetermined got × (status ≡ status_of got)) ⊎ (status ≡ 9)
     nine (inl is) = inr (has_nine is)
     nine (inr (inl is)) = absurd (writes is.1)
     nine (inr (inr (inl is))) = absurd (reads is.1)
@@ -213,6 +214,6 @@ own_at got old new rb rn wb wn status rose ends reads writes (inr h) =
 
 pub own_status : (got : Result Done Trouble) (old new : Option (List ℕ)) (rb rn wb wn status : ℕ) → (IsReadFault got → Rose rb rn)
     → EndsWith old new wb wn got status → (Rose rb rn → ⊥) → (Rose wb wn → ⊥) →
-    (IsSettled got × (status ≡ status_of got)) ⊎ (status ≡ 9)
+    (IsDetermined got × (status ≡ status_of got)) ⊎ (status ≡ 9)
 own_status got old new rb rn wb wn status rose ends reads writes = own_at got old new rb rn wb wn status rose ends
-    reads writes (settled_or got)
+    reads writes (determined_or got)

@@ -14,7 +14,7 @@ use Rattle.program_words.specs.Words.{ExplainSaid}
 use Rattle.spec_model.specs.Spec.{Spec}
 use Rattle.spec_model.specs.declared.question.Question.{Question}
 use Rattle.spec_model.specs.declared.relation.Relation.{Relation}
-use Rattle.told_answers.specs.Answers.{ComesToAnswer}
+use Rattle.answer_texts.specs.Answers.{ComesToAnswer}
 
 abbrev OneSpec : Type 0
 OneSpec = (told : List (List ℕ × List ℕ)) (name : List ℕ) → IsOne (IsSpecRead told name)

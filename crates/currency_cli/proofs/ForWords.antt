@@ -2,7 +2,7 @@
 use Rattle.std.proofs.Common.{◌≡◌, ℕ, List, Option, Some, None, IfOk, IfSome, MatchOption, Result, Ok, Err, sym, subst}
 use Rattle.program_words.specs.Words.{CommandSaid}
 use Rattle.currency_cli.specs.Due.{IsDueFor, IsDue, IsDocumentDue, IsReadDue}
-use Rattle.currency_cli.specs.Told.{IsTold, IsToldFor}
+use Rattle.currency_cli.specs.Printed.{IsPrinted, IsPrintedFor}
 use Rattle.currency_cli.specs.Words.{command_for}
 use Rattle.command_stages.specs.declared.done.Done.{Done}
 use Rattle.command_stages.specs.declared.trouble.Trouble.{Trouble}
@@ -30,9 +30,9 @@ read_due_for_words None count words c name said due = tt
 read_due_for_words (Some told) count words c name said due =
     subst (λ (o : Option CommandSaid). MatchOption o ⊥ (λ c. IsDocumentDue told c name)) (sym said) due
 
-pub told_for_words : (texts : Option (List (List ℕ × List ℕ))) (count : ℕ) (words : List (List ℕ)) (c : CommandSaid)
+pub printed_for_words : (texts : Option (List (List ℕ × List ℕ))) (count : ℕ) (words : List (List ℕ)) (c : CommandSaid)
     (outcome : Result Done Trouble)
-    → command_for count words ≡ Some c → IfOk outcome (λ d. IfSome texts (λ told. IsTold told c d))
-    → IfOk outcome (λ d. IsToldFor texts count words d)
-told_for_words texts count words c (Ok d) said told = record { command = c; said = said; told = told }
-told_for_words texts count words c (Err e) said told = tt
+    → command_for count words ≡ Some c → IfOk outcome (λ d. IfSome texts (λ told. IsPrinted told c d))
+    → IfOk outcome (λ d. IsPrintedFor texts count words d)
+printed_for_words texts count words c (Ok d) said told = record { command = c; said = said; printed = told }
+printed_for_words texts count words c (Err e) said told = tt

@@ -5,7 +5,7 @@ use Rattle.ask_command.proofs.Jobs as ask
 use Rattle.command_stages.specs.Endings.{IsOfQuestion, IsOfTable, ending_status}
 use Rattle.conflicts_command.proofs.Jobs as conflicts
 use Rattle.explain_command.proofs.Jobs as explain
-use Rattle.currency_cli.proofs.GoldenTold as golden
+use Rattle.currency_cli.proofs.GoldenPrinted as golden
 use Rattle.certain_table.proofs.Jobs as certain_table
 use Rattle.possible_command.proofs.Jobs as possible
 use Rattle.possible_table.proofs.Jobs as possible_table
@@ -17,7 +17,7 @@ use Rattle.command_stages.specs.declared.trouble.Trouble.{Trouble}
 use Rattle.command_stages.specs.declared.trouble.Trouble.TheVariants as trouble
 use Rattle.currency_cli.specs.Ends.{EndsWith, IsBare, IsDenied, IsInconsistent, IsJobDone, IsDone, IsNo, IsSpent, IsUndecided}
 use Rattle.command_stages.specs.Outcomes.{output_of, status_of}
-use Rattle.currency_cli.specs.Told.{IsTold, IsToldFor}
+use Rattle.currency_cli.specs.Printed.{IsPrinted, IsPrintedFor}
 use Rattle.currency_edge.specs.Fault.{Rose}
 use Rattle.currency_edge.specs.Sink.{AppendsPrefix}
 use Rattle.forced_command.specs.Forced.{AreForcedListed}
@@ -42,7 +42,7 @@ done_not_eight : (d : Done) → status_of (Ok d) ≡ 8 → ⊥
 done_not_eight d h = by d.ending h
   where
     by : (e : Ending) → ending_status e ≡ 8 → ⊥
-    by ending.Told h = omega (arith, h)
+    by ending.Printed h = omega (arith, h)
     by ending.Decided h = omega (arith, h)
     by ending.Denied h = omega (arith, h)
     by ending.Undecided h = omega (arith, h)
@@ -62,7 +62,7 @@ done_not_seven : (d : Done) → status_of (Ok d) ≡ 7 → ⊥
 done_not_seven d h = by d.ending h
   where
     by : (e : Ending) → ending_status e ≡ 7 → ⊥
-    by ending.Told h = omega (arith, h)
+    by ending.Printed h = omega (arith, h)
     by ending.Decided h = omega (arith, h)
     by ending.Denied h = omega (arith, h)
     by ending.Undecided h = omega (arith, h)
@@ -156,28 +156,28 @@ refusal_not_eight old new wb wn e status ends = refusal_not old new wb wn e stat
 
 -- ---- status 0
 
-job_at : (told : List (List ℕ × List ℕ)) (c : CommandSaid) (d : Done) → status_of (Ok d) ≡ 0 → IsTold told c d
+job_at : (told : List (List ℕ × List ℕ)) (c : CommandSaid) (d : Done) → status_of (Ok d) ≡ 0 → IsPrinted told c d
     → IsJobDone told c (output_of (Ok d))
 job_at told (VerifyOf v) d zero h = (h.0, h.1, ap (λ (x : Done). x.text) h.2)
-job_at told (AskFor a) d zero h = ask.decided_told told a d.text d.ending zero h
+job_at told (AskFor a) d zero h = ask.decided_printed told a d.text d.ending zero h
 job_at told (ForcedOf name) d zero h = subst (AreForcedListed told name) (sym (ap (λ (x : Done). x.text) h.2)) h.1
-job_at told (TrialOf size) d zero h = trial.decided_told size d.text d.ending zero h
-job_at told (ExplainFor e) d zero h = explain.decided_told told e d.text d.ending zero h
-job_at told (ConflictsIn c) d zero h = conflicts.decided_told told c d.text d.ending zero h
-job_at told (GoldenIn g) d zero h = golden.tabled_told told g d.text d.ending zero h
-job_at told (PossibleFor p) d zero h = possible.decided_told told p d.text d.ending zero h
-job_at told (CertainTableFor t) d zero h = certain_table.tabled_told told t d.text d.ending zero h
-job_at told (PossibleTableFor t) d zero h = possible_table.tabled_told told t d.text d.ending zero h
+job_at told (TrialOf size) d zero h = trial.decided_printed size d.text d.ending zero h
+job_at told (ExplainFor e) d zero h = explain.decided_printed told e d.text d.ending zero h
+job_at told (ConflictsIn c) d zero h = conflicts.decided_printed told c d.text d.ending zero h
+job_at told (GoldenIn g) d zero h = golden.tabled_printed told g d.text d.ending zero h
+job_at told (PossibleFor p) d zero h = possible.decided_printed told p d.text d.ending zero h
+job_at told (CertainTableFor t) d zero h = certain_table.tabled_printed told t d.text d.ending zero h
+job_at told (PossibleTableFor t) d zero h = possible_table.tabled_printed told t d.text d.ending zero h
 
 job : (texts : Option (List (List ℕ × List ℕ))) (c : CommandSaid) (d : Done) → status_of (Ok d) ≡ 0 → IfSome texts
-    (λ told. IsTold told c d)
+    (λ told. IsPrinted told c d)
     → IfSome texts (λ told. IsJobDone told c (output_of (Ok d)))
 job None c d zero h = tt
 job (Some told) c d zero h = job_at told c d zero h
 
 pub is_done : (texts : Option (List (List ℕ × List ℕ))) (count : ℕ) (words : List (List ℕ))
     (old new : Option (List ℕ)) (wb wn : ℕ) (d : Done) (status : ℕ)
-    → IsToldFor texts count words d → EndsWith old new wb wn (Ok d) status → status ≡ 0 → IsDone texts count words old new
+    → IsPrintedFor texts count words d → EndsWith old new wb wn (Ok d) status → status ≡ 0 → IsDone texts count words old new
 is_done texts count words old new wb wn d status t ends zero =
     let ended : (status ≡ status_of (Ok d)) × Appends old new (output_of (Ok d)) =
     written old new wb wn d status ends (not_at status 0 8 zero (λ h. omega (arith, h)))
@@ -187,7 +187,7 @@ is_done texts count words old new wb wn d status t ends zero =
       said = t.said;
       text = output_of (Ok d);
       done = job texts t.command d
-          (sym ended.0 ∙ zero) t.told;
+          (sym ended.0 ∙ zero) t.printed;
       written = ended.1;
     }
 
@@ -195,7 +195,7 @@ is_done texts count words old new wb wn d status t ends zero =
 
 -- no other question, no table and nothing that is just told ends so
 no_denial : (e : Ending) → IsOfQuestion e → ending_status e ≡ 1 → ⊥
-no_denial ending.Told of one = of
+no_denial ending.Printed of one = of
 no_denial ending.Decided of one = omega (arith, one)
 no_denial ending.Denied of one = of
 no_denial ending.Undecided of one = omega (arith, one)
@@ -204,7 +204,7 @@ no_denial ending.Inconsistent of one = of
 no_denial ending.Open of one = of
 
 no_table_denies : (e : Ending) → IsOfTable e → ending_status e ≡ 1 → ⊥
-no_table_denies ending.Told of one = of
+no_table_denies ending.Printed of one = of
 no_table_denies ending.Decided of one = of
 no_table_denies ending.Denied of one = of
 no_table_denies ending.Undecided of one = of
@@ -212,9 +212,9 @@ no_table_denies ending.Tabled of one = omega (arith, one)
 no_table_denies ending.Inconsistent of one = omega (arith, one)
 no_table_denies ending.Open of one = omega (arith, one)
 
-no_at : (told : List (List ℕ × List ℕ)) (c : CommandSaid) (d : Done) → status_of (Ok d) ≡ 1 → IsTold told c d
+no_at : (told : List (List ℕ × List ℕ)) (c : CommandSaid) (d : Done) → status_of (Ok d) ≡ 1 → IsPrinted told c d
     → IsNo told c (output_of (Ok d))
-no_at told (AskFor a) d one h = ask.denied_told told a d.text d.ending one h
+no_at told (AskFor a) d one h = ask.denied_printed told a d.text d.ending one h
 no_at told (VerifyOf v) d one h = absurd (omega (arith, one, ap (λ (x : Done). ending_status x.ending) h.2))
 no_at told (ForcedOf name) d one h = absurd (omega (arith, one, ap (λ (x : Done). ending_status x.ending) h.2))
 no_at told (TrialOf size) d one h = absurd (no_denial d.ending (trial.of_question size d.text d.ending h) one)
@@ -227,14 +227,14 @@ no_at told (CertainTableFor t) d one h =
 no_at told (PossibleTableFor t) d one h =
     absurd (no_table_denies d.ending (possible_table.of_table told t d.text d.ending h) one)
 
-no_told : (texts : Option (List (List ℕ × List ℕ))) (c : CommandSaid) (d : Done) → status_of (Ok d) ≡ 1
-    → IfSome texts (λ told. IsTold told c d) → IfSome texts (λ told. IsNo told c (output_of (Ok d)))
-no_told None c d one h = tt
-no_told (Some told) c d one h = no_at told c d one h
+no_printed : (texts : Option (List (List ℕ × List ℕ))) (c : CommandSaid) (d : Done) → status_of (Ok d) ≡ 1
+    → IfSome texts (λ told. IsPrinted told c d) → IfSome texts (λ told. IsNo told c (output_of (Ok d)))
+no_printed None c d one h = tt
+no_printed (Some told) c d one h = no_at told c d one h
 
 pub is_denied : (texts : Option (List (List ℕ × List ℕ))) (count : ℕ) (words : List (List ℕ))
     (old new : Option (List ℕ)) (wb wn : ℕ) (d : Done) (status : ℕ)
-    → IsToldFor texts count words d → EndsWith old new wb wn (Ok d) status → status ≡ 1 → IsDenied texts count words old new
+    → IsPrintedFor texts count words d → EndsWith old new wb wn (Ok d) status → status ≡ 1 → IsDenied texts count words old new
 is_denied texts count words old new wb wn d status t ends one =
     let ended : (status ≡ status_of (Ok d)) × Appends old new (output_of (Ok d)) =
     written old new wb wn d status ends (not_at status 1 8 one (λ h. omega (arith, h)))
@@ -243,34 +243,34 @@ is_denied texts count words old new wb wn d status t ends one =
       command = t.command;
       said = t.said;
       text = output_of (Ok d);
-      told = no_told texts t.command d (sym ended.0 ∙ one) t.told;
+      printed = no_printed texts t.command d (sym ended.0 ∙ one) t.printed;
       written = ended.1;
     }
 
 -- ---- status 3
 
-spent_at : (told : List (List ℕ × List ℕ)) (c : CommandSaid) (d : Done) → status_of (Ok d) ≡ 3 → IsTold told c d
+spent_at : (told : List (List ℕ × List ℕ)) (c : CommandSaid) (d : Done) → status_of (Ok d) ≡ 3 → IsPrinted told c d
     → IsSpent told c (output_of (Ok d))
-spent_at told (AskFor a) d three h = ask.spent_told told a d.text d.ending three h
+spent_at told (AskFor a) d three h = ask.spent_printed told a d.text d.ending three h
 spent_at told (VerifyOf v) d three h = absurd (omega (arith, three, ap (λ (x : Done). ending_status x.ending) h.2))
 spent_at told (ForcedOf name) d three h = absurd (omega (arith, three, ap (λ (x : Done). ending_status x.ending) h.2))
-spent_at told (TrialOf size) d three h = trial.spent_told size d.text d.ending three h
-spent_at told (ExplainFor e) d three h = explain.spent_told told e d.text d.ending three h
-spent_at told (ConflictsIn c) d three h = conflicts.spent_told told c d.text d.ending three h
-spent_at told (GoldenIn g) d three h = golden.open_told told g d.text d.ending three h
-spent_at told (PossibleFor p) d three h = possible.spent_told told p d.text d.ending three h
-spent_at told (CertainTableFor t) d three h = certain_table.open_told told t d.text d.ending three h
-spent_at told (PossibleTableFor t) d three h = possible_table.open_told told t d.text d.ending three h
+spent_at told (TrialOf size) d three h = trial.spent_printed size d.text d.ending three h
+spent_at told (ExplainFor e) d three h = explain.spent_printed told e d.text d.ending three h
+spent_at told (ConflictsIn c) d three h = conflicts.spent_printed told c d.text d.ending three h
+spent_at told (GoldenIn g) d three h = golden.open_printed told g d.text d.ending three h
+spent_at told (PossibleFor p) d three h = possible.spent_printed told p d.text d.ending three h
+spent_at told (CertainTableFor t) d three h = certain_table.open_printed told t d.text d.ending three h
+spent_at told (PossibleTableFor t) d three h = possible_table.open_printed told t d.text d.ending three h
 
 spent : (texts : Option (List (List ℕ × List ℕ))) (c : CommandSaid) (d : Done) → status_of (Ok d) ≡ 3 → IfSome texts
-    (λ told. IsTold told c d)
+    (λ told. IsPrinted told c d)
     → IfSome texts (λ told. IsSpent told c (output_of (Ok d)))
 spent None c d three h = tt
 spent (Some told) c d three h = spent_at told c d three h
 
 pub is_undecided : (texts : Option (List (List ℕ × List ℕ))) (count : ℕ) (words : List (List ℕ))
     (old new : Option (List ℕ)) (wb wn : ℕ) (d : Done) (status : ℕ)
-    → IsToldFor texts count words d → EndsWith old new wb wn (Ok d) status → status ≡ 3 → IsUndecided texts count words old new
+    → IsPrintedFor texts count words d → EndsWith old new wb wn (Ok d) status → status ≡ 3 → IsUndecided texts count words old new
 is_undecided texts count words old new wb wn d status t ends three =
     let ended : (status ≡ status_of (Ok d)) × Appends old new (output_of (Ok d)) =
     written old new wb wn d status ends (not_at status 3 8 three (λ h. omega (arith, h)))
@@ -279,8 +279,8 @@ is_undecided texts count words old new wb wn d status t ends three =
       command = t.command;
       said = t.said;
       text = output_of (Ok d);
-      told = spent texts t.command d
-          (sym ended.0 ∙ three) t.told;
+      printed = spent texts t.command d
+          (sym ended.0 ∙ three) t.printed;
       written = ended.1;
     }
 
@@ -288,7 +288,7 @@ is_undecided texts count words old new wb wn d status t ends three =
 
 -- no question and nothing that is just told ends so
 no_question : (e : Ending) → IsOfQuestion e → ending_status e ≡ 10 → ⊥
-no_question ending.Told of ten = of
+no_question ending.Printed of ten = of
 no_question ending.Decided of ten = omega (arith, ten)
 no_question ending.Denied of ten = of
 no_question ending.Undecided of ten = omega (arith, ten)
@@ -296,7 +296,7 @@ no_question ending.Tabled of ten = of
 no_question ending.Inconsistent of ten = of
 no_question ending.Open of ten = of
 
-bare_at : (told : List (List ℕ × List ℕ)) (c : CommandSaid) (d : Done) → status_of (Ok d) ≡ 10 → IsTold told c d
+bare_at : (told : List (List ℕ × List ℕ)) (c : CommandSaid) (d : Done) → status_of (Ok d) ≡ 10 → IsPrinted told c d
     → IsBare told c (output_of (Ok d))
 bare_at told (AskFor a) d ten h = absurd (ask.not_bare told a d.text d.ending ten h)
 bare_at told (VerifyOf v) d ten h = absurd (omega (arith, ten, ap (λ (x : Done). ending_status x.ending) h.2))
@@ -304,19 +304,19 @@ bare_at told (ForcedOf name) d ten h = absurd (omega (arith, ten, ap (λ (x : Do
 bare_at told (TrialOf size) d ten h = absurd (no_question d.ending (trial.of_question size d.text d.ending h) ten)
 bare_at told (ExplainFor e) d ten h = absurd (no_question d.ending (explain.of_question told e d.text d.ending h) ten)
 bare_at told (ConflictsIn c) d ten h = absurd (no_question d.ending (conflicts.of_question told c d.text d.ending h) ten)
-bare_at told (GoldenIn g) d ten h = golden.bare_told told g d.text d.ending ten h
+bare_at told (GoldenIn g) d ten h = golden.bare_printed told g d.text d.ending ten h
 bare_at told (PossibleFor p) d ten h = absurd (no_question d.ending (possible.of_question told p d.text d.ending h) ten)
-bare_at told (CertainTableFor t) d ten h = certain_table.bare_told told t d.text d.ending ten h
-bare_at told (PossibleTableFor t) d ten h = possible_table.bare_told told t d.text d.ending ten h
+bare_at told (CertainTableFor t) d ten h = certain_table.bare_printed told t d.text d.ending ten h
+bare_at told (PossibleTableFor t) d ten h = possible_table.bare_printed told t d.text d.ending ten h
 
 bare : (texts : Option (List (List ℕ × List ℕ))) (c : CommandSaid) (d : Done) → status_of (Ok d) ≡ 10
-    → IfSome texts (λ told. IsTold told c d) → IfSome texts (λ told. IsBare told c (output_of (Ok d)))
+    → IfSome texts (λ told. IsPrinted told c d) → IfSome texts (λ told. IsBare told c (output_of (Ok d)))
 bare None c d ten h = tt
 bare (Some told) c d ten h = bare_at told c d ten h
 
 pub is_inconsistent : (texts : Option (List (List ℕ × List ℕ))) (count : ℕ) (words : List (List ℕ))
     (old new : Option (List ℕ)) (wb wn : ℕ) (d : Done) (status : ℕ)
-    → IsToldFor texts count words d → EndsWith old new wb wn (Ok d) status → status ≡ 10
+    → IsPrintedFor texts count words d → EndsWith old new wb wn (Ok d) status → status ≡ 10
     → IsInconsistent texts count words old new
 is_inconsistent texts count words old new wb wn d status t ends ten =
     let ended : (status ≡ status_of (Ok d)) × Appends old new (output_of (Ok d)) =
@@ -326,6 +326,6 @@ is_inconsistent texts count words old new wb wn d status t ends ten =
       command = t.command;
       said = t.said;
       text = output_of (Ok d);
-      told = bare texts t.command d (sym ended.0 ∙ ten) t.told;
+      printed = bare texts t.command d (sym ended.0 ∙ ten) t.printed;
       written = ended.1;
     }

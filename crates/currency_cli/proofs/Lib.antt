@@ -1,8 +1,8 @@
-pub mod TrialTold
+pub mod TrialPrinted
 pub mod Exact
 mod Explains
 pub mod ForWords
-mod GoldenTold
+mod GoldenPrinted
 pub mod InRange
 pub mod JobsDone
 pub mod OneDue

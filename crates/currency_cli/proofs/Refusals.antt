@@ -5,7 +5,7 @@ use Rattle.std.specs.Io.KnownBytes.{Appends}
 use Rattle.currency_edge.specs.Sink.{AppendsPrefix}
 use Rattle.currency_cli.specs.Due.{IsDue, IsReadDue}
 use Rattle.currency_cli.specs.Ends.{EndsWith, IsRefusal, RefusalDue, NamesUnread}
-use Rattle.command_stages.specs.Named.{IsSettled, IsReadFaultOf}
+use Rattle.command_stages.specs.Named.{IsDetermined, IsReadFaultOf}
 use Rattle.command_stages.specs.Texts.{trouble_status, trouble_text}
 use Rattle.command_stages.specs.declared.done.Done.{Done}
 use Rattle.command_stages.specs.Endings.{ending_status}
@@ -31,7 +31,7 @@ its_own old new wb wn e status (inr (inr h)) refusal = absurd (other status 9 h.
 
 -- what is done has another status
 not_done : (e : Ending) (status : ℕ) → status ≡ ending_status e → IsRefusal status → ⊥
-not_done ending.Told status is refusal = other status 0 is (omega arith) (omega arith) (omega arith) (omega arith) refusal
+not_done ending.Printed status is refusal = other status 0 is (omega arith) (omega arith) (omega arith) (omega arith) refusal
 not_done ending.Decided status is refusal = other status 0 is (omega arith) (omega arith) (omega arith) (omega arith) refusal
 not_done ending.Denied status is refusal = other status 1 is (omega arith) (omega arith) (omega arith) (omega arith) refusal
 not_done ending.Undecided status is refusal = other status 3 is (omega arith) (omega arith) (omega arith) (omega arith) refusal
@@ -48,15 +48,15 @@ done_not_refused old new wb wn d status (inr (inl h)) refusal = other status 8 h
 done_not_refused old new wb wn d status (inr (inr h)) refusal = other status 9 h.0 (omega arith) (omega arith)
     (omega arith) (omega arith) refusal
 
--- a trouble whose status is that of a refusal is settled
-is_settled : (e : Trouble) → IsRefusal (trouble_status e) → IsSettled {A = Done} (Err e)
-is_settled trouble.Words refusal = tt
-is_settled (trouble.Unshown c d l) refusal = tt
-is_settled (trouble.Refused c d l) refusal = tt
-is_settled (trouble.CopyDiffers d l t s) refusal = tt
-is_settled (trouble.Limit k) refusal = tt
-is_settled (trouble.ReadFault name) refusal = other 7 7 refl (omega arith) (omega arith) (omega arith) (omega arith) refusal
-is_settled trouble.NoMemory refusal = other 9 9 refl (omega arith) (omega arith) (omega arith) (omega arith) refusal
+-- a trouble whose status is that of a refusal is determined
+is_determined : (e : Trouble) → IsRefusal (trouble_status e) → IsDetermined {A = Done} (Err e)
+is_determined trouble.Words refusal = tt
+is_determined (trouble.Unshown c d l) refusal = tt
+is_determined (trouble.Refused c d l) refusal = tt
+is_determined (trouble.CopyDiffers d l t s) refusal = tt
+is_determined (trouble.Limit k) refusal = tt
+is_determined (trouble.ReadFault name) refusal = other 7 7 refl (omega arith) (omega arith) (omega arith) (omega arith) refusal
+is_determined trouble.NoMemory refusal = other 9 9 refl (omega arith) (omega arith) (omega arith) (omega arith) refusal
 
 due_of : (texts : Option (List (List ℕ × List ℕ))) (count : ℕ) (words : List (List ℕ)) (e : Trouble) (status : ℕ)
     → status ≡ trouble_status e
@@ -66,13 +66,13 @@ due_of (Some told) count words e status is due = (e, due, is)
 
 pub refused : (texts : Option (List (List ℕ × List ℕ))) (count : ℕ) (words : List (List ℕ))
     (got : Result Done Trouble) (old new : Option (List ℕ)) (wb wn status : ℕ)
-    → (IsSettled got → IfSome texts (λ told. IsDue told count words got)) → EndsWith old new wb wn got status
+    → (IsDetermined got → IfSome texts (λ told. IsDue told count words got)) → EndsWith old new wb wn got status
     → IsRefusal status → IfSome texts (λ told. RefusalDue told count words status)
 refused texts count words (Ok d) old new wb wn status due ends refusal =
     absurd (done_not_refused old new wb wn d status ends refusal)
 refused texts count words (Err e) old new wb wn status due ends refusal =
     let is = its_own old new wb wn e status ends refusal in
-    due_of texts count words e status is (due (is_settled e (subst IsRefusal is refusal)))
+    due_of texts count words e status is (due (is_determined e (subst IsRefusal is refusal)))
 
 -- ---- the words
 

@@ -5,7 +5,7 @@ use Rattle.ask_command.proofs.Replies.{answer_due, answer_comes}
 use Rattle.certain_table.proofs.Replies.{certain_comes}
 use Rattle.certain_table.specs.Table.{ComesToTable, IsCertainTableDue, IsCertainTableOf}
 use Rattle.ask_command.specs.Asked.{ComesToAsked, IsAskDue}
-use Rattle.command_stages.specs.Named.{IsSettled, IsReadFault}
+use Rattle.command_stages.specs.Named.{IsDetermined, IsReadFault}
 use Rattle.command_stages.specs.Stages.{IsSpecRead, IsQuestionRead}
 use Rattle.command_stages.specs.declared.done.Done.{Done}
 use Rattle.command_stages.specs.declared.trouble.Trouble.{Trouble}
@@ -30,17 +30,17 @@ use Rattle.currency_edge.specs.Fault.{Rose}
 use Rattle.currency_report.specs.declared.report.ReadReport.{ReadReport}
 use Rattle.currency_cli.proofs.Explains.{explanation_due, explanation_comes}
 use Rattle.explain_command.specs.Explained.{IsExplainDue}
-use Rattle.forced_command.proofs.Replies.{told_due}
-use Rattle.forced_command.specs.Forced.{IsForcedDue, IsForcedTold}
+use Rattle.forced_command.proofs.Replies.{printed_due}
+use Rattle.forced_command.specs.Forced.{IsForcedDue, IsForcedPrinted}
 use Rattle.program_words.specs.Words.{AskSaid, CommandSaid, ConflictsSaid, ExplainSaid, GoldenSaid, PossibleSaid, TableSaid}
 use Rattle.program_words.specs.Words.{AskFor, CertainTableFor, ConflictsIn, ExplainFor, ForcedOf, GoldenIn, PossibleFor}
 use Rattle.program_words.specs.Words.{PossibleTableFor, VerifyOf, VerifySaid}
-use Rattle.report_model.specs.declared.verdict.Kind.{Kind}
+use Rattle.report_model.specs.declared.verdict.VerdictKind.{VerdictKind}
 use Rattle.spec_model.specs.Spec.{Spec}
 use Rattle.spec_model.specs.declared.question.Question.{Question}
 use Rattle.spec_model.specs.declared.question.Question.TheVariants as asked
 use Rattle.spec_model.specs.declared.relation.Relation.{Relation}
-use Rattle.told_answers.specs.Answers.{ComesToAnswer}
+use Rattle.answer_texts.specs.Answers.{ComesToAnswer}
 use Rattle.verify_command.proofs.Judging.{verify_judged}
 use Rattle.report_stages.specs.Judged.{IsJudged, IsReportRead}
 use Rattle.verify_command.specs.Judged.{IsVerifyDue, accepted}
@@ -68,7 +68,7 @@ ask_due told count words a got said due =
 pub answered : OneSpec → OneQuestion → (texts : Option (List (List ℕ × List ℕ))) (count : ℕ) (words : List (List ℕ))
     (got : Result Done Trouble)
     (old new : Option (List ℕ)) (rb rn wb wn status : ℕ)
-    → (IsSettled got → IfSome texts (λ told. IsDue told count words got)) → (IsReadFault got → Rose rb rn)
+    → (IsDetermined got → IfSome texts (λ told. IsDue told count words got)) → (IsReadFault got → Rose rb rn)
     → EndsWith old new wb wn got status
     → (Rose rb rn → ⊥) → (Rose wb wn → ⊥) → (a : AskSaid) → command_for count words ≡ Some (AskFor a) → (s : Spec) (q : Question)
     → IfSome texts (λ told. IsSpecRead told a.spec (Ok s) → IsQuestionRead told s.relations a.question (Ok q)
@@ -79,7 +79,7 @@ answered one_spec one_question (Some told) count words got old new rb rn wb wn s
     of spec question (own_status got old new rb rn wb wn status rose ends reads writes)
   where
     of : IsSpecRead told a.spec (Ok s) → IsQuestionRead told s.relations a.question (Ok q) →
-        (IsSettled got × (status ≡ status_of got)) ⊎ (status ≡ 9)
+        (IsDetermined got × (status ≡ status_of got)) ⊎ (status ≡ 9)
         → ComesToAsked s a q status
     of spec question (inl own) =
         answer_comes s a q got status (answer_due one_spec one_question told a s q got spec question
@@ -88,7 +88,7 @@ answered one_spec one_question (Some told) count words got old new rb rn wb wn s
 
 -- ---- verify
 
-judged_comes : (s : Spec) (q : Question) (name : List ℕ) (r : ReadReport) (judged : Result Kind Trouble)
+judged_comes : (s : Spec) (q : Question) (name : List ℕ) (r : ReadReport) (judged : Result VerdictKind Trouble)
     (got : Result Done Trouble) (status : ℕ)
     → IsJudged s q name r judged → got ≡ accepted judged → status ≡ status_of got → (status ≡ 0) ⊎ ((status ≡ 4) ⊎ (status ≡ 9))
 judged_comes s q name r judged got status (inl h) same is =
@@ -104,7 +104,7 @@ verify_due told count words v got said due =
 pub verified : OneSpec → OneQuestion → OneReport → (texts : Option (List (List ℕ × List ℕ))) (count : ℕ)
     (words : List (List ℕ)) (got : Result Done Trouble)
     (old new : Option (List ℕ)) (rb rn wb wn status : ℕ)
-    → (IsSettled got → IfSome texts (λ told. IsDue told count words got)) → (IsReadFault got → Rose rb rn)
+    → (IsDetermined got → IfSome texts (λ told. IsDue told count words got)) → (IsReadFault got → Rose rb rn)
     → EndsWith old new wb wn got status
     → (Rose rb rn → ⊥) → (Rose wb wn → ⊥) → (v : VerifySaid) → command_for count words ≡ Some (VerifyOf v) →
     (s : Spec) (q : Question) (r : ReadReport)
@@ -119,7 +119,7 @@ verified one_spec one_question one_report (Some told) count words got old new rb
   where
     of : IsSpecRead told v.spec (Ok s) → IsQuestionRead told s.relations v.question (Ok q)
         → IsReportRead told s.relations v.report (Ok r)
-        → (IsSettled got × (status ≡ status_of got)) ⊎ (status ≡ 9) → (status ≡ 0) ⊎ ((status ≡ 4) ⊎ (status ≡ 9))
+        → (IsDetermined got × (status ≡ status_of got)) ⊎ (status ≡ 9) → (status ≡ 0) ⊎ ((status ≡ 4) ⊎ (status ≡ 9))
     of spec question report (inl own) =
         let h = verify_judged one_spec one_question one_report told v s q r got spec question report
         (verify_due told count words v got said (due own.0)) in
@@ -135,7 +135,7 @@ forced_due told count words name got said due =
 
 pub listed : OneSpec → (texts : Option (List (List ℕ × List ℕ))) (count : ℕ) (words : List (List ℕ)) (got : Result Done Trouble)
     (old new : Option (List ℕ)) (rb rn wb wn status : ℕ)
-    → (IsSettled got → IfSome texts (λ told. IsDue told count words got)) → (IsReadFault got → Rose rb rn)
+    → (IsDetermined got → IfSome texts (λ told. IsDue told count words got)) → (IsReadFault got → Rose rb rn)
     → EndsWith old new wb wn got status
     → (Rose rb rn → ⊥) → (Rose wb wn → ⊥) → (name : List ℕ) → command_for count words ≡ Some (ForcedOf name) → (s : Spec)
     → IfSome texts (λ told. IsSpecRead told name (Ok s) → (status ≡ 0) ⊎ (status ≡ 9))
@@ -143,9 +143,9 @@ listed one_spec None count words got old new rb rn wb wn status due rose ends re
 listed one_spec (Some told) count words got old new rb rn wb wn status due rose ends reads writes name said s = λ spec.
     of spec (own_status got old new rb rn wb wn status rose ends reads writes)
   where
-    of : IsSpecRead told name (Ok s) → (IsSettled got × (status ≡ status_of got)) ⊎ (status ≡ 9) → (status ≡ 0) ⊎ (status ≡ 9)
+    of : IsSpecRead told name (Ok s) → (IsDetermined got × (status ≡ status_of got)) ⊎ (status ≡ 9) → (status ≡ 0) ⊎ (status ≡ 9)
     of spec (inl own) =
-        let h : IsForcedTold s got = told_due one_spec told name s got spec
+        let h : IsForcedPrinted s got = printed_due one_spec told name s got spec
         (forced_due told count words name got said (due own.0)) in
         inl (own.1 ∙ ap (λ (o : Result Done Trouble). status_of o) h.2)
     of spec (inr nine) = inr nine
@@ -160,7 +160,7 @@ explain_due told count words e got said due =
 pub explained : OneSpec → OneQuestion → (texts : Option (List (List ℕ × List ℕ))) (count : ℕ) (words : List (List ℕ))
     (got : Result Done Trouble)
     (old new : Option (List ℕ)) (rb rn wb wn status : ℕ)
-    → (IsSettled got → IfSome texts (λ told. IsDue told count words got)) → (IsReadFault got → Rose rb rn)
+    → (IsDetermined got → IfSome texts (λ told. IsDue told count words got)) → (IsReadFault got → Rose rb rn)
     → EndsWith old new wb wn got status
     → (Rose rb rn → ⊥) → (Rose wb wn → ⊥) → (e : ExplainSaid) → command_for count words ≡ Some (ExplainFor e)
     → (s : Spec) (q : Question)
@@ -172,7 +172,7 @@ explained one_spec one_question (Some told) count words got old new rb rn wb wn 
     of spec question (own_status got old new rb rn wb wn status rose ends reads writes)
   where
     of : IsSpecRead told e.spec (Ok s) → IsQuestionRead told s.relations e.question (Ok q) →
-        (IsSettled got × (status ≡ status_of got)) ⊎ (status ≡ 9)
+        (IsDetermined got × (status ≡ status_of got)) ⊎ (status ≡ 9)
         → ComesToAnswer s q status
     of spec question (inl own) =
         explanation_comes s e q got status (explanation_due one_spec one_question told e s q got spec question
@@ -192,7 +192,7 @@ decided_or_not (inr three) = inr (inl three)
 
 pub blamed : OneSpec → (texts : Option (List (List ℕ × List ℕ))) (count : ℕ) (words : List (List ℕ)) (got : Result Done Trouble)
     (old new : Option (List ℕ)) (rb rn wb wn status : ℕ)
-    → (IsSettled got → IfSome texts (λ told. IsDue told count words got)) → (IsReadFault got → Rose rb rn)
+    → (IsDetermined got → IfSome texts (λ told. IsDue told count words got)) → (IsReadFault got → Rose rb rn)
     → EndsWith old new wb wn got status
     → (Rose rb rn → ⊥) → (Rose wb wn → ⊥) → (c : ConflictsSaid) → command_for count words ≡ Some (ConflictsIn c) → (s : Spec)
     → IfSome texts (λ told. IsSpecRead told c.spec (Ok s) → (status ≡ 0) ⊎ ((status ≡ 3) ⊎ (status ≡ 9)))
@@ -200,7 +200,7 @@ blamed one_spec None count words got old new rb rn wb wn status due rose ends re
 blamed one_spec (Some told) count words got old new rb rn wb wn status due rose ends reads writes c said s = λ spec.
     of spec (own_status got old new rb rn wb wn status rose ends reads writes)
   where
-    of : IsSpecRead told c.spec (Ok s) → (IsSettled got × (status ≡ status_of got)) ⊎ (status ≡ 9)
+    of : IsSpecRead told c.spec (Ok s) → (IsDetermined got × (status ≡ status_of got)) ⊎ (status ≡ 9)
         → (status ≡ 0) ⊎ ((status ≡ 3) ⊎ (status ≡ 9))
     of spec (inl own) =
         decided_or_not (found_comes s c got status (found_due one_spec told c s got spec
@@ -214,15 +214,15 @@ record_due : (told : List (List ℕ × List ℕ)) (count : ℕ) (words : List (L
 record_due told count words g got said due =
     subst (λ (o : Option CommandSaid). MatchOption o (got ≡ Err trouble.Words) (λ x. IsDueFor told x got)) said due
 
-told_or_not : {status : ℕ} → (status ≡ 0) ⊎ ((status ≡ 3) ⊎ (status ≡ 10))
+printed_or_not : {status : ℕ} → (status ≡ 0) ⊎ ((status ≡ 3) ⊎ (status ≡ 10))
     → (status ≡ 0) ⊎ ((status ≡ 3) ⊎ ((status ≡ 10) ⊎ (status ≡ 9)))
-told_or_not (inl zero) = inl zero
-told_or_not (inr (inl three)) = inr (inl three)
-told_or_not (inr (inr ten)) = inr (inr (inl ten))
+printed_or_not (inl zero) = inl zero
+printed_or_not (inr (inl three)) = inr (inl three)
+printed_or_not (inr (inr ten)) = inr (inr (inl ten))
 
 pub recorded : OneSpec → (texts : Option (List (List ℕ × List ℕ))) (count : ℕ) (words : List (List ℕ)) (got : Result Done Trouble)
     (old new : Option (List ℕ)) (rb rn wb wn status : ℕ)
-    → (IsSettled got → IfSome texts (λ told. IsDue told count words got)) → (IsReadFault got → Rose rb rn)
+    → (IsDetermined got → IfSome texts (λ told. IsDue told count words got)) → (IsReadFault got → Rose rb rn)
     → EndsWith old new wb wn got status
     → (Rose rb rn → ⊥) → (Rose wb wn → ⊥) → (g : GoldenSaid) → command_for count words ≡ Some (GoldenIn g)
     → (s : Spec) (rel : ℕ)
@@ -233,12 +233,12 @@ recorded one_spec (Some told) count words got old new rb rn wb wn status due ros
     λ spec named. of spec named (own_status got old new rb rn wb wn status rose ends reads writes)
   where
     of : IsSpecRead told g.spec (Ok s) → relation_named s.relations g.relation ≡ Some rel
-        → (IsSettled got × (status ≡ status_of got)) ⊎ (status ≡ 9)
+        → (IsDetermined got × (status ≡ status_of got)) ⊎ (status ≡ 9)
         → (status ≡ 0) ⊎ ((status ≡ 3) ⊎ ((status ≡ 10) ⊎ (status ≡ 9)))
     of spec named (inl own) =
         let found : IsGoldenFound told g s got =
         golden_due_found one_spec told g s got spec (record_due told count words g got said (due own.0)) in
-        told_or_not (golden_comes found.0 s g rel got status found.2 named own.1)
+        printed_or_not (golden_comes found.0 s g rel got status found.2 named own.1)
     of spec named (inr nine) = inr (inr (inr nine))
 
 -- ---- what may hold
@@ -257,7 +257,7 @@ decided_or_limit s q status (inr (inr six)) = inr (inr (inl six))
 pub imagined : OneSpec → OneQuestion → (texts : Option (List (List ℕ × List ℕ))) (count : ℕ) (words : List (List ℕ))
     (got : Result Done Trouble)
     (old new : Option (List ℕ)) (rb rn wb wn status : ℕ)
-    → (IsSettled got → IfSome texts (λ told. IsDue told count words got)) → (IsReadFault got → Rose rb rn)
+    → (IsDetermined got → IfSome texts (λ told. IsDue told count words got)) → (IsReadFault got → Rose rb rn)
     → EndsWith old new wb wn got status
     → (Rose rb rn → ⊥) → (Rose wb wn → ⊥) → (p : PossibleSaid) → command_for count words ≡ Some (PossibleFor p)
     → (s : Spec) (q : Question)
@@ -269,7 +269,7 @@ imagined one_spec one_question (Some told) count words got old new rb rn wb wn s
     of spec question (own_status got old new rb rn wb wn status rose ends reads writes)
   where
     of : IsSpecRead told p.spec (Ok s) → IsQuestionRead told s.relations p.question (Ok q) →
-        (IsSettled got × (status ≡ status_of got)) ⊎ (status ≡ 9)
+        (IsDetermined got × (status ≡ status_of got)) ⊎ (status ≡ 9)
         → (status ≡ 0) ⊎ ((status ≡ 3) ⊎ (((status ≡ 6) × HasTooManyCandidates s.relations q) ⊎ (status ≡ 9)))
     of spec question (inl own) =
         decided_or_limit s q status (possible_comes s p q got status (possible_due one_spec one_question told p s q got spec question
@@ -286,7 +286,7 @@ certain_table_due told count words t got said due =
 pub tabled : OneSpec → OneQuestion → (texts : Option (List (List ℕ × List ℕ))) (count : ℕ) (words : List (List ℕ))
     (got : Result Done Trouble)
     (old new : Option (List ℕ)) (rb rn wb wn status : ℕ)
-    → (IsSettled got → IfSome texts (λ told. IsDue told count words got)) → (IsReadFault got → Rose rb rn)
+    → (IsDetermined got → IfSome texts (λ told. IsDue told count words got)) → (IsReadFault got → Rose rb rn)
     → EndsWith old new wb wn got status
     → (Rose rb rn → ⊥) → (Rose wb wn → ⊥) → (t : TableSaid) → command_for count words ≡ Some (CertainTableFor t)
     → (s : Spec) (query : Query)
@@ -299,7 +299,7 @@ tabled one_spec one_question (Some told) count words got old new rb rn wb wn sta
     of spec question (own_status got old new rb rn wb wn status rose ends reads writes)
   where
     of : IsSpecRead told t.spec (Ok s) → IsQuestionRead told s.relations t.question (Ok (asked.Answers query))
-        → (IsSettled got × (status ≡ status_of got)) ⊎ (status ≡ 9)
+        → (IsDetermined got × (status ≡ status_of got)) ⊎ (status ≡ 9)
         → ComesToTable s (asked.Answers query) status ⊎ (status ≡ 9)
     of spec question (inl own) =
         let job = query_due told t (IsCertainTableOf t.budget) one_spec one_question s query got spec question
@@ -315,7 +315,7 @@ possible_table_due told count words t got said due =
 pub possibly_tabled : OneSpec → OneQuestion → (texts : Option (List (List ℕ × List ℕ))) (count : ℕ) (words : List (List ℕ))
     (got : Result Done Trouble)
     (old new : Option (List ℕ)) (rb rn wb wn status : ℕ)
-    → (IsSettled got → IfSome texts (λ told. IsDue told count words got)) → (IsReadFault got → Rose rb rn)
+    → (IsDetermined got → IfSome texts (λ told. IsDue told count words got)) → (IsReadFault got → Rose rb rn)
     → EndsWith old new wb wn got status
     → (Rose rb rn → ⊥) → (Rose wb wn → ⊥) → (t : TableSaid) → command_for count words ≡ Some (PossibleTableFor t)
     → (s : Spec) (query : Query)
@@ -329,7 +329,7 @@ possibly_tabled one_spec one_question (Some told) count words got old new rb rn 
     of spec question (own_status got old new rb rn wb wn status rose ends reads writes)
   where
     of : IsSpecRead told t.spec (Ok s) → IsQuestionRead told s.relations t.question (Ok (asked.Answers query))
-        → (IsSettled got × (status ≡ status_of got)) ⊎ (status ≡ 9)
+        → (IsDetermined got × (status ≡ status_of got)) ⊎ (status ≡ 9)
         → ComesToPossibleTable s (asked.Answers query) status ⊎ (status ≡ 9)
     of spec question (inl own) =
         let job = query_due told t (IsPossibleTableOf t.budget) one_spec one_question s query got spec question

@@ -3,7 +3,7 @@
 use Rattle.std.specs.Prelude.{◌≡◌, ◌⊎◌, ℕ, List, Option, Some, None, IfSome, Result, Ok}
 use Rattle.ask_command.specs.Asked.{ComesToAsked}
 use Rattle.certain_table.specs.Table.{ComesToTable}
-use Rattle.command_stages.specs.Named.{IsReadFault, IsReadFaultOf, IsSettled}
+use Rattle.command_stages.specs.Named.{IsDetermined, IsReadFault, IsReadFaultOf}
 use Rattle.command_stages.specs.Stages.{IsQuestionRead, IsSpecRead}
 use Rattle.command_stages.specs.declared.done.Done.{Done}
 use Rattle.command_stages.specs.declared.trouble.Trouble.{Trouble}
@@ -23,7 +23,7 @@ use Rattle.report_stages.specs.Judged.{IsReportRead}
 use Rattle.spec_model.specs.Spec.{Spec}
 use Rattle.spec_model.specs.declared.question.Question.{Question}
 use Rattle.spec_model.specs.declared.question.Question.TheVariants as asked
-use Rattle.told_answers.specs.Answers.{ComesToAnswer}
+use Rattle.answer_texts.specs.Answers.{ComesToAnswer}
 use Rattle.trial_command.specs.Trial.{IsTrialDue}
 
 -- ---- what comes, and what is due
@@ -34,7 +34,7 @@ abbrev pub Ends : Option (List (List ℕ × List ℕ)) → ℕ → List (List �
     → ℕ → Type 0
 Ends texts count words reads_before reads_now old new writes_before writes_now status =
     (outcome : Result Done Trouble)
-    × (IsSettled outcome → IfSome texts (λ told. IsDue told count words outcome))
+    × (IsDetermined outcome → IfSome texts (λ told. IsDue told count words outcome))
     × (IsReadFault outcome → Rose reads_before reads_now)
     × ((n : List ℕ) → IsReadFaultOf outcome n → IfSome texts (λ told. IsReadDue told count words n))
     × EndsWith old new writes_before writes_now outcome status
@@ -143,5 +143,5 @@ PossiblyTables texts count words status =
 abbrev pub Tries : ℕ → List (List ℕ) → Option (List ℕ) → Option (List ℕ) → ℕ → ℕ → ℕ → Type 0
 Tries count words old new writes_before writes_now status =
     (size : ℕ) → command_for count words ≡ Some (TrialOf size)
-    → (outcome : Result Done Trouble) × (IsSettled outcome → IsTrialDue size outcome) × (IsReadFault outcome → ⊥)
+    → (outcome : Result Done Trouble) × (IsDetermined outcome → IsTrialDue size outcome) × (IsReadFault outcome → ⊥)
     × EndsWith old new writes_before writes_now outcome status

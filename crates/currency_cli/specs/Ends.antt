@@ -1,29 +1,29 @@
 -- How the program ends: with which status, and what its sink got.
 use Rattle.std.specs.Prelude.{◌≡◌, ◌⊎◌, ℕ, List, Option, Some, IfSome, Result, Ok, Err}
 use Rattle.std.specs.Io.KnownBytes.{Appends}
-use Rattle.ask_command.specs.Asked.{IsAnswerTold, IsAskDenied, IsAskSpent}
+use Rattle.ask_command.specs.Asked.{IsAnswerPrinted, IsAskDenied, IsAskSpent}
 use Rattle.certain_table.specs.Table.{IsCertainTabled, IsTableBare, IsTableShort}
 use Rattle.command_stages.specs.Outcomes.{output_of, status_of}
 use Rattle.command_stages.specs.Texts.{trouble_text, trouble_status}
 use Rattle.command_stages.specs.declared.done.Done.{Done}
 use Rattle.command_stages.specs.declared.done.Ending.{Ending}
-use Rattle.command_stages.specs.declared.done.Ending.TheVariants.{Told, Decided, Denied, Undecided, Tabled, Inconsistent, Open}
+use Rattle.command_stages.specs.declared.done.Ending.TheVariants.{Printed, Decided, Denied, Undecided, Tabled, Inconsistent, Open}
 use Rattle.command_stages.specs.declared.trouble.Trouble.{Trouble}
 use Rattle.command_stages.specs.declared.trouble.Trouble.TheVariants.{Limit, ReadFault}
-use Rattle.conflicts_command.specs.Found.{AreConflictsTold}
+use Rattle.conflicts_command.specs.Found.{AreConflictsPrinted}
 use Rattle.currency_cli.specs.Due.{IsDue, IsReadDue}
 use Rattle.currency_cli.specs.Words.{command_for}
 use Rattle.currency_edge.specs.Fault.{Rose}
 use Rattle.currency_edge.specs.Sink.{AppendsPrefix}
-use Rattle.explain_command.specs.Explained.{IsExplainTold}
+use Rattle.explain_command.specs.Explained.{IsExplainPrinted}
 use Rattle.forced_command.specs.Forced.{AreForcedListed}
-use Rattle.golden_command.specs.Golden.{IsGoldenTold}
-use Rattle.possible_command.specs.Possible.{IsPossibleTold}
+use Rattle.golden_command.specs.Golden.{IsGoldenPrinted}
+use Rattle.possible_command.specs.Possible.{IsPossiblePrinted}
 use Rattle.possible_table.specs.Table.{IsPossibleTableBare, IsPossibleTableShort, IsPossibleTabled}
 use Rattle.program_words.specs.Words.{AskFor, CertainTableFor, CommandSaid, ConflictsIn, ExplainFor, ForcedOf, GoldenIn}
 use Rattle.program_words.specs.Words.{PossibleFor, PossibleTableFor, TrialOf, VerifyOf}
-use Rattle.report_model.specs.declared.verdict.Kind.{Kind}
-use Rattle.trial_command.specs.Trial.{IsTrialTold, IsTrialSpent}
+use Rattle.report_model.specs.declared.verdict.VerdictKind.{VerdictKind}
+use Rattle.trial_command.specs.Trial.{IsTrialPrinted, IsTrialSpent}
 use Rattle.verify_command.specs.Judged.{accepted_text}
 use Rattle.verify_command.specs.Shown.{IsShownRight}
 
@@ -43,14 +43,14 @@ EndsWith old new before now outcome status =
 
 -- what is told where a command's job is done, and the text that is written
 abbrev pub IsJobDone : List (List ℕ × List ℕ) → CommandSaid → List ℕ → Type 0
-IsJobDone told (VerifyOf v) text = (kind : Kind) × IsShownRight told v kind × (text ≡ accepted_text kind)
-IsJobDone told (AskFor a) text = IsAnswerTold told a text Decided
+IsJobDone told (VerifyOf v) text = (kind : VerdictKind) × IsShownRight told v kind × (text ≡ accepted_text kind)
+IsJobDone told (AskFor a) text = IsAnswerPrinted told a text Decided
 IsJobDone told (ForcedOf name) text = AreForcedListed told name text
-IsJobDone told (TrialOf size) text = IsTrialTold size text Decided
-IsJobDone told (ExplainFor e) text = IsExplainTold told e text Decided
-IsJobDone told (ConflictsIn c) text = AreConflictsTold told c text Decided
-IsJobDone told (GoldenIn g) text = IsGoldenTold told g text Tabled
-IsJobDone told (PossibleFor p) text = IsPossibleTold told p text Decided
+IsJobDone told (TrialOf size) text = IsTrialPrinted size text Decided
+IsJobDone told (ExplainFor e) text = IsExplainPrinted told e text Decided
+IsJobDone told (ConflictsIn c) text = AreConflictsPrinted told c text Decided
+IsJobDone told (GoldenIn g) text = IsGoldenPrinted told g text Tabled
+IsJobDone told (PossibleFor p) text = IsPossiblePrinted told p text Decided
 IsJobDone told (CertainTableFor t) text = IsCertainTabled told t text
 IsJobDone told (PossibleTableFor t) text = IsPossibleTabled told t text
 
@@ -74,7 +74,7 @@ pub record IsDenied (texts : Option (List (List ℕ × List ℕ))) (count : ℕ)
   pub command : CommandSaid
   pub said : command_for count words ≡ Some command
   pub text : List ℕ
-  pub told : IfSome texts (λ told. IsNo told command text)
+  pub printed : IfSome texts (λ told. IsNo told command text)
   pub written : Appends old new text
 
 -- a question of the command was not decided: this is the whole report, whose log has as many counted steps as the
@@ -82,10 +82,10 @@ pub record IsDenied (texts : Option (List (List ℕ × List ℕ))) (count : ℕ)
 abbrev pub IsSpent : List (List ℕ × List ℕ) → CommandSaid → List ℕ → Type 0
 IsSpent told (AskFor ask) text = IsAskSpent told ask text
 IsSpent told (TrialOf size) text = IsTrialSpent size text
-IsSpent told (ExplainFor e) text = IsExplainTold told e text Undecided
-IsSpent told (ConflictsIn c) text = AreConflictsTold told c text Undecided
-IsSpent told (GoldenIn g) text = IsGoldenTold told g text Open
-IsSpent told (PossibleFor p) text = IsPossibleTold told p text Undecided
+IsSpent told (ExplainFor e) text = IsExplainPrinted told e text Undecided
+IsSpent told (ConflictsIn c) text = AreConflictsPrinted told c text Undecided
+IsSpent told (GoldenIn g) text = IsGoldenPrinted told g text Open
+IsSpent told (PossibleFor p) text = IsPossiblePrinted told p text Undecided
 IsSpent told (CertainTableFor t) text = IsTableShort told t text
 IsSpent told (PossibleTableFor t) text = IsPossibleTableShort told t text
 IsSpent told command text = ⊥
@@ -96,12 +96,12 @@ pub record IsUndecided (texts : Option (List (List ℕ × List ℕ))) (count : �
   pub command : CommandSaid
   pub said : command_for count words ≡ Some command
   pub text : List ℕ
-  pub told : IfSome texts (λ told. IsSpent told command text)
+  pub printed : IfSome texts (λ told. IsSpent told command text)
   pub written : Appends old new text
 
 -- a table was asked for, and there is no consistent completion of which it could tell
 abbrev pub IsBare : List (List ℕ × List ℕ) → CommandSaid → List ℕ → Type 0
-IsBare told (GoldenIn g) text = IsGoldenTold told g text Inconsistent
+IsBare told (GoldenIn g) text = IsGoldenPrinted told g text Inconsistent
 IsBare told (CertainTableFor t) text = IsTableBare told t text
 IsBare told (PossibleTableFor t) text = IsPossibleTableBare told t text
 IsBare told command text = ⊥
@@ -112,7 +112,7 @@ pub record IsInconsistent (texts : Option (List (List ℕ × List ℕ))) (count 
   pub command : CommandSaid
   pub said : command_for count words ≡ Some command
   pub text : List ℕ
-  pub told : IfSome texts (λ told. IsBare told command text)
+  pub printed : IfSome texts (λ told. IsBare told command text)
   pub written : Appends old new text
 
 -- ---- the other way round
@@ -121,7 +121,7 @@ pub record IsInconsistent (texts : Option (List (List ℕ × List ℕ))) (count 
 -- may have more answers over one completion than are gone through, and fewer over another; a table may be whole or not, or there is nothing that it could tell of, or, where it is
 -- one of answers, they are too many over one completion
 abbrev pub HasEndStatus : Ending → ℕ → Type 0
-HasEndStatus Told status = status ≡ 0
+HasEndStatus Printed status = status ≡ 0
 HasEndStatus Decided status = (status ≡ 0) ⊎ ((status ≡ 3) ⊎ (status ≡ 6))
 HasEndStatus Denied status = (status ≡ 1) ⊎ (status ≡ 3)
 HasEndStatus Undecided status = (status ≡ 1) ⊎ ((status ≡ 0) ⊎ ((status ≡ 3) ⊎ (status ≡ 6)))

@@ -1,5 +1,5 @@
 pub mod Words
 pub mod Due
 pub mod Ends
-pub mod Told
+pub mod Printed
 pub mod Clauses

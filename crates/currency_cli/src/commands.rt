@@ -4,10 +4,10 @@ ghost use Rattle.program_words.specs.Said.{said_of};
 ghost use Rattle.program_words.specs.Words.{TrialOf};
 ghost use Rattle.trial_command.specs.Trial.{IsTrialDue};
 ghost use Rattle.solver_guides.specs.Rings.{count_of};
-ghost use Rattle.currency_cli.specs.Told.{IsTold, IsToldFor};
+ghost use Rattle.currency_cli.specs.Printed.{IsPrinted, IsPrintedFor};
 ghost use Rattle.currency_cli.specs.Due.{IsDueFor, IsDue, IsDocumentDue, IsReadDue};
 ghost use Rattle.currency_cli.specs.Words.{IsInRange, command_for};
-ghost use Rattle.command_stages.specs.Named.{IsSettled, IsReadFault, IsReadFaultOf};
+ghost use Rattle.command_stages.specs.Named.{IsDetermined, IsReadFault, IsReadFaultOf};
 
 use crate::words::command_kept;
 use ask_command::ask_documents;
@@ -35,13 +35,13 @@ fn outcome_of<S: Shelf>(
 ) -> Result<Done, Trouble>
     requires { IsInRange (said_of command) }
     ensures later { S.faults shelf.old ≤ S.faults shelf.new }
-    ensures due { IsSettled result → IfSome (S.texts shelf.old) (λ told. IsDueFor told (said_of command.entry) result) }
-    ensures told { IfOk result (λ done. IfSome (S.texts shelf.old) (λ told. IsTold told (said_of command.entry) done)) }
+    ensures due { IsDetermined result → IfSome (S.texts shelf.old) (λ told. IsDueFor told (said_of command.entry) result) }
+    ensures printed { IfOk result (λ done. IfSome (S.texts shelf.old) (λ told. IsPrinted told (said_of command.entry) done)) }
     ensures read_fault { IsReadFault result → Rose (S.faults shelf.old) (S.faults shelf.new) }
     ensures unread { (n : List ℕ) → IsReadFaultOf result n
         → IfSome (S.texts shelf.old) (λ told. IsDocumentDue told (said_of command.entry) n) }
     ensures not_words { IfErr result (λ e. e ≢ Trouble.Words) }
-    ensures generated { (size : ℕ) → said_of command.entry ≡ TrialOf size → IsSettled result → IsTrialDue size result }
+    ensures generated { (size : ℕ) → said_of command.entry ≡ TrialOf size → IsDetermined result → IsTrialDue size result }
     ensures unshelved { (size : ℕ) → said_of command.entry ≡ TrialOf size → IsReadFault result → ⊥ }
 {
     match command {
@@ -67,9 +67,9 @@ pub fn outcome<S: Shelf>(
     guides: &mut Guides,
 ) -> Result<Done, Trouble>
     ensures later { S.faults shelf.old ≤ S.faults shelf.new }
-    ensures due { IsSettled result → IfSome (S.texts shelf.old) (λ told. IsDue told (count_of guides.old)
+    ensures due { IsDetermined result → IfSome (S.texts shelf.old) (λ told. IsDue told (count_of guides.old)
         (map (λ w. string_bytes w) words.now) result) }
-    ensures told { IfOk result (λ done. IsToldFor (S.texts shelf.old) (count_of guides.old)
+    ensures printed { IfOk result (λ done. IsPrintedFor (S.texts shelf.old) (count_of guides.old)
         (map (λ w. string_bytes w) words.now) done) }
     ensures read_fault { IsReadFault result → Rose (S.faults shelf.old) (S.faults shelf.new) }
     ensures unread { (n : List ℕ) → IsReadFaultOf result n
@@ -78,7 +78,7 @@ pub fn outcome<S: Shelf>(
     ensures words_refused { command_for (count_of guides.old) (map (λ w. string_bytes w) words.now) ≡ None
         → (result ≡ Err Trouble.Words) ⊎ (result ≡ Err Trouble.NoMemory) }
     ensures generated { (size : ℕ) → command_for (count_of guides.old) (map (λ w. string_bytes w) words.now) ≡ Some (TrialOf size)
-        → IsSettled result → IsTrialDue size result }
+        → IsDetermined result → IsTrialDue size result }
     ensures unshelved { (size : ℕ) → command_for (count_of guides.old) (map (λ w. string_bytes w) words.now) ≡ Some (TrialOf size)
         → IsReadFault result → ⊥ }
 {

@@ -7,12 +7,12 @@ use Rattle.std.proofs.Math.IntN.{ℤ}
 use Rattle.std.proofs.lemmas.List.Elements.{All-nil, All-cons, All-same}
 use Rattle.currency_base.specs.Values.{kind_of}
 use Rattle.currency_base.specs.Number.{int_of}
-use Rattle.currency_base.specs.declared.value.Kind.{Kind}
-use Rattle.currency_base.specs.declared.value.Kind.TheVariants as kind
+use Rattle.currency_base.specs.declared.value.ValueKind.{ValueKind}
+use Rattle.currency_base.specs.declared.value.ValueKind.TheVariants as kind
 use Rattle.currency_base.specs.declared.value.Value.{Value}
 use Rattle.currency_base.specs.declared.value.Value.TheVariants as value
 use Rattle.currency_csv.specs.Table.{Record, all_ok, fault_at, first_missing, first_ragged, place_of, table_of, table_with, tuple_of, tuples_of, value_in, value_of, with_first}
-use Rattle.currency_csv.specs.Told.{told}
+use Rattle.currency_csv.specs.Capped.{capped}
 use Rattle.currency_csv.specs.declared.table.Column.{Column}
 use Rattle.currency_csv.specs.declared.table.Table.{Table}
 use Rattle.currency_csv.specs.declared.table.TableFault.{TableFault}
@@ -42,7 +42,7 @@ each_ok P f each (x ∷ xs) items is =
 
 -- ---- one value
 
-value_kind : (k : Kind) (field : List ℕ) (v : Value) → value_of k field ≡ Some v → kind_of v ≡ k
+value_kind : (k : ValueKind) (field : List ℕ) (v : Value) → value_of k field ≡ Some v → kind_of v ≡ k
 value_kind kind.Text field v is = let same : value.Text field ≡ v = cc in sym (ap kind_of same)
 value_kind kind.Int field v is = by (int_of field) is
   where
@@ -50,7 +50,7 @@ value_kind kind.Int field v is = by (int_of field) is
     by None e = cc
     by (Some n) e = let same : value.Int n ≡ v = cc in sym (ap kind_of same)
 
-kind_at : (place : Option ℕ) (k : Kind) (fields : Record) (v : Value)
+kind_at : (place : Option ℕ) (k : ValueKind) (fields : Record) (v : Value)
     → option_and_then (λ place. value_of k (slice_index_or fields place [])) place ≡ Some v → kind_of v ≡ k
 kind_at None k fields v is = cc
 kind_at (Some place) k fields v is = value_kind k (slice_index_or fields place []) v is
@@ -71,15 +71,15 @@ kind_in header fields column fault v is =
 -- ---- the values of a record
 
 kinds_in : (header fields : Record) (number n : ℕ) (columns : List Column) (values : List Value)
-    → all_ok (map (λ (place, column). ok_or (value_in header fields column) (BadInt (told number) (told place)))
+    → all_ok (map (λ (place, column). ok_or (value_in header fields column) (BadInt (capped number) (capped place)))
     (enumerate_from n columns)) ≡ Ok values
     → map kind_of values ≡ map (λ c. c.kind) columns
 kinds_in header fields number n [] values is = let none : values ≡ [] = cc in ap (map kind_of) none
 kinds_in header fields number n (c ∷ columns) values is =
-    let p = all_ok-parts (ok_or (value_in header fields c) (BadInt (told number) (told n)))
-    (map (λ (place, column). ok_or (value_in header fields column) (BadInt (told number) (told place)))
+    let p = all_ok-parts (ok_or (value_in header fields c) (BadInt (capped number) (capped n)))
+    (map (λ (place, column). ok_or (value_in header fields column) (BadInt (capped number) (capped place)))
     (enumerate_from (n + 1) columns)) values is in
-    let first : kind_of p.0 ≡ c.kind = kind_in header fields c (BadInt (told number) (told n)) p.0 p.2 in
+    let first : kind_of p.0 ≡ c.kind = kind_in header fields c (BadInt (capped number) (capped n)) p.0 p.2 in
     let rest : map kind_of p.1 ≡ map (λ c. c.kind) columns = kinds_in header fields number (n + 1) columns p.1 p.3 in
     ap (map kind_of) p.4 ∙ ap (λ k. k ∷ map kind_of p.1) first ∙ ap (λ ks. c.kind ∷ ks) rest
 

@@ -4,7 +4,7 @@ use Rattle.std.specs.Option.{option_flatten}
 use Rattle.currency_base.specs.declared.value.Value.{Value}
 use Rattle.currency_csv.specs.Sources.{read_value, seen_of, source_of}
 use Rattle.currency_csv.specs.Table.{Record, place_of, places_in, value_of}
-use Rattle.currency_csv.specs.Told.{told}
+use Rattle.currency_csv.specs.Capped.{capped}
 use Rattle.currency_csv.specs.declared.columns.Source.{Source}
 use Rattle.currency_csv.specs.declared.table.Column.{Column}
 use Rattle.currency_csv.specs.declared.table.TableFault.TheVariants.{MissingColumn, BadInt}
@@ -21,7 +21,7 @@ unfolding source_of
 source_found header number place column e = rw (← e) refl
 
 pub source_missing : (header : Record) (number : ℕ) (column : Column) → None ≡ place_of header column
-    → source_of header (number, column) ≡ Err (MissingColumn (told number))
+    → source_of header (number, column) ≡ Err (MissingColumn (capped number))
 unfolding source_of
 source_missing header number column e = rw (← e) refl
 
@@ -34,7 +34,7 @@ value_found number place fields source value e = rw (← e) refl
 
 pub value_missing : (number place : ℕ) (fields : Record) (source : Source) → None ≡ value_of source.kind
     (get_or fields source.place [])
-    → read_value number fields (place, source) ≡ Err (BadInt number (told place))
+    → read_value number fields (place, source) ≡ Err (BadInt number (capped place))
 unfolding read_value
 value_missing number place fields source e = rw (← e) refl
 
@@ -44,5 +44,5 @@ no_item None h = refl
 no_item (Some x) h = absurd (h x refl)
 
 -- a number told, also where it was kept below 2^64 before
-pub told_number : (number kept answer : ℕ) → kept ≡ min number (2 ^ 64 - 1) → answer ≡ told kept → answer ≡ told number
-told_number number kept answer e f = omega arith
+pub capped_number : (number kept answer : ℕ) → kept ≡ min number (2 ^ 64 - 1) → answer ≡ capped kept → answer ≡ capped number
+capped_number number kept answer e f = omega arith

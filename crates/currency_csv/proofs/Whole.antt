@@ -10,7 +10,7 @@ use Rattle.currency_base.specs.declared.value.Value.{Value}
 use Rattle.currency_csv.specs.Sources.{are_text, read_row, read_tuple, read_tuples, read_value, source_of, sources_of}
 use Rattle.currency_csv.specs.Table.{Record, all_ok, first_ragged, is_ragged, place_of, table_of, table_with, tuple_of, tuples_of, value_in, value_of, with_first}
 use Rattle.currency_csv.proofs.Fields.{both}
-use Rattle.currency_csv.specs.Told.{told}
+use Rattle.currency_csv.specs.Capped.{capped}
 use Rattle.currency_csv.specs.declared.columns.Source.{Source}
 use Rattle.currency_csv.specs.declared.table.Column.{Column}
 use Rattle.currency_csv.specs.declared.table.TableFault.{TableFault}
@@ -64,7 +64,7 @@ sources_found header n [] sources e = refl
 sources_found header n (column ∷ columns) sources e = by (place_of header column) e (sources_found header (n + 1) columns)
   where
     by : (o : Option ℕ) → all_ok (ok_or (option_map (λ place. record { place = place; kind = column.kind }) o)
-        (MissingColumn (told n)) ∷ map (source_of header) (enumerate_from (n + 1) columns)) ≡ Ok sources
+        (MissingColumn (capped n)) ∷ map (source_of header) (enumerate_from (n + 1) columns)) ≡ Ok sources
         → ((others : List Source) → all_ok (map (source_of header) (enumerate_from (n + 1) columns)) ≡ Ok others
         → position_from (λ column. is_none (place_of header column)) (n + 1) columns ≡ None)
         → cond (is_none o) (Some n) (position_from (λ column. is_none (place_of header column)) (n + 1) columns) ≡ None
@@ -75,18 +75,18 @@ sources_found header n (column ∷ columns) sources e = by (place_of header colu
 source_lacking : (header : Record) (n : ℕ) (columns : List Column) (fault : TableFault)
     → all_ok (map (source_of header) (enumerate_from n columns)) ≡ Err fault
     → (place : ℕ) × (position_from (λ column. is_none (place_of header column)) n columns ≡ Some place) ×
-    (fault ≡ MissingColumn (told place))
+    (fault ≡ MissingColumn (capped place))
 unfolding source_of
 source_lacking header n [] fault e = cc e
 source_lacking header n (column ∷ columns) fault e = by (place_of header column) e (source_lacking header (n + 1) columns fault)
   where
     by : (o : Option ℕ) → all_ok (ok_or (option_map (λ place. record { place = place; kind = column.kind }) o)
-        (MissingColumn (told n)) ∷ map (source_of header) (enumerate_from (n + 1) columns)) ≡ Err fault
+        (MissingColumn (capped n)) ∷ map (source_of header) (enumerate_from (n + 1) columns)) ≡ Err fault
         → (all_ok (map (source_of header) (enumerate_from (n + 1) columns)) ≡ Err fault
         → (place : ℕ) × (position_from (λ column. is_none (place_of header column)) (n + 1) columns ≡ Some place) ×
-        (fault ≡ MissingColumn (told place)))
+        (fault ≡ MissingColumn (capped place)))
         → (place : ℕ) × (cond (is_none o) (Some n) (position_from (λ column. is_none (place_of header column))
-        (n + 1) columns) ≡ Some place) × (fault ≡ MissingColumn (told place))
+        (n + 1) columns) ≡ Some place) × (fault ≡ MissingColumn (capped place))
     by None e rest = (n, refl, cc e)
     by (Some place) e rest = rest (first_err _ _ fault e)
 
@@ -102,7 +102,7 @@ same_all {A} {E} a b r s e f = ap (λ c. all_ok (c ∷ r)) e ∙ by b
 -- what a record's columns give is what their sources give
 same_values : (header : Record) (number : ℕ) (fields : Record) (n : ℕ) (columns : List Column) (sources : List Source)
     → all_ok (map (source_of header) (enumerate_from n columns)) ≡ Ok sources
-    → all_ok (map (λ (place, column). ok_or (value_in header fields column) (BadInt number (told place)))
+    → all_ok (map (λ (place, column). ok_or (value_in header fields column) (BadInt number (capped place)))
     (enumerate_from n columns))
     ≡ all_ok (map (read_value number fields) (enumerate_from n sources))
 unfolding source_of value_in read_value
@@ -113,11 +113,11 @@ same_values header number fields n (column ∷ columns) sources e = by (place_of
   where
     by : (o : Option ℕ) (values : List (Result Value TableFault))
         → all_ok (ok_or (option_map (λ place. record { place = place; kind = column.kind }) o)
-        (MissingColumn (told n)) ∷ map (source_of header) (enumerate_from (n + 1) columns)) ≡ Ok sources
+        (MissingColumn (capped n)) ∷ map (source_of header) (enumerate_from (n + 1) columns)) ≡ Ok sources
         → ((others : List Source) → all_ok (map (source_of header) (enumerate_from (n + 1) columns)) ≡ Ok others
         → all_ok values ≡ all_ok (map (read_value number fields) (enumerate_from (n + 1) others)))
         → all_ok (ok_or (option_and_then (λ place. value_of column.kind (slice_index_or fields place [])) o)
-        (BadInt number (told n)) ∷ values)
+        (BadInt number (capped n)) ∷ values)
         ≡ all_ok (map (read_value number fields) (enumerate_from n sources))
     by None values e rest = cc e
     by (Some place) values e rest =
@@ -125,9 +125,9 @@ same_values header number fields n (column ∷ columns) sources e = by (place_of
         rw k.2 (same_all _ _ values _ refl (rest k.0 k.1))
 
 same_tuple : (header : Record) (columns : List Column) (sources : List Source) → sources_of header columns ≡ Ok sources
-    → (number : ℕ) (fields : Record) → tuple_of header columns (number, fields) ≡ read_tuple sources (told number) fields
+    → (number : ℕ) (fields : Record) → tuple_of header columns (number, fields) ≡ read_tuple sources (capped number) fields
 unfolding sources_of tuple_of read_tuple
-same_tuple header columns sources e number fields = same_values header (told number) fields 0 columns sources e
+same_tuple header columns sources e number fields = same_values header (capped number) fields 0 columns sources e
 
 same_tuples : (header : Record) (columns : List Column) (sources : List Source) → sources_of header columns ≡ Ok sources
     → (n : ℕ) (rows : List Row) → all_ok (map (tuple_of header columns) (enumerate_from n (map fields_of rows))) ≡
@@ -143,7 +143,7 @@ module _ (columns : List Column) (records : List Row) (header : Row) (rows : Lis
 
   -- the fault of a ragged record
   pub table_ragged : (place : ℕ) → ragged ≡ Some place → table_of columns (map fields_of records) ≡ Err
-      (Ragged (told (place + 1)))
+      (Ragged (capped (place + 1)))
   unfolding table_of
   table_ragged place h =
       let wide = ap (λ (l : List Record). first_ragged (fields_of header) l) (ap (map fields_of) (sym split))

@@ -1,3 +1,3 @@
 pub mod Sources
 pub mod Table
-pub mod Told
+pub mod Capped

@@ -6,7 +6,7 @@ use Rattle.std.specs.Str.{is_utf8}
 use Rattle.csv.specs.Records.{Row, fields_of}
 use Rattle.currency_base.specs.declared.value.Value.{Value}
 use Rattle.currency_csv.specs.Table.{Record, all_ok, only, place_of, value_of}
-use Rattle.currency_csv.specs.Told.{told}
+use Rattle.currency_csv.specs.Capped.{capped}
 use Rattle.currency_csv.specs.declared.table.Column.{Column}
 use Rattle.currency_csv.specs.declared.table.TableFault.{TableFault}
 use Rattle.currency_csv.specs.declared.table.TableFault.TheVariants.{MissingColumn, BadInt}
@@ -26,7 +26,7 @@ seen_of (place ∷ rest) = Some (only (place ∷ rest))
 unfoldable pub source_of : Record → ℕ × Column → Result Source TableFault
 source_of header (number, column) =
     ok_or (option_map (λ place. record { place = place; kind = column.kind }) (place_of header column))
-    (MissingColumn (told number))
+    (MissingColumn (capped number))
 
 -- the same of every column, or the first fault
 unfoldable pub sources_of : Record → List Column → Result (List Source) TableFault
@@ -35,7 +35,7 @@ sources_of header columns = all_ok (map (source_of header) (enumerate_from 0 col
 -- the value of a source in a record of that number, or the fault of the source of that place
 unfoldable pub read_value : ℕ → Record → ℕ × Source → Result Value TableFault
 read_value number fields (place, source) = ok_or (value_of source.kind (slice_index_or fields source.place []))
-    (BadInt number (told place))
+    (BadInt number (capped place))
 
 -- the values of all sources, or the first fault
 unfoldable pub read_tuple : List Source → ℕ → Record → Result (List Value) TableFault
@@ -43,7 +43,7 @@ read_tuple sources number fields = all_ok (map (read_value number fields) (enume
 
 -- the same of the record of that number
 abbrev pub read_row : List Source → ℕ × Row → Result (List Value) TableFault
-read_row sources (number, row) = read_tuple sources (told number) (fields_of row)
+read_row sources (number, row) = read_tuple sources (capped number) (fields_of row)
 
 -- the same of every record, counted on from 2
 unfoldable pub read_tuples : List Source → List Row → Result (List (List Value)) TableFault

@@ -6,11 +6,11 @@ use Rattle.std.specs.Str.{bytes_eq, is_utf8}
 use Rattle.csv.specs.Reading.{AreRecords, default_config, strip_bom}
 use Rattle.csv.specs.declared.parser.State.TheVariants as st
 use Rattle.currency_base.specs.Number.{int_of}
-use Rattle.currency_base.specs.declared.value.Kind.{Kind}
-use Rattle.currency_base.specs.declared.value.Kind.TheVariants as kind
+use Rattle.currency_base.specs.declared.value.ValueKind.{ValueKind}
+use Rattle.currency_base.specs.declared.value.ValueKind.TheVariants as kind
 use Rattle.currency_base.specs.declared.value.Value.{Value}
 use Rattle.currency_base.specs.declared.value.Value.TheVariants as value
-use Rattle.currency_csv.specs.Told.{told}
+use Rattle.currency_csv.specs.Capped.{capped}
 use Rattle.currency_csv.specs.declared.table.Column.{Column}
 use Rattle.currency_csv.specs.declared.table.Table.{Table}
 use Rattle.currency_csv.specs.declared.table.TableFault.{TableFault}
@@ -43,7 +43,7 @@ abbrev pub place_of : Record → Column → Option ℕ
 place_of header column = only (places_in header column.name)
 
 -- what a field says as a value of a kind
-abbrev pub value_of : Kind → List ℕ → Option Value
+abbrev pub value_of : ValueKind → List ℕ → Option Value
 value_of kind.Text field = Some (value.Text field)
 value_of kind.Int field = option_map value.Int (int_of field)
 
@@ -66,7 +66,7 @@ all_ok (Err fault ∷ rest) = Err fault
 -- the values of a record in the order of the columns
 unfoldable pub tuple_of : Record → List Column → ℕ × Record → Result (List Value) TableFault
 tuple_of header columns (number, fields) =
-    all_ok (map (λ (place, column). ok_or (value_in header fields column) (BadInt (told number) (told place)))
+    all_ok (map (λ (place, column). ok_or (value_in header fields column) (BadInt (capped number) (capped place)))
     (enumerate_from 0 columns))
 
 -- the tuples of the records below the header, the first of which is record 2
@@ -96,6 +96,6 @@ first_missing header columns = position (λ column. is_none (place_of header col
 unfoldable pub table_of : List Column → List Record → Result Table TableFault
 table_of columns [] = Err (MissingColumn 0)
 table_of columns (header ∷ rows) =
-    fault_at (first_ragged header (header ∷ rows)) (λ place. Ragged (told (place + 1)))
-    (fault_at (first_missing header columns) (λ place. MissingColumn (told place))
+    fault_at (first_ragged header (header ∷ rows)) (λ place. Ragged (capped (place + 1)))
+    (fault_at (first_missing header columns) (λ place. MissingColumn (capped place))
     (table_with (tuples_of header columns rows)))

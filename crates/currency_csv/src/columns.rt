@@ -9,9 +9,9 @@ ghost use Rattle.currency_csv.specs.Sources.{seen_of, sources_of, with_items};
 ghost use Rattle.currency_csv.specs.Table.{places_in};
 
 use crate::records::field;
-use crate::table::{Column, TableFault, told};
+use crate::table::{Column, TableFault, capped};
 use csv::ByteRecord;
-use currency_base::{Kind, Name, NoMemory};
+use currency_base::{Name, NoMemory, ValueKind};
 use indexmap::IndexMap;
 use std::alloc::Global;
 
@@ -19,7 +19,7 @@ use std::alloc::Global;
 #[derive(Clone, Copy, PartialEq, Eq)]
 pub(crate) struct Source {
     pub(crate) place: usize,
-    pub(crate) kind: Kind,
+    pub(crate) kind: ValueKind,
 }
 
 // The sources of the columns, in their order.
@@ -38,7 +38,7 @@ pub(crate) fn sources(
     let mut sources = Vec::new(alloc);
     for (number, column) in columns.iter().enumerate() {
         let Some(place) = places.get(&column.name).copied().flatten() else {
-            let place = told(number);
+            let place = capped(number);
             return Err(TableFault::MissingColumn { place });
         };
         let kind = column.kind;

@@ -7,7 +7,7 @@ ghost use Rattle.currency_csv.specs.Table.{AreRecordsOf, table_of};
 
 use crate::columns::sources;
 use crate::records::{first_ragged, read_records};
-use crate::table::{Column, Table, TableFault, told};
+use crate::table::{Column, Table, TableFault, capped};
 use crate::tuples::tuples;
 use csv::ByteRecord;
 use currency_base::NoMemory;
@@ -42,7 +42,7 @@ fn table_below(
         return Err(TableFault::MissingColumn { place: 0 });
     };
     if let Some(place) = first_ragged(header, records) {
-        let number = told(place.saturating_add(1));
+        let number = capped(place.saturating_add(1));
         return Err(TableFault::Ragged { number });
     }
     match sources(alloc, header, columns) {

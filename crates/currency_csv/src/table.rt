@@ -1,13 +1,13 @@
 ghost use Rattle.std.specs.Prelude.{◌≡◌};
-ghost use Rattle.currency_csv.specs.Told.{told};
+ghost use Rattle.currency_csv.specs.Capped.{capped};
 
-use currency_base::{Kind, Name, TupleList};
+use currency_base::{Name, TupleList, ValueKind};
 
 /// A declared column: the name that the header has for it, and the kind of its values.
 #[derive(Drop)]
 pub struct Column {
     pub name: Name,
-    pub kind: Kind,
+    pub kind: ValueKind,
 }
 
 /// What a table holds: one tuple per record below the header, in order, each with its values in the order
@@ -26,15 +26,15 @@ pub enum TableFault {
     /// The header has the column of this place not at all or more than once. Where there is no header the
     /// place is 0.
     MissingColumn { place: u32 },
-    /// The field of the record in the column of this place, whose kind is `Kind::Int`, is no integer.
+    /// The field of the record in the column of this place, whose kind is `ValueKind::Int`, is no integer.
     BadInt { number: u32, place: u32 },
     /// There was no memory for the table.
     NoMemory,
 }
 
 // A number as a fault tells it.
-pub(crate) fn told(number: usize) -> u32
-    ensures { result ≡ told number }
+pub(crate) fn capped(number: usize) -> u32
+    ensures { result ≡ capped number }
 {
     if number < 4294967295 {
         number as u32

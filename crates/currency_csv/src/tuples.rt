@@ -9,9 +9,9 @@ ghost use Rattle.currency_csv.specs.Table.{value_of};
 
 use crate::columns::Source;
 use crate::records::field;
-use crate::table::{TableFault, told};
+use crate::table::{TableFault, capped};
 use csv::ByteRecord;
-use currency_base::{Kind, Name, NoMemory, Tuple, TupleList, Value, read_int};
+use currency_base::{Name, NoMemory, Tuple, TupleList, Value, ValueKind, read_int};
 use std::alloc::Global;
 
 // The tuples of records, whose numbers count on from 2.
@@ -25,7 +25,7 @@ pub(crate) fn tuples(
 {
     let mut tuples = TupleList::new(alloc);
     for (place, row) in rows.iter().enumerate() {
-        let number = told(place.saturating_add(2));
+        let number = capped(place.saturating_add(2));
         let tuple = match tuple(alloc, sources, row, number) {
             Ok(tuple) => tuple,
             Err(fault) => return Err(fault),
@@ -52,7 +52,7 @@ fn tuple(
         let value = match value(alloc, source.kind, field(row, source.place)) {
             Ok(Some(value)) => value,
             Ok(None) => {
-                let place = told(place);
+                let place = capped(place);
                 return Err(TableFault::BadInt { number, place });
             }
             Err(NoMemory) => return Err(TableFault::NoMemory),
@@ -66,13 +66,13 @@ fn tuple(
 
 // The value of a kind that a field says.
 #[tactic(auto, using(crate::proofs::Fields::utf8_from_test))]
-fn value(alloc: Global, kind: Kind, field: &[u8]) -> Result<Option<Value>, NoMemory>
+fn value(alloc: Global, kind: ValueKind, field: &[u8]) -> Result<Option<Value>, NoMemory>
     requires { IsTrue (is_utf8 field.now) }
     ensures { IfOk result (λ value. value ≡ value_of kind field.now) }
 {
     match kind {
-        Kind::Int => Ok(read_int(field).map(Value::Int)),
-        Kind::Text => match Name::from_bytes(alloc, field) {
+        ValueKind::Int => Ok(read_int(field).map(Value::Int)),
+        ValueKind::Text => match Name::from_bytes(alloc, field) {
             Ok(name) => Ok(Some(Value::Text(name))),
             Err(NoMemory) => Err(NoMemory),
         },

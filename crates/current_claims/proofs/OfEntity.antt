@@ -15,7 +15,7 @@ use Rattle.spec_model.specs.declared.relation.Relation.{Relation}
 use Rattle.current_tuples.specs.Places.{IsEntityOf}
 use Rattle.report_model.specs.declared.verdict.Current.{Current}
 use Rattle.currency_base.specs.Values.{IsValue}
-use Rattle.current_claims.specs.Told.{AddsEntity, AddsLastOf, AreLastOf, AreValuesOf, IsLastAt}
+use Rattle.current_claims.specs.Listed.{AddsEntity, AddsLastOf, AreLastOf, AreValuesOf, IsLastAt}
 use Rattle.current_claims.specs.declared.claims.Claims.{Claims}
 use Rattle.current_claims.specs.declared.claims.CurrentRow.{CurrentRow}
 use Rattle.current_claims.proofs.Lists.{pushed_cases}

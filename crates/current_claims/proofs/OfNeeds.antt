@@ -14,7 +14,7 @@ use Rattle.report_model.specs.declared.verdict.Current.{Current}
 use Rattle.report_verify.specs.Supported.{Claim, Need, item_needs, value_needs}
 use Rattle.report_verify.specs.Supported.Claim.{HasValue}
 use Rattle.current_claims.specs.Claims.{AreOfRows, IsLastIn, IsOfRow}
-use Rattle.current_claims.specs.Told.{AreValuesOf, AreLastOf, IsLastAt}
+use Rattle.current_claims.specs.Listed.{AreValuesOf, AreLastOf, IsLastAt}
 use Rattle.current_claims.specs.declared.claims.CurrentRow.{CurrentRow}
 use Rattle.current_claims.proofs.Lists.{pairs_append}
 

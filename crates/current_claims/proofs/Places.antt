@@ -11,7 +11,7 @@ use Rattle.report_model.specs.declared.verdict.Current.{Current}
 use Rattle.report_verify.specs.Asked.{IsOfAsked, HasValues, IsItemBefore}
 use Rattle.report_model.specs.Writable.{IsItemOf}
 use Rattle.current_claims.specs.Claims.{AreClaimsOf}
-use Rattle.current_claims.specs.Told.{AddsEntity, AreToldUpTo, HasItem, IsAhead}
+use Rattle.current_claims.specs.Listed.{AddsEntity, AreClaimsUpTo, HasItem, IsAhead}
 use Rattle.current_claims.specs.declared.claims.Claims.{Claims}
 use Rattle.current_claims.specs.declared.claims.CurrentRow.{CurrentRow}
 use Rattle.current_claims.proofs.Lists.{pushed_cases}
@@ -40,7 +40,7 @@ module _ (relations : List Relation) (rels : List RelId) (c : Rankings) where
   -- ---- one entity more
 
   module _ (rel : RelId) (ent : EntId) (old new : Claims) (asked : Contains rels rel)
-      (told : AreToldUpTo relations rels c rel.0 ent.0 old) (adds : AddsEntity relations c rel ent old new) where
+      (told : AreClaimsUpTo relations rels c rel.0 ent.0 old) (adds : AddsEntity relations c rel ent old new) where
     abbrev item : Current
     item = record { rel = rel; ent = ent; values = adds.values }
 
@@ -123,7 +123,7 @@ module _ (relations : List Relation) (rels : List RelId) (c : Rankings) where
         (All-weaker (IsItemAhead rel.0 ent.0) (IsItemAhead rel.0 (ent.0 + 1)) further old.items told.below)
         (inr (refl, omega arith))
 
-    told_grown : AreToldUpTo relations rels c rel.0 (ent.0 + 1) grown
+    told_grown : AreClaimsUpTo relations rels c rel.0 (ent.0 + 1) grown
     told_grown = record {
       only = All-push IsAsked old.items item told.only item_asked;
       all = all_items;
@@ -136,8 +136,8 @@ module _ (relations : List Relation) (rels : List RelId) (c : Rankings) where
           adds.more adds.are_values adds.are_last);
     }
 
-    pub told_more : AreToldUpTo relations rels c rel.0 (ent.0 + 1) new
-    told_more = subst (AreToldUpTo relations rels c rel.0 (ent.0 + 1)) (sym is_grown) told_grown
+    pub listed_more : AreClaimsUpTo relations rels c rel.0 (ent.0 + 1) new
+    listed_more = subst (AreClaimsUpTo relations rels c rel.0 (ent.0 + 1)) (sym is_grown) told_grown
       where
         is_grown : new ≡ grown
         is_grown = same_claims new grown adds.items_grown adds.rows_grown
@@ -145,10 +145,10 @@ module _ (relations : List Relation) (rels : List RelId) (c : Rankings) where
   -- ---- one relation more
 
   -- the items that are there are all of the next place too, if each entity before it is before this one
-  told_on : (rel ent : ℕ) (claims : Claims)
+  listed_on : (rel ent : ℕ) (claims : Claims)
       → ((r : RelId) (e : EntId) → IsOfAsked relations rels r e → IsAhead r.0 e.0 (rel + 1) 0 → IsAhead r.0 e.0 rel ent)
-      → AreToldUpTo relations rels c rel ent claims → AreToldUpTo relations rels c (rel + 1) 0 claims
-  told_on rel ent claims back told = record {
+      → AreClaimsUpTo relations rels c rel ent claims → AreClaimsUpTo relations rels c (rel + 1) 0 claims
+  listed_on rel ent claims back told = record {
     only = told.only;
     all = λ r e asked ahead. told.all r e asked (back r e asked ahead);
     values = told.values;
@@ -178,10 +178,10 @@ module _ (relations : List Relation) (rels : List RelId) (c : Rankings) where
       by below (inr apart) = inl (omega arith)
 
   -- each entity of the relation is told
-  pub told_relation : (rel : RelId) (ent : ℕ) (claims : Claims) (r : Relation) → slice_get relations rel.0 ≡ Some r
+  pub listed_relation : (rel : RelId) (ent : ℕ) (claims : Claims) (r : Relation) → slice_get relations rel.0 ≡ Some r
       → length r.entities ≤ ent
-      → AreToldUpTo relations rels c rel.0 ent claims → AreToldUpTo relations rels c (rel.0 + 1) 0 claims
-  told_relation rel ent claims r at whole = told_on rel.0 ent claims back
+      → AreClaimsUpTo relations rels c rel.0 ent claims → AreClaimsUpTo relations rels c (rel.0 + 1) 0 claims
+  listed_relation rel ent claims r at whole = listed_on rel.0 ent claims back
     where
       back : (q : RelId) (e : EntId) → IsOfAsked relations rels q e → IsAhead q.0 e.0 (rel.0 + 1) 0 → IsAhead q.0 e.0 rel.0 ent
       back q e asked ahead =
@@ -195,9 +195,9 @@ module _ (relations : List Relation) (rels : List RelId) (c : Rankings) where
           (ahead_next q.0 rel.0 e.0 ahead)
 
   -- the relation is not asked about
-  pub told_past : (rel : RelId) (claims : Claims) → (Contains rels rel → ⊥) → AreToldUpTo relations rels c rel.0 0 claims
-      → AreToldUpTo relations rels c (rel.0 + 1) 0 claims
-  told_past rel claims not_asked = told_on rel.0 0 claims back
+  pub listed_past : (rel : RelId) (claims : Claims) → (Contains rels rel → ⊥) → AreClaimsUpTo relations rels c rel.0 0 claims
+      → AreClaimsUpTo relations rels c (rel.0 + 1) 0 claims
+  listed_past rel claims not_asked = listed_on rel.0 0 claims back
     where
       back : (q : RelId) (e : EntId) → IsOfAsked relations rels q e → IsAhead q.0 e.0 (rel.0 + 1) 0 → IsAhead q.0 e.0 rel.0 0
       back q e asked ahead =
@@ -208,9 +208,9 @@ module _ (relations : List Relation) (rels : List RelId) (c : Rankings) where
 
   -- ---- all relations
 
-  pub told_all : (rel : ℕ) (claims : Claims) → length relations ≤ rel → AreToldUpTo relations rels c rel 0 claims
+  pub listed_all : (rel : ℕ) (claims : Claims) → length relations ≤ rel → AreClaimsUpTo relations rels c rel 0 claims
       → AreClaimsOf relations rels c claims
-  told_all rel claims whole told = record {
+  listed_all rel claims whole told = record {
     items = record { only = told.only; all = each; values = told.values; ordered = told.ordered };
     writable = told.writable;
     rows = told.rows;

@@ -1,3 +1,3 @@
 pub mod Claims
-pub mod Told
+pub mod Listed
 pub mod Differing

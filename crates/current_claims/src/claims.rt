@@ -4,7 +4,7 @@ ghost use Rattle.spec_model.specs.Completion.{IsCompletion};
 ghost use Rattle.spec_model.specs.declared.relation.Relation.{Relation};
 ghost use Rattle.currency_base.specs.Values.{IsValue};
 ghost use Rattle.current_claims.specs.Claims.{AreClaimsOf};
-ghost use Rattle.current_claims.specs.Told.{AddsEntity, AddsLastOf, AreToldUpTo, AreValuesOf};
+ghost use Rattle.current_claims.specs.Listed.{AddsEntity, AddsLastOf, AreClaimsUpTo, AreValuesOf};
 
 use currency_base::{AttrId, EntId, ItemList, NoMemory, RelId, RowId, Tuple, Value};
 use current_tuples::{last, last_row};
@@ -71,8 +71,8 @@ fn claim_relation(
 ) -> Result<(), NoMemory>
     requires rel { rel.0 < length spec.now.relations }
     requires completion { IsCompletion spec.now.relations completion.now }
-    requires told { AreToldUpTo spec.now.relations rels.now completion.now rel.0 0 claims.old }
-    ensures { OnOk result (AreToldUpTo spec.now.relations rels.now completion.now (rel.0 + 1) 0 claims.new) }
+    requires listed { AreClaimsUpTo spec.now.relations rels.now completion.now rel.0 0 claims.old }
+    ensures { OnOk result (AreClaimsUpTo spec.now.relations rels.now completion.now (rel.0 + 1) 0 claims.new) }
 {
     if !is_asked(rels, rel) {
         return Ok(());

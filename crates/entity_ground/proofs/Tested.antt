@@ -20,7 +20,7 @@ use Rattle.denial_rules.specs.declared.rule.Operand.TheVariants.{Field, Constant
 use Rattle.denial_rules.specs.declared.rule.Predicate.{Predicate}
 use Rattle.denial_rules.specs.declared.rule.Predicate.TheVariants.{Order, Compare}
 use Rattle.denial_rules.specs.declared.rule.Rule.{Rule}
-use Rattle.currency_base.specs.declared.value.Kind.{Kind}
+use Rattle.currency_base.specs.declared.value.ValueKind.{ValueKind}
 use Rattle.currency_base.specs.declared.value.Value.{Value}
 use Rattle.entity_ground.specs.Choosing.{chosen_from}
 use Rattle.entity_ground.specs.Grounds.{choices, has_instance, grounds_among}
@@ -242,7 +242,7 @@ operand_within : (vars : ℕ) (o : Operand) → IsOperand vars o → operand_nee
 operand_within vars (Field var attr) is = omega (arith, is)
 operand_within vars (Constant value) is = omega arith
 
-needs_within : (vars : ℕ) (kinds : List Kind) (p : Predicate) → IsPredicate vars kinds p → needs p ≤ vars
+needs_within : (vars : ℕ) (kinds : List ValueKind) (p : Predicate) → IsPredicate vars kinds p → needs p ≤ vars
 needs_within vars kinds (Order atom) is = omega (arith, is.earlier, is.later)
 needs_within vars kinds (Compare left cmp right) is =
     let one = operand_within vars left is.left_is in
@@ -250,7 +250,7 @@ needs_within vars kinds (Compare left cmp right) is =
     omega (arith, one, two)
 
 -- a front of a row for each variable that passes is a choice
-pub all_pass : (rule : Rule) (kinds : List Kind) (table : List Row) (members front : List RowId)
+pub all_pass : (rule : Rule) (kinds : List ValueKind) (table : List Row) (members front : List RowId)
     → IsRuleOn kinds rule → length front ≡ rule.vars → passes_at (length front) rule table front ≡ true
     → chosen_from (passes_from (length front) rule table) members 0 front ≡ front ∷ []
 all_pass rule kinds table members front is count passed =

@@ -3,7 +3,7 @@ use Rattle.std.specs.Prelude.{◌+◌, ◌==◌, ◌||◌, ℕ, Bool, not, max, 
 use Rattle.std.specs.List.{list_all}
 use Rattle.currency_base.specs.declared.ids.RowId.{RowId}
 use Rattle.currency_base.specs.declared.row.Row.{Row}
-use Rattle.currency_base.specs.declared.value.Kind.{Kind}
+use Rattle.currency_base.specs.declared.value.ValueKind.{ValueKind}
 use Rattle.denial_rules.specs.Instances.{atom_pair, is_compared, operand_value}
 use Rattle.denial_rules.specs.Rules.{IsRuleOn}
 use Rattle.denial_rules.specs.declared.rule.Operand.{Operand}
@@ -37,5 +37,5 @@ passes_from depth rule table rows = list_all (λ p. nat_lt (needs p) depth || pa
 
 -- a rule whose variables and predicates fit some relation
 pub record IsFitting (rule : Rule) : Type 0 where
-  pub kinds : List Kind
+  pub kinds : List ValueKind
   pub fits : IsRuleOn kinds rule

@@ -1,7 +1,7 @@
 -- What `explain` comes to, stage by stage.
 use Rattle.std.proofs.Common.{◌≡◌, ◌-◌, ℕ, List, Option, Some, None, IfOk, IfSome, Result, Ok, Err, sym}
 use Rattle.bound_spec.specs.Growth.{IsWithinLimits}
-use Rattle.command_stages.specs.Named.{IsSettled}
+use Rattle.command_stages.specs.Named.{IsDetermined}
 use Rattle.command_stages.specs.Stages.{IsSpecRead, IsQuestionRead}
 use Rattle.command_stages.specs.declared.done.Done.{Done}
 use Rattle.command_stages.specs.declared.trouble.Trouble.{Trouble}
@@ -12,7 +12,7 @@ use Rattle.search_logs.specs.SearchLogs.{IsWithin}
 use Rattle.spec_model.specs.Facts.{IsSpecification}
 use Rattle.spec_model.specs.Spec.{Spec}
 use Rattle.spec_model.specs.declared.question.Question.{Question}
-use Rattle.explain_command.specs.Explained.{IsExplainDue, IsExplainTold, IsExplanationOf}
+use Rattle.explain_command.specs.Explained.{IsExplainDue, IsExplainPrinted, IsExplanationOf}
 use Rattle.explain_command.specs.Text.{explained_done}
 
 -- no limit is exceeded, as the search says it
@@ -26,14 +26,14 @@ is_within s specification within = record {
 
 -- what explains the unit is told
 pub explained : (s : Spec) (e : ExplainSaid) (q : Question) (x : Explained) (outcome : Result Done Trouble)
-    → IsExplained s q (e.unit - 1) e.budget x → (IsSettled outcome → outcome ≡ explained_done s e.unit x)
-    → IsSettled outcome → IsExplanationOf s e q outcome
-explained s e q x outcome is told settled = (x, is, told settled)
+    → IsExplained s q (e.unit - 1) e.budget x → (IsDetermined outcome → outcome ≡ explained_done s e.unit x)
+    → IsDetermined outcome → IsExplanationOf s e q outcome
+explained s e q x outcome is told determined = (x, is, told determined)
 
-told_explanation : (told : List (List ℕ × List ℕ)) (e : ExplainSaid) (s : Spec) (q : Question) (d : Done)
+printed_explanation : (told : List (List ℕ × List ℕ)) (e : ExplainSaid) (s : Spec) (q : Question) (d : Done)
     → IsSpecRead told e.spec (Ok s) → IsQuestionRead told s.relations e.question (Ok q) → IsExplanationOf s e q (Ok d)
-    → IsExplainTold told e d.text d.ending
-told_explanation told e s q d spec question h = record {
+    → IsExplainPrinted told e d.text d.ending
+printed_explanation told e s q d spec question h = record {
   spec = s;
   question = q;
   spec_read = spec;
@@ -44,21 +44,22 @@ told_explanation told e s q d spec question h = record {
 }
 
 -- the stages together
-pub explain_told : (texts : Option (List (List ℕ × List ℕ))) (e : ExplainSaid) (s : Spec) (q : Question)
+pub explain_printed : (texts : Option (List (List ℕ × List ℕ))) (e : ExplainSaid) (s : Spec) (q : Question)
     (outcome : Result Done Trouble)
     → IfSome texts (λ told. IsSpecRead told e.spec (Ok s))
     → IfSome texts (λ told. IsQuestionRead told s.relations e.question (Ok q))
-    → (IsSettled outcome → IsExplanationOf s e q outcome)
-    → IfOk outcome (λ d. IfSome texts (λ told. IsExplainTold told e d.text d.ending))
-explain_told None e s q (Ok d) spec question job = tt
-explain_told (Some told) e s q (Ok d) spec question job = told_explanation told e s q d spec question (job tt)
-explain_told texts e s q (Err trouble) spec question job = tt
+    → (IsDetermined outcome → IsExplanationOf s e q outcome)
+    → IfOk outcome (λ d. IfSome texts (λ told. IsExplainPrinted told e d.text d.ending))
+explain_printed None e s q (Ok d) spec question job = tt
+explain_printed (Some told) e s q (Ok d) spec question job = printed_explanation told e s q d spec question (job tt)
+explain_printed texts e s q (Err trouble) spec question job = tt
 
 -- an explanation is due
 pub explain_due : (texts : Option (List (List ℕ × List ℕ))) (e : ExplainSaid) (s : Spec) (q : Question)
     (outcome : Result Done Trouble)
     → IfSome texts (λ told. IsSpecRead told e.spec (Ok s))
     → IfSome texts (λ told. IsQuestionRead told s.relations e.question (Ok q))
-    → (IsSettled outcome → IsExplanationOf s e q outcome) → IsSettled outcome → IfSome texts (λ told. IsExplainDue told e outcome)
-explain_due None e s q outcome spec question job settled = tt
-explain_due (Some told) e s q outcome spec question job settled = (Ok s, spec, (Ok q, question, job settled))
+    → (IsDetermined outcome → IsExplanationOf s e q outcome) → IsDetermined outcome
+    → IfSome texts (λ told. IsExplainDue told e outcome)
+explain_due None e s q outcome spec question job determined = tt
+explain_due (Some told) e s q outcome spec question job determined = (Ok s, spec, (Ok q, question, job determined))

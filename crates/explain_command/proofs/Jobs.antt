@@ -8,7 +8,7 @@ use Rattle.command_stages.specs.declared.done.Ending.TheVariants as ending
 use Rattle.command_stages.specs.declared.trouble.Trouble.TheVariants as trouble
 use Rattle.core_explain.specs.declared.explaining.Explained.{Explained}
 use Rattle.core_explain.specs.declared.explaining.Explained.TheVariants as explained
-use Rattle.explain_command.specs.Explained.{IsExplainTold}
+use Rattle.explain_command.specs.Explained.{IsExplainPrinted}
 use Rattle.explain_command.specs.Text.{decided, explained_done, undecided}
 use Rattle.program_words.specs.Words.{ExplainSaid}
 use Rattle.spec_model.specs.Spec.{Spec}
@@ -36,25 +36,25 @@ done_ends s n (explained.Open spent) text e is = undecided_ends _ text e is
 
 -- an explanation ends as a question does
 pub of_question : (documents : List (List ℕ × List ℕ)) (x : ExplainSaid) (text : List ℕ) (e : Ending)
-    → IsExplainTold documents x text e → IsOfQuestion e
+    → IsExplainPrinted documents x text e → IsOfQuestion e
 of_question documents x text e h = done_ends h.spec x.unit h.explained text e h.done
 
-pub decided_told : (documents : List (List ℕ × List ℕ)) (e : ExplainSaid) (text : List ℕ) (end : Ending)
-    → ending_status end ≡ 0 → IsExplainTold documents e text end → IsExplainTold documents e text ending.Decided
-decided_told documents e text ending.Told zero h = absurd (of_question documents e text ending.Told h)
-decided_told documents e text ending.Tabled zero h = absurd (of_question documents e text ending.Tabled h)
-decided_told documents e text ending.Inconsistent zero h = absurd (of_question documents e text ending.Inconsistent h)
-decided_told documents e text ending.Open zero h = absurd (of_question documents e text ending.Open h)
-decided_told documents e text ending.Decided zero h = h
-decided_told documents e text ending.Denied zero h = absurd (of_question documents e text ending.Denied h)
-decided_told documents e text ending.Undecided zero h = absurd (omega (arith, zero))
+pub decided_printed : (documents : List (List ℕ × List ℕ)) (e : ExplainSaid) (text : List ℕ) (end : Ending)
+    → ending_status end ≡ 0 → IsExplainPrinted documents e text end → IsExplainPrinted documents e text ending.Decided
+decided_printed documents e text ending.Printed zero h = absurd (of_question documents e text ending.Printed h)
+decided_printed documents e text ending.Tabled zero h = absurd (of_question documents e text ending.Tabled h)
+decided_printed documents e text ending.Inconsistent zero h = absurd (of_question documents e text ending.Inconsistent h)
+decided_printed documents e text ending.Open zero h = absurd (of_question documents e text ending.Open h)
+decided_printed documents e text ending.Decided zero h = h
+decided_printed documents e text ending.Denied zero h = absurd (of_question documents e text ending.Denied h)
+decided_printed documents e text ending.Undecided zero h = absurd (omega (arith, zero))
 
-pub spent_told : (documents : List (List ℕ × List ℕ)) (e : ExplainSaid) (text : List ℕ) (end : Ending)
-    → ending_status end ≡ 3 → IsExplainTold documents e text end → IsExplainTold documents e text ending.Undecided
-spent_told documents e text ending.Told three h = absurd (of_question documents e text ending.Told h)
-spent_told documents e text ending.Tabled three h = absurd (of_question documents e text ending.Tabled h)
-spent_told documents e text ending.Inconsistent three h = absurd (of_question documents e text ending.Inconsistent h)
-spent_told documents e text ending.Open three h = absurd (of_question documents e text ending.Open h)
-spent_told documents e text ending.Decided three h = absurd (omega (arith, three))
-spent_told documents e text ending.Denied three h = absurd (of_question documents e text ending.Denied h)
-spent_told documents e text ending.Undecided three h = h
+pub spent_printed : (documents : List (List ℕ × List ℕ)) (e : ExplainSaid) (text : List ℕ) (end : Ending)
+    → ending_status end ≡ 3 → IsExplainPrinted documents e text end → IsExplainPrinted documents e text ending.Undecided
+spent_printed documents e text ending.Printed three h = absurd (of_question documents e text ending.Printed h)
+spent_printed documents e text ending.Tabled three h = absurd (of_question documents e text ending.Tabled h)
+spent_printed documents e text ending.Inconsistent three h = absurd (of_question documents e text ending.Inconsistent h)
+spent_printed documents e text ending.Open three h = absurd (of_question documents e text ending.Open h)
+spent_printed documents e text ending.Decided three h = absurd (omega (arith, three))
+spent_printed documents e text ending.Denied three h = absurd (of_question documents e text ending.Denied h)
+spent_printed documents e text ending.Undecided three h = h

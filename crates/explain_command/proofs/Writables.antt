@@ -17,7 +17,7 @@ use Rattle.spec_items.specs.declared.item.Item.{Item}
 use Rattle.spec_model.specs.Completion.{Rankings}
 use Rattle.spec_model.specs.Spec.{Spec}
 use Rattle.spec_model.specs.declared.question.Question.{Question}
-use Rattle.explain_command.specs.Told.{IsWritableExplained, IsWritableNeeded, IsWritableSpent}
+use Rattle.explain_command.specs.Writable.{IsWritableExplained, IsWritableNeeded, IsWritableSpent}
 use Rattle.core_explain.proofs.Completions.{completion_whole}
 
 -- ---- items

@@ -37,7 +37,7 @@ abbrev pub IsExplainDocumentDue : List (List ℕ × List ℕ) → ExplainSaid �
 IsExplainDocumentDue told e name = IsSpecDocumentDue told e.spec name ⊎ IsQuestionDue told e.spec e.question name
 
 -- the documents are read as a specification and a question, and this is what is told of what explains the unit
-pub record IsExplainTold (told : List (List ℕ × List ℕ)) (e : ExplainSaid) (text : List ℕ) (ending : Ending) : Type 0 where
+pub record IsExplainPrinted (told : List (List ℕ × List ℕ)) (e : ExplainSaid) (text : List ℕ) (ending : Ending) : Type 0 where
   pub spec : Spec
   pub question : Question
   pub spec_read : IsSpecRead told e.spec (Ok spec)

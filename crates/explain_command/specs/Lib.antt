@@ -1,3 +1,3 @@
 pub mod Text
 pub mod Explained
-pub mod Told
+pub mod Writable

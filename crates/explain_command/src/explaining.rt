@@ -1,11 +1,12 @@
 ghost use Rattle.std.specs.Prelude.{◌≡◌, ◌≢◌, ◌≤◌, ℕ, List, IfErr, IfOk, IfSome};
 ghost use Rattle.bound_spec.specs.Growth.{IsWithinLimits};
-ghost use Rattle.command_stages.specs.Named.{IsSettled, IsReadFault, IsReadFaultOf};
+ghost use Rattle.command_stages.specs.Named.{IsDetermined, IsReadFault, IsReadFaultOf};
 ghost use Rattle.currency_edge.specs.Fault.{Rose};
 ghost use Rattle.spec_model.specs.Questions.{IsQuestionOn};
-ghost use Rattle.explain_command.specs.Explained.{IsExplainDocumentDue, IsExplainDue, IsExplainTold, IsExplanationOf, explain_said};
+ghost use Rattle.explain_command.specs.Explained.{IsExplainDocumentDue, IsExplainDue, IsExplainPrinted, IsExplanationOf};
+ghost use Rattle.explain_command.specs.Explained.{explain_said};
 
-use crate::telling::told_explained;
+use crate::telling::printed_explained;
 use bound_spec::is_specification;
 use command_stages::{Done, Trouble, read_specification, read_the_question};
 use core_explain::explain;
@@ -27,14 +28,14 @@ fn reply(
     requires within { IsWithinLimits spec.now }
     requires question { IsQuestionOn spec.now.relations question.now }
     requires unit { 1 ≤ asked.unit }
-    ensures job { IsSettled result → IsExplanationOf spec.now (explain_said asked.entry) question.now result }
+    ensures job { IsDetermined result → IsExplanationOf spec.now (explain_said asked.entry) question.now result }
     ensures inside { IsReadFault result → ⊥ }
     ensures not_words { IfErr result (λ e. e ≢ Trouble.Words) }
 {
     is_specification(spec);
     completions_are_writable();
     match explain(alloc, spec, question, asked.unit - 1, asked.budget, guides) {
-        Ok(explained) => told_explained(alloc, spec, asked.unit, &explained),
+        Ok(explained) => printed_explained(alloc, spec, asked.unit, &explained),
         Err(_) => Err(Trouble::NoMemory),
     }
 }
@@ -49,8 +50,8 @@ pub fn explain_documents<S: Shelf>(
     requires budget { asked.budget ≤ 10000000 }
     requires unit { 1 ≤ asked.unit }
     ensures later { S.faults shelf.old ≤ S.faults shelf.new }
-    ensures due { IsSettled result → IfSome (S.texts shelf.old) (λ told. IsExplainDue told (explain_said asked.entry) result) }
-    ensures told { IfOk result (λ done. IfSome (S.texts shelf.old) (λ told. IsExplainTold told (explain_said asked.entry)
+    ensures due { IsDetermined result → IfSome (S.texts shelf.old) (λ told. IsExplainDue told (explain_said asked.entry) result) }
+    ensures printed { IfOk result (λ done. IfSome (S.texts shelf.old) (λ told. IsExplainPrinted told (explain_said asked.entry)
         done.text done.ending)) }
     ensures read_fault { IsReadFault result → Rose (S.faults shelf.old) (S.faults shelf.new) }
     ensures unread { (n : List ℕ) → IsReadFaultOf result n

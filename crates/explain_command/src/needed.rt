@@ -3,7 +3,7 @@ ghost use Rattle.spec_model.specs.Completion.{HasShape};
 ghost use Rattle.text_write.specs.Pieces.{text_of};
 ghost use Rattle.text_write.specs.Spacing.{writes_all};
 ghost use Rattle.explain_command.specs.Text.{explains_pieces, explanation_pieces, later_pieces, needed_pieces};
-ghost use Rattle.explain_command.specs.Told.{IsWritableNeeded};
+ghost use Rattle.explain_command.specs.Writable.{IsWritableNeeded};
 
 use currency_base::{ByteList, NoMemory};
 use item_write::{write_head, write_item};

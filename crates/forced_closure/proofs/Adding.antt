@@ -14,7 +14,9 @@ use Rattle.denial_rules.specs.declared.rule.Rule.{Rule}
 use Rattle.order_squares.specs.Squares.{Layout, IsSlot}
 use Rattle.order_squares.proofs.Places.{get_cases, get_only, get_old, item_at}
 use Rattle.forced_closure.specs.Forced.{IsGiven}
-use Rattle.forced_closure.specs.Clauses.{Subject, AreOfGiven, AreSlots, HasFact, HasSlot, IsCopyClause, IsSaid, Told, with_clause, AreSaid, Adds, OfGrounds, OfRule, OfRules, OfPair, OfPairs, OfPlace, OfPlaces, OfCopy, OfCopies}
+use Rattle.forced_closure.specs.Clauses.{Subject, AreOfGiven, AreSlots, HasFact, HasSlot, IsCopyClause, IsSaid, HornClauses}
+use Rattle.forced_closure.specs.Clauses.{with_clause, AreSaid, Adds, OfGrounds, OfRule, OfRules, OfPair, OfPairs, OfPlace}
+use Rattle.forced_closure.specs.Clauses.{OfPlaces, OfCopy, OfCopies}
 use Rattle.forced_closure.specs.declared.origin.Origin.{Origin}
 use Rattle.forced_closure.specs.declared.origin.Origin.TheVariants as origin
 
@@ -107,7 +109,7 @@ fact_grows m old new rel p grows has = record { slot = has.slot; is_in = grows h
 pub said_none : (m : Subject) → AreSaid m (record { premises = []; conclusions = []; origins = [] })
 said_none m = record { premises = refl; conclusions = refl; each = λ k o ps c at at_ps at_c. absurd (none-some o at) }
 
-pub said_more : (m : Subject) (t : Told) (o : Origin) (ps : List ℕ) (c : ℕ) → IsSaid m o ps c → AreSaid m t
+pub said_more : (m : Subject) (t : HornClauses) (o : Origin) (ps : List ℕ) (c : ℕ) → IsSaid m o ps c → AreSaid m t
     → AreSaid m (with_clause t o ps c)
 said_more m t o ps c is are = record {
   premises = length_push t.premises ps ∙ (ap (λ n. n + 1) are.premises ∙ sym (length_push t.origins o));
@@ -142,7 +144,7 @@ said_more m t o ps c is are = record {
         (get_cases t.conclusions (c ∷ []) k c' at_c)
 
 -- one clause more
-pub adds_one : (m : Subject) (t : Told) (o : Origin) (ps : List ℕ) (c : ℕ) → IsSaid m o ps c
+pub adds_one : (m : Subject) (t : HornClauses) (o : Origin) (ps : List ℕ) (c : ℕ) → IsSaid m o ps c
     → Adds m t (with_clause t o ps c) (λ x. x ≡ o)
 adds_one m t o ps c is = record {
   said = said_more m t o ps c is;
@@ -151,11 +153,11 @@ adds_one m t o ps c is = record {
 }
 
 -- none more, where none is asked
-pub adds_none : (m : Subject) (t : Told) (asked : Origin → Type 0) → ((o : Origin) → asked o → ⊥) → Adds m t t asked
+pub adds_none : (m : Subject) (t : HornClauses) (asked : Origin → Type 0) → ((o : Origin) → asked o → ⊥) → Adds m t t asked
 adds_none m t asked none = record { said = λ said. said; grows = λ o old. old; all = λ o is. absurd (none o is) }
 
 -- some and then others
-pub adds_then : (m : Subject) (a b c : Told) (P Q R : Origin → Type 0) → Adds m a b P → Adds m b c Q →
+pub adds_then : (m : Subject) (a b c : HornClauses) (P Q R : Origin → Type 0) → Adds m a b P → Adds m b c Q →
     ((o : Origin) → R o → P o ⊎ Q o) → Adds m a c R
 adds_then m a b c P Q R first second cases = record {
   said = λ said. second.said (first.said said);
@@ -164,7 +166,7 @@ adds_then m a b c P Q R first second cases = record {
 }
 
 -- as much is asked
-pub adds_as : (m : Subject) (a b : Told) (P Q : Origin → Type 0) → Adds m a b P → ((o : Origin) → Q o → P o) → Adds m a b Q
+pub adds_as : (m : Subject) (a b : HornClauses) (P Q : Origin → Type 0) → Adds m a b P → ((o : Origin) → Q o → P o) → Adds m a b Q
 adds_as m a b P Q adds same = record { said = adds.said; grows = adds.grows; all = λ o is. adds.all o (same o is) }
 
 -- ---- what is asked, one after another
@@ -223,7 +225,7 @@ copies_cases m n k o number is = by (last_or is.k.0 n is.below)
         inr (subst (λ (r : CopyId). OfCopy m r o) one is.of)
 
 -- both clauses of a pair
-pub adds_both : (m : Subject) (a b c : Told) (copy : CopyId) (place : ℕ) (p : CopiedPair) (from to : ℕ)
+pub adds_both : (m : Subject) (a b c : HornClauses) (copy : CopyId) (place : ℕ) (p : CopiedPair) (from to : ℕ)
     → IsCopyClause m copy.0 place p.first p.second from to
     → b ≡ with_clause a (origin.Copy copy place p.first p.second) (from ∷ []) to → c ≡ with_clause b
     (origin.Back copy place p.first p.second) (to ∷ []) from
@@ -232,8 +234,8 @@ adds_both m a b c copy place p from to is first second =
     let forward : Origin = origin.Copy copy place p.first p.second in
     let back : Origin = origin.Back copy place p.first p.second in
     adds_then m a b c (λ o. o ≡ forward) (λ o. o ≡ back) (OfPair copy place p)
-    (subst (λ (t : Told). Adds m a t (λ o. o ≡ forward)) (sym first) (adds_one m a forward (from ∷ []) to (from, refl, is)))
-    (subst (λ (t : Told). Adds m b t (λ o. o ≡ back)) (sym second) (adds_one m b back (to ∷ []) from (to, refl, is)))
+    (subst (λ (t : HornClauses). Adds m a t (λ o. o ≡ forward)) (sym first) (adds_one m a forward (from ∷ []) to (from, refl, is)))
+    (subst (λ (t : HornClauses). Adds m b t (λ o. o ≡ back)) (sym second) (adds_one m b back (to ∷ []) from (to, refl, is)))
     (λ o of. of)
 
 -- ---- rules that conclude nothing

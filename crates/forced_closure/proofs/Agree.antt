@@ -20,18 +20,19 @@ use Rattle.order_squares.specs.Squares.{Layout, IsSlot}
 use Rattle.order_squares.proofs.Places.{item_at}
 use Rattle.order_squares.proofs.Slots.{one_slot, IsOnePair, one_pair, joins, parts}
 use Rattle.forced_closure.specs.Forced.{IsForced, IsInstance, AreCopiedAt, given, transitive, ruled, copied, back}
-use Rattle.forced_closure.specs.Clauses.{Subject, IsSubject, AreFacts, IsRuleClause, IsCopyClause, IsSaid, Told, AreSaid, AreClauses, OfRules, OfCopies, OfPair}
+use Rattle.forced_closure.specs.Clauses.{Subject, IsSubject, AreFacts, IsRuleClause, IsCopyClause, IsSaid, HornClauses, AreSaid}
+use Rattle.forced_closure.specs.Clauses.{AreClauses, OfRules, OfCopies, OfPair}
 use Rattle.forced_closure.specs.Derived.{AreCopied}
 use Rattle.forced_closure.specs.declared.origin.Origin.{Origin}
 use Rattle.forced_closure.specs.declared.origin.Origin.TheVariants as origin
 use Rattle.forced_closure.proofs.Adding.{stands, contains_at}
 
 -- the cells, facts and clauses of a specification
-abbrev pub horn_of : Subject → List ℕ → Told → Horn
+abbrev pub horn_of : Subject → List ℕ → HornClauses → Horn
 horn_of m facts t = record { sizes = m.layout.sizes; facts = facts; premises = t.premises; conclusions = t.conclusions }
 
 -- a specification with its facts and clauses
-pub record IsCase (m : Subject) (facts : List ℕ) (t : Told) : Type 0 where
+pub record IsCase (m : Subject) (facts : List ℕ) (t : HornClauses) : Type 0 where
   pub subject : IsSubject m
   pub facts_are : AreFacts m facts
   pub clauses : AreClauses m t
@@ -67,12 +68,12 @@ the_one x xs e = subst (λ (l : List ℕ). Contains l x) (sym e) (contains_at (x
 -- ---- of a clause
 
 -- what a clause was made of
-pub record IsMade (m : Subject) (t : Told) (k : ℕ) (premises : List ℕ) (conclusion : ℕ) : Type 0 where
+pub record IsMade (m : Subject) (t : HornClauses) (k : ℕ) (premises : List ℕ) (conclusion : ℕ) : Type 0 where
   pub from : Origin
   pub is_from : slice_get t.origins k ≡ Some from
   pub said : IsSaid m from premises conclusion
 
-pub made : (m : Subject) (t : Told) (k : ℕ) (premises : List ℕ) (conclusion : ℕ) → AreSaid m t → slice_get t.premises
+pub made : (m : Subject) (t : HornClauses) (k : ℕ) (premises : List ℕ) (conclusion : ℕ) → AreSaid m t → slice_get t.premises
     k ≡ Some premises
     → slice_get t.conclusions k ≡ Some conclusion → IsMade m t k premises conclusion
 made m t k premises conclusion are at_ps at_c =
@@ -80,7 +81,7 @@ made m t k premises conclusion are at_ps at_c =
     record { from = o.0; is_from = o.1; said = are.each k o.0 premises conclusion o.1 at_ps at_c }
 
 -- a clause that was made of something
-pub record HasClause (m : Subject) (t : Told) (o : Origin) : Type 0 where
+pub record HasClause (m : Subject) (t : HornClauses) (o : Origin) : Type 0 where
   pub k : ℕ
   pub premises : List ℕ
   pub conclusion : ℕ
@@ -88,7 +89,7 @@ pub record HasClause (m : Subject) (t : Told) (o : Origin) : Type 0 where
   pub is_conclusion : slice_get t.conclusions k ≡ Some conclusion
   pub said : IsSaid m o premises conclusion
 
-pub clause_of : (m : Subject) (t : Told) (o : Origin) → AreSaid m t → Contains t.origins o → HasClause m t o
+pub clause_of : (m : Subject) (t : HornClauses) (o : Origin) → AreSaid m t → Contains t.origins o → HasClause m t o
 clause_of m t o are c =
     let at = stands t.origins o c in
     let below = slice_get_within t.origins at.0 o at.1 in
@@ -132,7 +133,7 @@ said_forced m (origin.Back copy place first second) premises conclusion (to, e, 
     (back q.are.copy q.are.place first second q.are.are_at q.are.differ q.are.sources_differ
     (forced to (the_one to premises e) q.are.copy.target.0 q.are.place.target.0 first second q.target))
 
-pub least_forced : (m : Subject) (facts : List ℕ) (t : Told) → IsCase m facts t → (slot : ℕ)
+pub least_forced : (m : Subject) (facts : List ℕ) (t : HornClauses) → IsCase m facts t → (slot : ℕ)
     → IsLeast (horn_of m facts t) slot → AllForced m slot
 least_forced m facts t is _ (fact slot c) rel attr a b at =
     let g = is.facts_are.each slot c in
@@ -150,7 +151,7 @@ least_forced m facts t is _ (clause k premises conclusion are_premises is_conclu
 -- ---- forced pairs are of the least set
 
 -- the slot of a pair is of the least set
-pub record HasLeast (m : Subject) (facts : List ℕ) (t : Told) (rel attr : ℕ) (a b : RowId) : Type 0 where
+pub record HasLeast (m : Subject) (facts : List ℕ) (t : HornClauses) (rel attr : ℕ) (a b : RowId) : Type 0 where
   pub slot : ℕ
   pub is_slot : IsSlot m.layout rel attr a b slot
   pub is_least : IsLeast (horn_of m facts t) slot
@@ -197,7 +198,7 @@ one_instance s rule i atom earlier later rule' i' atom' earlier' later' n n' num
     }
 
 -- the origin of an instance
-rule_origin : (m : Subject) (facts : List ℕ) (t : Told) → IsCase m facts t → (rule : Rule) (i : RuleInstance)
+rule_origin : (m : Subject) (facts : List ℕ) (t : HornClauses) → IsCase m facts t → (rule : Rule) (i : RuleInstance)
     (atom : OrderAtom) (earlier later : RowId)
     → (n : IsInstance m.spec rule i atom earlier later)
     → (grounds : List (List RowId)) × (ground : ℕ) × (slice_get m.rules n.number ≡ Some grounds) ×
@@ -226,7 +227,7 @@ rule_origin m facts t is rule i atom earlier later n =
     } in
     (grounds.0, at.0, grounds.1, at.1, is.clauses.rules (origin.Rule k at.0) of)
 
-ruled_least : (m : Subject) (facts : List ℕ) (t : Told) → IsCase m facts t → (rule : Rule) (i : RuleInstance)
+ruled_least : (m : Subject) (facts : List ℕ) (t : HornClauses) → IsCase m facts t → (rule : Rule) (i : RuleInstance)
     (atom : OrderAtom) (earlier later : RowId)
     → (n : IsInstance m.spec rule i atom earlier later)
     → ((p : Pair) → Contains i.premises p → HasLeast m facts t rule.relation.0 p.attr.0 p.earlier p.later)
@@ -296,7 +297,7 @@ one_copy s k at first second are copy place p numbers ats =
           (ap (λ (c : CopyFunction). source_at c second) copies ∙ p.rows.second_is));
     }
 
-copy_origin : (m : Subject) (facts : List ℕ) (t : Told) → IsCase m facts t → (copy : CopyFunction) (place : Place)
+copy_origin : (m : Subject) (facts : List ℕ) (t : HornClauses) → IsCase m facts t → (copy : CopyFunction) (place : Place)
     (first second : RowId)
     → (p : AreCopiedAt m.spec copy place first second) → first ≢ second → p.rows.first_source ≢ p.rows.second_source
     → (o : Origin)
@@ -354,13 +355,13 @@ moved_source m k at first second from to q copy place p numbers ats =
     )
 
 -- a clause of one premise
-one_premise : (m : Subject) (facts : List ℕ) (t : Told) (k : ℕ) (ps : List ℕ) (x c : ℕ) → slice_get t.premises k ≡
+one_premise : (m : Subject) (facts : List ℕ) (t : HornClauses) (k : ℕ) (ps : List ℕ) (x c : ℕ) → slice_get t.premises k ≡
     Some ps → slice_get t.conclusions k ≡ Some c
     → ps ≡ x ∷ [] → IsLeast (horn_of m facts t) x → IsLeast (horn_of m facts t) c
 one_premise m facts t k ps x c at_ps at_c e least = clause k ps c at_ps at_c
     (λ slot is_in. subst (IsLeast (horn_of m facts t)) (only_one x slot ps e is_in) least)
 
-copied_least : (m : Subject) (facts : List ℕ) (t : Told) → IsCase m facts t → (copy : CopyFunction) (place : Place)
+copied_least : (m : Subject) (facts : List ℕ) (t : HornClauses) → IsCase m facts t → (copy : CopyFunction) (place : Place)
     (first second : RowId)
     → (p : AreCopiedAt m.spec copy place first second) → first ≢ second → p.rows.first_source ≢ p.rows.second_source
     → HasLeast m facts t copy.source.0 place.source.0 p.rows.first_source p.rows.second_source → HasLeast m facts t
@@ -384,7 +385,7 @@ copied_least m facts t is copy place first second p differ apart h =
               (subst (IsLeast (horn_of m facts t)) same h.is_least);
         }
 
-back_least : (m : Subject) (facts : List ℕ) (t : Told) → IsCase m facts t → (copy : CopyFunction) (place : Place)
+back_least : (m : Subject) (facts : List ℕ) (t : HornClauses) → IsCase m facts t → (copy : CopyFunction) (place : Place)
     (first second : RowId)
     → (p : AreCopiedAt m.spec copy place first second) → first ≢ second → p.rows.first_source ≢ p.rows.second_source
     → HasLeast m facts t copy.target.0 place.target.0 first second → HasLeast m facts t copy.source.0 place.source.0
@@ -409,7 +410,7 @@ back_least m facts t is copy place first second p differ apart h =
 
 -- ---- all of them
 
-pub forced_least : (m : Subject) (facts : List ℕ) (t : Told) → IsCase m facts t → (rel attr : ℕ) (a b : RowId)
+pub forced_least : (m : Subject) (facts : List ℕ) (t : HornClauses) → IsCase m facts t → (rel attr : ℕ) (a b : RowId)
     → IsForced m.spec rel attr a b
     → HasLeast m facts t rel attr a b
 forced_least m facts t is _ _ _ _ (given rel p g) =

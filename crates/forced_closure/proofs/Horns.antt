@@ -6,7 +6,7 @@ use Rattle.horn_closure.specs.Least.{Horn, IsHorn, IsLeast, fact, joined, clause
 use Rattle.order_squares.proofs.Cells.{cell_in}
 use Rattle.order_squares.proofs.Places.{item_at}
 use Rattle.order_squares.proofs.Slots.{slot_in}
-use Rattle.forced_closure.specs.Clauses.{Subject, IsSaid, Told}
+use Rattle.forced_closure.specs.Clauses.{Subject, IsSaid, HornClauses}
 use Rattle.forced_closure.specs.declared.origin.Origin.{Origin}
 use Rattle.forced_closure.specs.declared.origin.Origin.TheVariants as origin
 use Rattle.forced_closure.proofs.Adding.{contains_at}
@@ -33,7 +33,7 @@ said_within m (origin.Back copy place first second) premises conclusion (to, e, 
           q.are.are_at.rows.second_source conclusion q.source,
     )
 
-pub is_horn : (m : Subject) (facts : List ℕ) (t : Told) → IsCase m facts t → IsHorn (horn_of m facts t)
+pub is_horn : (m : Subject) (facts : List ℕ) (t : HornClauses) → IsCase m facts t → IsHorn (horn_of m facts t)
 is_horn m facts t is =
     let are = is.clauses.said in
     record {
@@ -66,7 +66,7 @@ least_within h is _ (clause k premises conclusion are_premises is_conclusion all
     subst (λ n. n < cells_of h.sizes) c.2 (is.conclusions c.0 conclusion c.1)
 
 -- the same cells, facts and clauses, told by other lists
-pub horn_same : (m : Subject) (facts : List ℕ) (t : Told) (sizes : List ℕ) (premises : List (List ℕ))
+pub horn_same : (m : Subject) (facts : List ℕ) (t : HornClauses) (sizes : List ℕ) (premises : List (List ℕ))
     (conclusions : List ℕ) → sizes ≡ m.layout.sizes
     → premises ≡ t.premises → conclusions ≡ t.conclusions
     → horn_of m facts t ≡ record { sizes = sizes; facts = facts; premises = premises; conclusions = conclusions }

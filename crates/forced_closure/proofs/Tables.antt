@@ -8,7 +8,7 @@ use Rattle.horn_closure.specs.Least.{IsAmong}
 use Rattle.horn_closure.specs.declared.derived.Derived.{Derived}
 use Rattle.order_squares.proofs.Places.{get_cases, get_only}
 use Rattle.forced_closure.specs.Clauses.{Subject}
-use Rattle.forced_closure.specs.Kept.{AreTold, IsTold, IsTable}
+use Rattle.forced_closure.specs.Kept.{ArePairsOfCells, IsPairOfCell, IsTable}
 use Rattle.forced_closure.specs.declared.forced.Forced.{Forced}
 use Rattle.forced_closure.specs.declared.origin.Origin.{Origin}
 use Rattle.forced_closure.proofs.Adding.{not_in}
@@ -77,17 +77,18 @@ table_all cells derived i table past is = subst (λ (xs : List Derived). IsTable
 
 -- ---- pairs
 
-pub told_none : (m : Subject) (origins : List Origin) (derived : List Derived) (pairs : List Forced) → pairs ≡ []
-    → AreTold m origins derived pairs 0
-told_none m origins derived pairs e = record {
+pub no_pairs : (m : Subject) (origins : List Origin) (derived : List Derived) (pairs : List Forced) → pairs ≡ []
+    → ArePairsOfCells m origins derived pairs 0
+no_pairs m origins derived pairs e = record {
   many = ap length e;
   each = λ i d f at_d at_f. absurd (none-some f (sym (ap (λ (xs : List Forced). slice_get xs i) e) ∙ at_f));
 }
 
-pub told_next : (m : Subject) (origins : List Origin) (derived : List Derived) (pairs new : List Forced) (n : ℕ)
+pub next_pair : (m : Subject) (origins : List Origin) (derived : List Derived) (pairs new : List Forced) (n : ℕ)
     (d : Derived) (f : Forced) → slice_get derived n ≡ Some d
-    → AreTold m origins derived pairs n → IsTold m origins d f → new ≡ pairs ++ f ∷ [] → AreTold m origins derived new (n + 1)
-told_next m origins derived pairs new n d f at are told e = record {
+    → ArePairsOfCells m origins derived pairs n → IsPairOfCell m origins d f → new ≡ pairs ++ f ∷ []
+    → ArePairsOfCells m origins derived new (n + 1)
+next_pair m origins derived pairs new n d f at are told e = record {
   many = ap length e ∙ (length_push pairs f ∙ ap (λ k. k + 1) are.many);
   each = λ i d' f' at_d at_f. by i d' f' at_d
       (get_cases pairs (f ∷ []) i f' (sym (ap (λ (xs : List Forced). slice_get xs i) e) ∙ at_f));
@@ -95,15 +96,15 @@ told_next m origins derived pairs new n d f at are told e = record {
   where
     by : (i : ℕ) (d' : Derived) (f' : Forced) → slice_get derived i ≡ Some d' → (slice_get pairs i ≡ Some f') ⊎
         ((j : ℕ) × (i ≡ length pairs + j) × (slice_get (f ∷ []) j ≡ Some f'))
-        → IsTold m origins d' f'
+        → IsPairOfCell m origins d' f'
     by i d' f' at_d (inl old) = are.each i d' f' at_d old
     by i d' f' at_d (inr (j, is, at_f)) =
         let only = get_only f j f' at_f in
         let place : i ≡ n = omega (arith, is, only.0, are.many) in
         let cell = same_Some d d' (sym at ∙ (ap (slice_get derived) (sym place) ∙ at_d)) in
-        subst (λ (x : Derived). IsTold m origins x f') cell (subst (IsTold m origins d) only.1 told)
+        subst (λ (x : Derived). IsPairOfCell m origins x f') cell (subst (IsPairOfCell m origins d) only.1 told)
 
-pub told_all : (m : Subject) (origins : List Origin) (derived : List Derived) (pairs : List Forced) (n : ℕ)
-    → n ≡ length derived → AreTold m origins derived pairs n
-    → AreTold m origins derived pairs (length derived)
-told_all m origins derived pairs n all are = record { many = are.many ∙ all; each = are.each }
+pub all_pairs : (m : Subject) (origins : List Origin) (derived : List Derived) (pairs : List Forced) (n : ℕ)
+    → n ≡ length derived → ArePairsOfCells m origins derived pairs n
+    → ArePairsOfCells m origins derived pairs (length derived)
+all_pairs m origins derived pairs n all are = record { many = are.many ∙ all; each = are.each }

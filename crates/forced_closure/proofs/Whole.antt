@@ -15,9 +15,10 @@ use Rattle.order_squares.specs.Squares.{IsSlot}
 use Rattle.order_squares.proofs.Places.{item_at}
 use Rattle.order_squares.proofs.Slots.{slot_in, one_slot, IsOnePair, one_pair, parts}
 use Rattle.forced_closure.specs.Forced.{IsForced, IsGiven, IsInstance, HasLoop}
-use Rattle.forced_closure.specs.Clauses.{Subject, IsRuleClause, IsCopyClause, IsSaid, Told}
+use Rattle.forced_closure.specs.Clauses.{Subject, IsRuleClause, IsCopyClause, IsSaid, HornClauses}
 use Rattle.forced_closure.specs.Derived.{IsPair, IsAmong, IsJoined, IsRuled, IsCopied, IsCopiedBack, IsDerived, AreForced}
-use Rattle.forced_closure.specs.Kept.{AreTellable, IsTellable, IsThere, IsTold, AreTold, IsWhy, IsWhyOf, IsTable, HasLoopIn, IsClosure}
+use Rattle.forced_closure.specs.Kept.{AreTellable, IsTellable, IsThere, IsPairOfCell, ArePairsOfCells, IsWhy, IsWhyOf, IsTable}
+use Rattle.forced_closure.specs.Kept.{HasLoopIn, IsClosure}
 use Rattle.forced_closure.specs.declared.forced.Forced.{Forced}
 use Rattle.forced_closure.specs.declared.forced.Why.{Why}
 use Rattle.forced_closure.specs.declared.forced.Why.TheVariants as why
@@ -28,16 +29,16 @@ use Rattle.forced_closure.proofs.Agree.{horn_of, IsCase, move_slot, the_one, mad
 
 -- ---- cells and pairs
 
-pub told_at : (m : Subject) (origins : List Origin) (derived : List Derived) (pairs : List Forced)
-    → AreTold m origins derived pairs (length derived) → (i : ℕ) (d : Derived)
-    → slice_get derived i ≡ Some d → (f : Forced) × (slice_get pairs i ≡ Some f) × IsTold m origins d f
-told_at m origins derived pairs are i d at =
+pub pair_of_cell : (m : Subject) (origins : List Origin) (derived : List Derived) (pairs : List Forced)
+    → ArePairsOfCells m origins derived pairs (length derived) → (i : ℕ) (d : Derived)
+    → slice_get derived i ≡ Some d → (f : Forced) × (slice_get pairs i ≡ Some f) × IsPairOfCell m origins d f
+pair_of_cell m origins derived pairs are i d at =
     let f = item_at pairs i (omega (arith, are.many, slice_get_within derived i d at)) in
     (f.0, f.1, are.each i d f.0 at f.1)
 
 -- a pair whose slot is that of a pair that was told is this one
 is_pair : (m : Subject) (origins : List Origin) (d : Derived) (f : Forced) (rel attr : ℕ) (a b : RowId) (slot : ℕ)
-    → IsTold m origins d f → d.slot ≡ slot
+    → IsPairOfCell m origins d f → d.slot ≡ slot
     → IsSlot m.layout rel attr a b slot → IsPair f rel attr a b
 is_pair m origins d f rel attr a b slot told same at =
     let one = one_pair m.layout f.rel.0 f.pair.attr.0 f.pair.earlier f.pair.later rel attr a b slot
@@ -46,13 +47,13 @@ is_pair m origins d f rel attr a b slot told same at =
 
 -- pairs of slots that stand before were told before
 among_before : (m : Subject) (origins : List Origin) (derived : List Derived) (pairs : List Forced)
-    → AreTold m origins derived pairs (length derived)
+    → ArePairsOfCells m origins derived pairs (length derived)
     → (n : ℕ) (rel attr : ℕ) (a b : RowId) (slot : ℕ) → cells.IsAmong (take n derived) slot → IsSlot m.layout rel attr a b slot
     → IsAmong (take n pairs) rel attr a b
 among_before m origins derived pairs are n rel attr a b slot among at =
     let st = stands (take n derived) among.one among.is_in in
     let full = get_take n derived st.0 among.one st.1 in
-    let f = told_at m origins derived pairs are st.0 among.one full.1 in
+    let f = pair_of_cell m origins derived pairs are st.0 among.one full.1 in
     record {
       forced = f.0;
       is_in = contains_at (take n pairs) st.0 f.0 (take_get n pairs st.0 f.0 full.0 f.1);
@@ -60,12 +61,12 @@ among_before m origins derived pairs are n rel attr a b slot among at =
     }
 
 among_all : (m : Subject) (origins : List Origin) (derived : List Derived) (pairs : List Forced)
-    → AreTold m origins derived pairs (length derived)
+    → ArePairsOfCells m origins derived pairs (length derived)
     → (rel attr : ℕ) (a b : RowId) (slot : ℕ) → cells.IsAmong derived slot → IsSlot m.layout rel attr a b slot
     → IsAmong pairs rel attr a b
 among_all m origins derived pairs are rel attr a b slot among at =
     let st = stands derived among.one among.is_in in
-    let f = told_at m origins derived pairs are st.0 among.one st.1 in
+    let f = pair_of_cell m origins derived pairs are st.0 among.one st.1 in
     record {
       forced = f.0;
       is_in = contains_at pairs st.0 f.0 f.1;
@@ -82,8 +83,8 @@ same_pair p q attrs earliers laters =
     ∙ ap (λ (r : RowId). let x : Pair = record { attr = q.attr; earlier = q.earlier; later = r } in x) laters)
 
 -- the first so many of what was derived, and as they were told
-module _ (m : Subject) (facts : List ℕ) (t : Told) (is : IsCase m facts t) (derived : List Derived) (pairs : List Forced)
-    (are : AreTold m t.origins derived pairs (length derived)) (n : ℕ) where
+module _ (m : Subject) (facts : List ℕ) (t : HornClauses) (is : IsCase m facts t) (derived : List Derived) (pairs : List Forced)
+    (are : ArePairsOfCells m t.origins derived pairs (length derived)) (n : ℕ) where
   fact_derived : (rel : RelId) (pair : Pair) (slot : ℕ) → Contains facts slot → IsSlot m.layout rel.0 pair.attr.0
       pair.earlier pair.later slot → IsGiven m.spec rel.0 pair
   fact_derived rel pair slot c at =
@@ -100,8 +101,8 @@ module _ (m : Subject) (facts : List ℕ) (t : Told) (is : IsCase m facts t) (de
       j.other.slot slot at j.meet in
       let one_at = get_take n derived first j.one j.is_one in
       let other_at = get_take n derived second j.other j.is_other in
-      let one = told_at m t.origins derived pairs are first j.one one_at.1 in
-      let other = told_at m t.origins derived pairs are second j.other other_at.1 in
+      let one = pair_of_cell m t.origins derived pairs are first j.one one_at.1 in
+      let other = pair_of_cell m t.origins derived pairs are second j.other other_at.1 in
       record {
         middle = p.middle;
         one = one.0;
@@ -218,34 +219,34 @@ module _ (m : Subject) (facts : List ℕ) (t : Told) (is : IsCase m facts t) (de
 -- ---- all of them
 
 -- what was derived, told as forced pairs
-pub record IsDone (m : Subject) (facts : List ℕ) (t : Told) (derived : List Derived) (pairs : List Forced) : Type 0 where
+pub record IsDone (m : Subject) (facts : List ℕ) (t : HornClauses) (derived : List Derived) (pairs : List Forced) : Type 0 where
   pub is : IsCase m facts t
   pub least : AreLeast (horn_of m facts t) derived
   pub sound : (slot : ℕ) → cells.IsAmong derived slot → IsLeast (horn_of m facts t) slot
-  pub told : AreTold m t.origins derived pairs (length derived)
+  pub pairs_are : ArePairsOfCells m t.origins derived pairs (length derived)
 
 cell_at : (derived : List Derived) (pairs : List Forced) (i : ℕ) (f : Forced) → length pairs ≡ length derived
     → slice_get pairs i ≡ Some f
     → (d : Derived) × (slice_get derived i ≡ Some d)
 cell_at derived pairs i f many at = item_at derived i (omega (arith, many, slice_get_within pairs i f at))
 
-pub are_forced : (m : Subject) (facts : List ℕ) (t : Told) (derived : List Derived) (pairs : List Forced)
+pub are_forced : (m : Subject) (facts : List ℕ) (t : HornClauses) (derived : List Derived) (pairs : List Forced)
     → IsDone m facts t derived pairs
     → AreForced (record { spec = m.spec; pairs = pairs })
 are_forced m facts t derived pairs done = record {
   each = λ place f at.
-      let d = cell_at derived pairs place f done.told.many at in
-      let told = done.told.each place d.0 f d.1 at in
-      one_derived m facts t done.is derived pairs done.told place d.0.why f.rel f.pair f.why d.0.slot
+      let d = cell_at derived pairs place f done.pairs_are.many at in
+      let told = done.pairs_are.each place d.0 f d.1 at in
+      one_derived m facts t done.is derived pairs done.pairs_are place d.0.why f.rel f.pair f.why d.0.slot
       (done.least.each place d.0 d.1) told.why_is told.is_slot;
   all = λ rel attr earlier later forced.
       let h = forced_least m facts t done.is rel attr earlier later forced in
-      among_all m t.origins derived pairs done.told rel attr earlier later h.slot (done.least.all h.slot h.is_least) h.is_slot;
+      among_all m t.origins derived pairs done.pairs_are rel attr earlier later h.slot (done.least.all h.slot h.is_least) h.is_slot;
   once = λ i j f g at_i at_j rels same.
-      let d = cell_at derived pairs i f done.told.many at_i in
-      let e = cell_at derived pairs j g done.told.many at_j in
-      let first = (done.told.each i d.0 f d.1 at_i).is_slot in
-      let second = (done.told.each j e.0 g e.1 at_j).is_slot in
+      let d = cell_at derived pairs i f done.pairs_are.many at_i in
+      let e = cell_at derived pairs j g done.pairs_are.many at_j in
+      let first = (done.pairs_are.each i d.0 f d.1 at_i).is_slot in
+      let second = (done.pairs_are.each j e.0 g e.1 at_j).is_slot in
       let one : IsOnePair f.rel.0 f.pair.attr.0 f.pair.earlier f.pair.later g.rel.0 g.pair.attr.0 g.pair.earlier
       g.pair.later = record {
         rels = ap (λ (r : RelId). r.0) rels;
@@ -260,16 +261,16 @@ are_forced m facts t derived pairs done = record {
 }
 
 -- each pair that was told is forced
-told_forced : (m : Subject) (facts : List ℕ) (t : Told) (derived : List Derived) (pairs : List Forced)
+told_forced : (m : Subject) (facts : List ℕ) (t : HornClauses) (derived : List Derived) (pairs : List Forced)
     → IsDone m facts t derived pairs → (i : ℕ) (f : Forced)
     → slice_get pairs i ≡ Some f → IsForced m.spec f.rel.0 f.pair.attr.0 f.pair.earlier f.pair.later
 told_forced m facts t derived pairs done i f at =
-    let d = cell_at derived pairs i f done.told.many at in
+    let d = cell_at derived pairs i f done.pairs_are.many at in
     let among : cells.IsAmong derived d.0.slot = record { one = d.0; is_in = contains_at derived i d.0 d.1; slot_is = refl } in
     least_forced m facts t done.is d.0.slot (done.sound d.0.slot among) f.rel.0 f.pair.attr.0 f.pair.earlier
-    f.pair.later (done.told.each i d.0 f d.1 at).is_slot
+    f.pair.later (done.pairs_are.each i d.0 f d.1 at).is_slot
 
-loop_there : (m : Subject) (facts : List ℕ) (t : Told) (derived : List Derived) (pairs : List Forced)
+loop_there : (m : Subject) (facts : List ℕ) (t : HornClauses) (derived : List Derived) (pairs : List Forced)
     → IsDone m facts t derived pairs → HasLoopIn pairs → HasLoop m.spec
 loop_there m facts t derived pairs done loop =
     let f = loop.pair in
@@ -281,14 +282,14 @@ loop_there m facts t derived pairs done loop =
       forced = subst (IsForced m.spec f.rel.0 f.pair.attr.0 f.pair.earlier) (sym loop.same) forced;
     }
 
-loop_told : (m : Subject) (facts : List ℕ) (t : Told) (derived : List Derived) (pairs : List Forced)
+loop_told : (m : Subject) (facts : List ℕ) (t : HornClauses) (derived : List Derived) (pairs : List Forced)
     → IsDone m facts t derived pairs → HasLoop m.spec → HasLoopIn pairs
 loop_told m facts t derived pairs done loop =
     let among = (are_forced m facts t derived pairs done).all loop.rel loop.attr loop.row loop.row loop.forced in
     let st = stands pairs among.forced among.is_in in
     record { place = st.0; pair = among.forced; is_pair = st.1; same = among.is_pair.earlier_is ∙ sym among.is_pair.later_is }
 
-pub is_closure : (m : Subject) (facts : List ℕ) (t : Told) (derived : List Derived) (pairs : List Forced)
+pub is_closure : (m : Subject) (facts : List ℕ) (t : HornClauses) (derived : List Derived) (pairs : List Forced)
     (table : List Bool) (loops : Bool)
     → IsDone m facts t derived pairs → IsTable (cells_of m.layout.sizes) derived table → ((loops ≡ true) ↔ HasLoopIn pairs)
     → IsClosure (record { spec = m.spec; pairs = pairs }) m.layout table loops
@@ -296,7 +297,7 @@ is_closure m facts t derived pairs table loops done tabled looped = record {
   forced = are_forced m facts t derived pairs done;
   relations = done.is.subject.relations;
   within = λ rel attr earlier later slot at. omega (arith, tabled.many, slot_in m.layout rel attr earlier later slot at);
-  told = λ rel attr earlier later slot at.
+  marked = λ rel attr earlier later slot at.
       let below = slot_in m.layout rel attr earlier later slot at in (
         (λ yes_is. least_forced m facts t done.is slot (done.sound slot ((tabled.each slot below).0 yes_is)) rel attr
             earlier later at),
@@ -314,7 +315,7 @@ is_closure m facts t derived pairs table loops done tabled looped = record {
 }
 
 -- what was derived can be told
-pub tellable : (m : Subject) (facts : List ℕ) (t : Told) (derived : List Derived) → IsCase m facts t
+pub tellable : (m : Subject) (facts : List ℕ) (t : HornClauses) (derived : List Derived) → IsCase m facts t
     → AreLeast (horn_of m facts t) derived
     → ((slot : ℕ) → cells.IsAmong derived slot → IsLeast (horn_of m facts t) slot)
     → ((slot : ℕ) → IsLeast (horn_of m facts t) slot → slot < cells_of m.layout.sizes) → AreTellable m t.origins derived

@@ -115,13 +115,13 @@ IsSaid m (origin.Back copy place first second) premises conclusion =
     (to : ℕ) × (premises ≡ to ∷ []) × IsCopyClause m copy.0 place first second conclusion to
 
 -- clauses: the premises of each, its conclusion, and what it was made of
-pub record Told : Type 0 where
+pub record HornClauses : Type 0 where
   pub premises : List (List ℕ)
   pub conclusions : List ℕ
   pub origins : List Origin
 
 -- one clause more
-abbrev pub with_clause : Told → Origin → List ℕ → ℕ → Told
+abbrev pub with_clause : HornClauses → Origin → List ℕ → ℕ → HornClauses
 with_clause t o premises conclusion =
     record {
       premises = t.premises ++ premises ∷ [];
@@ -131,7 +131,7 @@ with_clause t o premises conclusion =
     }
 
 -- each clause says what it was made of
-pub record AreSaid (m : Subject) (t : Told) : Type 0 where
+pub record AreSaid (m : Subject) (t : HornClauses) : Type 0 where
   pub premises : length t.premises ≡ length t.origins
   pub conclusions : length t.conclusions ≡ length t.origins
   pub each : (k : ℕ) (o : Origin) (premises : List ℕ) (conclusion : ℕ) → slice_get t.origins k ≡ Some o
@@ -139,7 +139,7 @@ pub record AreSaid (m : Subject) (t : Told) : Type 0 where
       → slice_get t.conclusions k ≡ Some conclusion → IsSaid m o premises conclusion
 
 -- from clauses to more: each of them says what it was made of if that was so before, what was there is, and so is what is asked
-pub record Adds (m : Subject) (old new : Told) (asked : Origin → Type 0) : Type 0 where
+pub record Adds (m : Subject) (old new : HornClauses) (asked : Origin → Type 0) : Type 0 where
   pub said : AreSaid m old → AreSaid m new
   pub grows : (o : Origin) → Contains old.origins o → Contains new.origins o
   pub all : (o : Origin) → asked o → Contains new.origins o
@@ -227,7 +227,7 @@ abbrev pub HasPair : Subject → ℕ → CopiedPair → Type 0
 HasPair m k p = (pairs : List CopiedPair) → slice_get m.copies k ≡ Some pairs → Contains pairs p
 
 -- the clauses of a specification: each says what it was made of, and those of all rules and copy functions are there
-pub record AreClauses (m : Subject) (t : Told) : Type 0 where
+pub record AreClauses (m : Subject) (t : HornClauses) : Type 0 where
   pub said : AreSaid m t
   pub rules : (o : Origin) → OfRules m (length m.spec.rules) o → Contains t.origins o
   pub copies : (o : Origin) → OfCopies m (length m.spec.copies) o → Contains t.origins o

@@ -70,14 +70,15 @@ IsWhy rules origins (cell.Joined first second) w = w ≡ why.Transitive first se
 IsWhy rules origins (cell.Clause k) w = IsWhyAt rules origins k w
 
 -- a cell is told as a forced pair
-pub record IsTold (m : Subject) (origins : List Origin) (d : Derived) (f : Forced) : Type 0 where
+pub record IsPairOfCell (m : Subject) (origins : List Origin) (d : Derived) (f : Forced) : Type 0 where
   pub is_slot : IsSlot m.layout f.rel.0 f.pair.attr.0 f.pair.earlier f.pair.later d.slot
   pub why_is : IsWhy m.rules origins d.why f.why
 
 -- the first cells are told, each at its place
-pub record AreTold (m : Subject) (origins : List Origin) (derived : List Derived) (pairs : List Forced) (count : ℕ) : Type 0 where
+pub record ArePairsOfCells (m : Subject) (origins : List Origin) (derived : List Derived) (pairs : List Forced) (count : ℕ) : Type 0 where
   pub many : length pairs ≡ count
-  pub each : (i : ℕ) (d : Derived) (f : Forced) → slice_get derived i ≡ Some d → slice_get pairs i ≡ Some f → IsTold m origins d f
+  pub each : (i : ℕ) (d : Derived) (f : Forced) → slice_get derived i ≡ Some d → slice_get pairs i ≡ Some f
+      → IsPairOfCell m origins d f
 
 -- ---- what is kept
 
@@ -103,7 +104,7 @@ pub record IsClosure (c : Closed) (l : Layout) (table : List Bool) (loops : Bool
   pub forced : AreForced c
   pub relations : l.relations ≡ c.spec.relations
   pub within : (rel attr : ℕ) (earlier later : RowId) (slot : ℕ) → IsSlot l rel attr earlier later slot → slot < length table
-  pub told : (rel attr : ℕ) (earlier later : RowId) (slot : ℕ) → IsSlot l rel attr earlier later slot
+  pub marked : (rel attr : ℕ) (earlier later : RowId) (slot : ℕ) → IsSlot l rel attr earlier later slot
       → (slice_index_or table slot false ≡ true) ↔ IsForced c.spec rel attr earlier later
   pub placed : (rel attr : ℕ) (earlier later : RowId) → IsForced c.spec rel attr earlier later → IsPlaced l rel attr earlier later
   pub loops_are : (loops ≡ true) ↔ HasLoop c.spec

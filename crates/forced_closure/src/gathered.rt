@@ -16,9 +16,9 @@ pub(crate) struct Gathered {
 }
 
 impl Model for Gathered {
-    ghost use Rattle.forced_closure.specs.Clauses.{Told};
+    ghost use Rattle.forced_closure.specs.Clauses.{HornClauses};
 
-    ghost Value = { Told };
+    ghost Value = { HornClauses };
 
     ghost view = { λ g. record {
       premises = g.clauses.premises;

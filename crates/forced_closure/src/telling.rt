@@ -1,6 +1,7 @@
 ghost use Rattle.std.specs.Prelude.{◌≡◌, ◌<◌, IfOk, length};
 ghost use Rattle.horn_closure.specs.Least.{cells_of};
-ghost use Rattle.forced_closure.specs.Kept.{AreTellable, AreTold, HasOrigin, IsTellable, IsThere, IsTold, IsWhy, IsWhyAt, IsWhyOf};
+ghost use Rattle.forced_closure.specs.Kept.{ArePairsOfCells, AreTellable, HasOrigin, IsPairOfCell, IsTellable, IsThere, IsWhy};
+ghost use Rattle.forced_closure.specs.Kept.{IsWhyAt, IsWhyOf};
 
 use crate::origin::Origin;
 use crate::subject::Subject;
@@ -18,7 +19,7 @@ pub(crate) fn tell(
     derived: &[Derived],
 ) -> Result<Vec<Forced>, NoMemory>
     requires { AreTellable subject.now origins.now derived.now }
-    ensures { IfOk result (λ pairs. AreTold subject.now origins.now derived.now pairs.items (length derived.now)) }
+    ensures { IfOk result (λ pairs. ArePairsOfCells subject.now origins.now derived.now pairs.items (length derived.now)) }
 {
     let mut pairs = Vec::with_capacity(alloc, derived.len())?;
     for cell in derived {
@@ -31,7 +32,7 @@ pub(crate) fn tell(
 fn tell_one(alloc: Global, subject: &Subject<'_>, origins: &[Origin], cell: Derived) -> Forced
     requires slot { cell.slot < cells_of subject.now.layout.sizes }
     requires why { IsTellable subject.now.rules origins.now cell.why }
-    ensures { IsTold subject.now origins.now cell result }
+    ensures { IsPairOfCell subject.now origins.now cell result }
 {
     let (rel, pair) = subject.squares().pair_at(cell.slot);
     let why = why_of(alloc, subject, origins, cell.why);

@@ -1,4 +1,4 @@
 mod Marked
 mod Reading
 mod SameValues
-mod Told
+mod ForcedClaims

@@ -5,7 +5,7 @@ use Rattle.std.proofs.lemmas.Option.{none-some, same_Some}
 use Rattle.posed_facts.specs.Facts.{FactIn}
 use Rattle.posed_facts.specs.declared.fact.Fact.{Fact}
 use Rattle.report_verify.specs.Right.{EachConsistent}
-use Rattle.settled_facts.specs.Steps.{AreMarked}
+use Rattle.decided_facts.specs.Steps.{AreMarked}
 use Rattle.spec_model.specs.Spec.{Spec}
 
 -- what holds of the items at each place of two lists, and of one more item of each, holds at each place of the longer lists

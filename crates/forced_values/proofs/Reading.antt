@@ -7,7 +7,7 @@ use Rattle.entity_lists.proofs.Facts.{length-entities_of, member_of}
 use Rattle.match_premises.specs.declared.premise.Premise.{Premise}
 use Rattle.spec_model.specs.Spec.{Spec}
 use Rattle.spec_model.specs.declared.relation.Relation.{Relation}
-use Rattle.forced_values.specs.Values.{AreRowsWith, GivesWay, IsTold}
+use Rattle.forced_values.specs.Values.{AreRowsWith, GivesWay, IsClaimForced}
 
 -- the rows of an entity are there
 rows_within : (relations : List Relation) (p : Premise) (rows : List RowId) → (are : AreRowsWith relations p rows)
@@ -30,9 +30,9 @@ rows_there relations p rows are r at =
     (rows_within relations p rows are)
 
 -- where each of them gives way forced pairs tell the claim
-pub all_told : (s t : Spec) → t ≡ s → (p : Premise) (rows : List RowId) → AreRowsWith s.relations p rows
-    → (r : Relation) → slice_get s.relations p.rel.0 ≡ Some r → All (GivesWay t p r.rows) rows → IsTold s p
-all_told s t one p rows are r at all =
+pub all_forced : (s t : Spec) → t ≡ s → (p : Premise) (rows : List RowId) → AreRowsWith s.relations p rows
+    → (r : Relation) → slice_get s.relations p.rel.0 ≡ Some r → All (GivesWay t p r.rows) rows → IsClaimForced s p
+all_forced s t one p rows are r at all =
     let same : r ≡ are.relation = same_Some r are.relation (sym at ∙ are.is_relation) in
     let own : All (GivesWay s p r.rows) rows = subst (λ u. All (GivesWay u p r.rows) rows) one all in
     record {

@@ -27,7 +27,7 @@ pub data GivesWay (s : Spec) (p : Premise) (table : List Row) (row : RowId) : Ty
   before : IsForced s p.rel.0 p.attr.0 row p.row → GivesWay s p table row
 
 -- forced pairs tell what is claimed: each row of the entity gives way to the claim's row
-pub record IsTold (s : Spec) (p : Premise) : Type 0 where
+pub record IsClaimForced (s : Spec) (p : Premise) : Type 0 where
   pub rows : List RowId
   pub rows_are : AreRowsWith s.relations p rows
   pub each : All (GivesWay s p rows_are.relation.rows) rows

@@ -4,12 +4,12 @@ ghost use Rattle.std.specs.Prelude.{◌≡◌, true, All, IfOk, map};
 ghost use Rattle.posed_facts.specs.Facts.{FactIn, IsPosable};
 ghost use Rattle.report_verify.specs.Right.{EachConsistent};
 ghost use Rattle.search_logs.specs.SearchLogs.{IsWithin};
-ghost use Rattle.settled_facts.specs.Steps.{AreMarked};
+ghost use Rattle.decided_facts.specs.Steps.{AreMarked};
 ghost use Rattle.spec_model.specs.Facts.{IsSpecification};
 ghost use Rattle.forced_values.specs.Values.{grouping_of};
 
 use crate::groups::group_rows;
-use crate::values::is_told;
+use crate::values::is_claim_forced;
 use currency_base::NoMemory;
 use entity_lists::EntityLists;
 use forced_closure::{Closure, close, forced_pairs_hold};
@@ -53,7 +53,7 @@ fn holds_by_force(
 {
     forced_pairs_hold();
     match fact {
-        Fact::Current(claim) => is_told(spec, closure, groups, *claim),
+        Fact::Current(claim) => is_claim_forced(spec, closure, groups, *claim),
         _ => false,
     }
 }

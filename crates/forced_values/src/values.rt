@@ -5,7 +5,7 @@ ghost use Rattle.denial_rules.specs.Instances.{field_value};
 ghost use Rattle.posed_facts.specs.Facts.{IsPlaced};
 ghost use Rattle.spec_model.specs.Facts.{AreRelations};
 ghost use Rattle.spec_model.specs.declared.relation.Relation.{Relation as RelationValue};
-ghost use Rattle.forced_values.specs.Values.{AreRowsWith, GivesWay, IsTold, grouping_of};
+ghost use Rattle.forced_values.specs.Values.{AreRowsWith, GivesWay, IsClaimForced, grouping_of};
 
 use currency_base::{AttrId, Cmp, Pair, RowId, Rows, Value};
 use entity_lists::EntityLists;
@@ -15,7 +15,7 @@ use spec_model::{Relation, Specification};
 
 /// Does each other row of the claim's entity have its value, or is it forced to stand before its row? Takes time in proportion
 /// to the rows of the entity, and no memory.
-pub(crate) fn is_told(
+pub(crate) fn is_claim_forced(
     spec: &Specification,
     closure: &Closure<'_>,
     groups: &[EntityLists],
@@ -24,7 +24,7 @@ pub(crate) fn is_told(
     requires closure { closure.now.spec ≡ spec.now }
     requires groups { groups.now ≡ map grouping_of spec.now.relations }
     requires claim { IsPlaced spec.now.relations claim }
-    ensures { result ≡ true → IsTold spec.now claim }
+    ensures { result ≡ true → IsClaimForced spec.now claim }
 {
     let relations = spec.relations();
     let rows = rows_with(relations, groups, claim);

@@ -6,7 +6,7 @@ use Rattle.std.proofs.lemmas.Option.{same_Some, slice_get_within}
 use Rattle.currency_base.specs.declared.ids.RowId.{RowId}
 use Rattle.currency_base.specs.declared.pair.Pair.{Pair}
 use Rattle.currency_base.specs.declared.row.Row.{Row}
-use Rattle.currency_base.specs.declared.value.Kind.{Kind}
+use Rattle.currency_base.specs.declared.value.ValueKind.{ValueKind}
 use Rattle.copy_functions.specs.Copies.{CopyFunction}
 use Rattle.copy_functions.specs.declared.place.Place.{Place}
 use Rattle.denial_rules.specs.Rules.{IsConclusion, IsAtom}
@@ -96,7 +96,8 @@ ruled_within s rule i atom earlier later facts n =
     }
 
 -- an attribute of a kind is there
-kind_within : (r s : Relation) (attr : ℕ) (kind : Kind) → r ≡ s → slice_get (kinds_of r) attr ≡ Some kind → attr < length s.attrs
+kind_within : (r s : Relation) (attr : ℕ) (kind : ValueKind) → r ≡ s → slice_get (kinds_of r) attr ≡ Some kind
+    → attr < length s.attrs
 kind_within r s attr kind same at =
     let there = slice_get_within (kinds_of r) attr kind at in
     let within : attr < length (kinds_of s) = subst (λ (q : Relation). attr < length (kinds_of q)) same there in

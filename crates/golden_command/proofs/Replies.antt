@@ -45,9 +45,9 @@ of_table s column r golden.Inconsistent = tt
 of_table s column r (golden.Undecided p report) = tt
 
 -- what is told of a relation is alike
-told_alike : (t u : SpecTree) (s : Spec) (g : GoldenSaid) (a b : Result Done Trouble) → AreGoldenOf t s g a
+printed_alike : (t u : SpecTree) (s : Spec) (g : GoldenSaid) (a b : Result Done Trouble) → AreGoldenOf t s g a
     → AreGoldenOf u s g b → AreAlike a b
-told_alike t u s g a b h k =
+printed_alike t u s g a b h k =
     let first = column_in t.statements h.relation.name in
     let second = column_in u.statements k.relation.name in
     tables_alike (golden_done s first h.relation h.found) (golden_done s second k.relation k.found) a b
@@ -61,7 +61,7 @@ outcomes_alike t u s g a b (inl h) (inr k) =
     absurd (none_or_some (relation_named s.relations g.relation) k.rel h.0 k.is_named)
 outcomes_alike t u s g a b (inr h) (inl k) =
     absurd (none_or_some (relation_named s.relations g.relation) h.rel k.0 h.is_named)
-outcomes_alike t u s g a b (inr h) (inr k) = told_alike t u s g a b h k
+outcomes_alike t u s g a b (inr h) (inr k) = printed_alike t u s g a b h k
 
 -- the same with the tree of the document's text
 pub found_like : (told : List (List ℕ × List ℕ)) (s : Spec) (g : GoldenSaid) → IsLike (IsGoldenFound told g s)

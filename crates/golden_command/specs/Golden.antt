@@ -44,7 +44,7 @@ abbrev pub IsGoldenDue : List (List ℕ × List ℕ) → GoldenSaid → Result D
 IsGoldenDue told g = Then (IsSpecRead told g.spec) (IsGoldenFound told g)
 
 -- the document is read as a specification, and this is the text of the golden records of the relation, and how that ends
-pub record IsGoldenTold (told : List (List ℕ × List ℕ)) (g : GoldenSaid) (text : List ℕ) (ending : Ending) : Type 0 where
+pub record IsGoldenPrinted (told : List (List ℕ × List ℕ)) (g : GoldenSaid) (text : List ℕ) (ending : Ending) : Type 0 where
   pub spec : Spec
   pub spec_read : IsSpecRead told g.spec (Ok spec)
   pub tree : SpecTree

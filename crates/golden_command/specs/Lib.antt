@@ -1,4 +1,4 @@
 pub mod Asked
 pub mod Golden
 pub mod Text
-pub mod Told
+pub mod Writable

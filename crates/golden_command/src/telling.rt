@@ -3,7 +3,7 @@
 ghost use Rattle.std.specs.Prelude.{◌≡◌, All, IfErr, IfOk, OnOk, length};
 ghost use Rattle.golden_command.specs.Text.{golden_done, golden_text, inconsistent_pieces, inconsistent_text};
 ghost use Rattle.golden_command.specs.Text.{undecided_text};
-ghost use Rattle.golden_command.specs.Told.{CanBeTold};
+ghost use Rattle.golden_command.specs.Writable.{IsWritableGolden};
 ghost use Rattle.golden_values.specs.Golden.{IsPosed};
 ghost use Rattle.report_write.specs.Writable.{IsWritableReport};
 ghost use Rattle.text_write.specs.Spacing.{writes_all};
@@ -20,15 +20,15 @@ use std::alloc::Global;
 use text_write::TextWriter;
 
 /// What is told of what is found, where the entity column has this name.
-pub(crate) fn told_golden(
+pub(crate) fn printed_golden(
     alloc: Global,
     spec: &Specification,
     column: ByteList,
     relation: &Relation,
     found: &Golden,
 ) -> Result<Done, Trouble>
-    requires { CanBeTold spec.now relation.now found.now }
-    ensures told { IfOk result (λ done. done ≡ golden_done spec.now column relation.now found.now) }
+    requires { IsWritableGolden spec.now relation.now found.now }
+    ensures printed { IfOk result (λ done. done ≡ golden_done spec.now column relation.now found.now) }
     ensures memory { IfErr result (λ e. e ≡ Trouble.NoMemory) }
 {
     match done_of(alloc, spec, column, relation, found) {
@@ -45,7 +45,7 @@ fn done_of(
     relation: &Relation,
     found: &Golden,
 ) -> Result<Done, NoMemory>
-    requires { CanBeTold spec.now relation.now found.now }
+    requires { IsWritableGolden spec.now relation.now found.now }
     ensures { IfOk result (λ done. done ≡ golden_done spec.now column relation.now found.now) }
 {
     match found {

@@ -1,12 +1,12 @@
--- What is known of a first completion, and what is settled of its values.
+-- What is known of a first completion, and what is decided of its values.
 use Rattle.std.proofs.Common.{◌≡◌, ◌<◌, ◌∷◌, ℕ, List, [], All, length, subst, sym, arith}
 use Rattle.std.proofs.lemmas.List.Elements.{All-cons, All-nil}
 use Rattle.posed_facts.specs.Facts.{IsPosable}
 use Rattle.posed_facts.specs.declared.fact.Fact.{Fact}
-use Rattle.settled_facts.specs.Settled.{IsSettled}
-use Rattle.settled_facts.specs.declared.shown.Settled.{Settled}
-use Rattle.settled_facts.specs.declared.shown.Settled.TheVariants as settled
-use Rattle.settled_facts.specs.declared.shown.Shown.{Shown}
+use Rattle.decided_facts.specs.Decided.{IsFactOutcome}
+use Rattle.decided_facts.specs.declared.shown.FactOutcome.{FactOutcome}
+use Rattle.decided_facts.specs.declared.shown.FactOutcome.TheVariants as outcome
+use Rattle.decided_facts.specs.declared.shown.Shown.{Shown}
 use Rattle.spec_model.specs.Completion.{Rankings}
 use Rattle.spec_model.specs.Consistent.{IsConsistent}
 use Rattle.spec_model.specs.Spec.{Spec}
@@ -39,12 +39,12 @@ known_posable s rel facts known is = claims_posable s.relations rel is.completio
 
 -- what is shown of them
 pub shown_claims : (s : Spec) (rel budget : ℕ) (facts : List Fact) (known completions : List Rankings) (list : List Shown)
-    (x : Settled) → IsKnown s rel facts known → x ≡ settled.All completions list → IsSettled s facts budget x
+    (x : FactOutcome) → IsKnown s rel facts known → x ≡ outcome.All completions list → IsFactOutcome s facts budget x
     → AreClaimsShown s rel facts list
-shown_claims s rel budget facts known completions list x is settled_is settled_are = record {
+shown_claims s rel budget facts known completions list x is outcome_is outcomes_are = record {
   completion = is.completion;
   consistent = is.consistent;
   claims = is.claims;
   completions = completions;
-  shown = subst (IsSettled s facts budget) settled_is settled_are;
+  shown = subst (IsFactOutcome s facts budget) outcome_is outcomes_are;
 }

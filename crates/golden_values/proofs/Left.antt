@@ -6,16 +6,16 @@ use Rattle.posed_facts.specs.Facts.{IsPosable}
 use Rattle.posed_facts.specs.Questions.{fact_question}
 use Rattle.posed_facts.specs.declared.fact.Fact.{Fact}
 use Rattle.report_model.specs.declared.report.Report.{Report}
-use Rattle.settled_facts.specs.Settled.{IsOpenAt, IsSettled}
-use Rattle.settled_facts.specs.declared.shown.Settled.{Settled}
-use Rattle.settled_facts.specs.declared.shown.Settled.TheVariants as settled
+use Rattle.decided_facts.specs.Decided.{IsFactOutcome, IsOpenAt}
+use Rattle.decided_facts.specs.declared.shown.FactOutcome.{FactOutcome}
+use Rattle.decided_facts.specs.declared.shown.FactOutcome.TheVariants as outcome
 use Rattle.spec_model.specs.Spec.{Spec}
 use Rattle.golden_values.proofs.Lists.{item_has}
 
--- what is settled is that the budget is spent at a place
-pub is_open : (s : Spec) (facts : List Fact) (budget place : ℕ) (report : Report) (x : Settled)
-    → x ≡ settled.Open place report → IsSettled s facts budget x → IsOpenAt s facts budget place report
-is_open s facts budget place report x is settled = subst (IsSettled s facts budget) is settled
+-- the outcome is that the budget is spent at a place
+pub is_open : (s : Spec) (facts : List Fact) (budget place : ℕ) (report : Report) (x : FactOutcome)
+    → x ≡ outcome.Open place report → IsFactOutcome s facts budget x → IsOpenAt s facts budget place report
+is_open s facts budget place report x is outcome = subst (IsFactOutcome s facts budget) is outcome
 
 -- the place is there
 pub open_within : (s : Spec) (facts : List Fact) (budget place : ℕ) (report : Report) → IsOpenAt s facts budget place report

@@ -2,7 +2,7 @@ mod Lists
 mod Claims
 mod Made
 mod Claimed
-mod Told
+mod FieldsShown
 mod Posable
 mod Left
 mod Known

@@ -5,9 +5,9 @@ use Rattle.denial_rules.specs.Instances.{field_value}
 use Rattle.match_premises.specs.declared.premise.Premise.{Premise}
 use Rattle.posed_facts.specs.declared.fact.Fact.{Fact}
 use Rattle.posed_facts.specs.declared.fact.Fact.TheVariants as fact
-use Rattle.settled_facts.specs.Settled.{AreShown}
-use Rattle.settled_facts.specs.declared.shown.Shown.{Shown}
-use Rattle.settled_facts.specs.declared.shown.Shown.TheVariants as shown
+use Rattle.decided_facts.specs.Decided.{AreShown}
+use Rattle.decided_facts.specs.declared.shown.Shown.{Shown}
+use Rattle.decided_facts.specs.declared.shown.Shown.TheVariants as shown
 use Rattle.spec_model.specs.Completion.{Rankings}
 use Rattle.spec_model.specs.Consistent.{IsConsistent}
 use Rattle.spec_model.specs.Current.{current_value}

@@ -1,6 +1,6 @@
 ghost use Rattle.std.specs.Prelude.{◌<◌, ℕ, IfOk, length};
 ghost use Rattle.search_logs.specs.SearchLogs.{IsWithin};
-ghost use Rattle.settled_facts.specs.Steps.{AreMarked};
+ghost use Rattle.decided_facts.specs.Steps.{AreMarked};
 ghost use Rattle.spec_model.specs.Consistent.{IsConsistent};
 ghost use Rattle.golden_values.specs.Golden.{IsGolden};
 ghost use Rattle.golden_values.specs.Steps.{AreClaimsShown, IsKnown};
@@ -9,18 +9,18 @@ use crate::facts::facts_of;
 use crate::field::{Golden, Posed};
 use crate::records::{Fields, table_of};
 use currency_base::{NoMemory, RelId};
+use decided_facts::{FactOutcome, Shown, decide_facts};
 use fact_trials::{Trial, try_fact};
 use forced_values::forced_facts;
 use posed_facts::Fact;
 use report_model::CompletionList;
-use settled_facts::{Settled, Shown, settle};
 use solver_guides::Guides;
 use spec_model::{Completion, Question, Specification};
 use std::alloc::Global;
 
 /// The golden records of a relation: for each entity and attribute the value that is current in every consistent completion, or
 /// that two are possible. Of the values of the completion that is found first those are known at once that forced pairs tell, and
-/// each other is settled by itself. Each question that is put on the way has the budget of clauses that may be learned. The
+/// each other is decided by itself. Each question that is put on the way has the budget of clauses that may be learned. The
 /// guides steer the search, whatever they pick.
 pub fn golden(
     alloc: Global,
@@ -85,9 +85,9 @@ fn of_facts(
     ensures { IfOk result (IsGolden spec.now rel.0 budget) }
 {
     let mut facts = facts;
-    match settle(alloc, spec, &facts, holds, known, budget, guides) {
-        Ok(Settled::All { shown, .. }) => told(alloc, spec, rel, &facts, shown.as_slice()),
-        Ok(Settled::Open { place, report }) => {
+    match decide_facts(alloc, spec, &facts, holds, known, budget, guides) {
+        Ok(FactOutcome::All { shown, .. }) => golden_of(alloc, spec, rel, &facts, shown.as_slice()),
+        Ok(FactOutcome::Open { place, report }) => {
             let posed = Posed::Fact(facts.remove(place));
             Ok(Golden::Undecided { posed, report })
         }
@@ -96,7 +96,7 @@ fn of_facts(
 }
 
 /// The fields, where the facts for them are shown.
-fn told(
+fn golden_of(
     alloc: Global,
     spec: &Specification,
     rel: RelId,

@@ -9,8 +9,8 @@ ghost use Rattle.golden_values.specs.Steps.{AreClaimsShown, field_by};
 use crate::field::{Field, FieldList, FieldTable};
 use crate::relations::relation_at;
 use currency_base::{NoMemory, RelId};
+use decided_facts::Shown;
 use posed_facts::Fact;
-use settled_facts::Shown;
 use spec_model::Specification;
 use std::alloc::Global;
 

@@ -27,7 +27,7 @@ pub record Basis : Type 0 where
 pub record AreAnswersOver (relations : List Relation) (posed : Posed) (c : Rankings) (answers : ℕ → Type 0) : Type 0 where
   pub instance : List (List (List Value))
   pub is_current : IsCurrentInstance relations c instance
-  pub told : (q : Query) (place : ℕ) (tuple : List Value) → posed.query ≡ Some q → slice_get posed.answers place ≡ Some tuple
+  pub complete : (q : Query) (place : ℕ) (tuple : List Value) → posed.query ≡ Some q → slice_get posed.answers place ≡ Some tuple
       → IsAnswer q instance tuple → answers place
 
 -- whether each tuple is an answer is decided

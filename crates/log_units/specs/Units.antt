@@ -39,6 +39,6 @@ pub record HasAnswerUnit (relations : List Relation) (log : Log) (tuple : List V
   pub unit : HasUnit relations log (answer place)
 
 -- what the units that are indexed are of: a log, and the relations that it speaks of
-pub record Told : Type 0 where
+pub record IndexedLog : Type 0 where
   pub relations : List Relation
   pub log : Log

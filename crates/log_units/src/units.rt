@@ -26,10 +26,10 @@ pub struct Units<'a> {
 
 impl<'a> Model for Units<'a> {
     ghost use Rattle.std.specs.Prelude.{◌*◌, length};
-    ghost use Rattle.log_units.specs.Units.{Told};
+    ghost use Rattle.log_units.specs.Units.{IndexedLog};
     ghost use Rattle.log_units.specs.Noted.{AreNoted};
 
-    ghost Value = { Told };
+    ghost Value = { IndexedLog };
 
     ghost view = { λ u. record { relations = u.spec.now.relations; log = u.log.now } };
 

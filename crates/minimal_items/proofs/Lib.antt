@@ -4,4 +4,4 @@ mod Once
 mod Tables
 mod Parts
 mod Order
-mod Settled
+mod Reductions

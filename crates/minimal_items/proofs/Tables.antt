@@ -4,7 +4,7 @@ use Rattle.std.proofs.lemmas.List.Elements.{All-weaker}
 use Rattle.std.proofs.lemmas.Option.{none-some, same_Some}
 use Rattle.currency_base.specs.declared.ids.RelId.{RelId}
 use Rattle.currency_base.specs.declared.pair.Pair.{Pair}
-use Rattle.currency_base.specs.declared.value.Kind.{Kind}
+use Rattle.currency_base.specs.declared.value.ValueKind.{ValueKind}
 use Rattle.currency_base.specs.declared.value.Value.{Value}
 use Rattle.query_model.specs.declared.query.Atom.{Atom}
 use Rattle.query_model.specs.declared.query.Disjunct.{Disjunct}
@@ -76,7 +76,7 @@ module _ (keeps : Keeps) (rs : List Relation) where
     once = are.once;
   }
 
-  atom_on : (kinds : List Kind) (atom : Atom) → IsAtomOn rs kinds atom → IsAtomOn (kept_relations keeps 0 rs) kinds atom
+  atom_on : (kinds : List ValueKind) (atom : Atom) → IsAtomOn rs kinds atom → IsAtomOn (kept_relations keeps 0 rs) kinds atom
   atom_on kinds atom is = record {
     relation = kept_relation keeps (0 + atom.relation.0) is.relation;
     is_relation = relation_kept keeps rs atom.relation.0 is.relation is.is_relation;
@@ -84,7 +84,8 @@ module _ (keeps : Keeps) (rs : List Relation) where
     terms = is.terms;
   }
 
-  disjunct_on : (heads : List Kind) (d : Disjunct) → IsDisjunctOn rs heads d → IsDisjunctOn (kept_relations keeps 0 rs) heads d
+  disjunct_on : (heads : List ValueKind) (d : Disjunct) → IsDisjunctOn rs heads d
+      → IsDisjunctOn (kept_relations keeps 0 rs) heads d
   disjunct_on heads d is = record {
     few_atoms = is.few_atoms;
     few_tests = is.few_tests;

@@ -1,4 +1,4 @@
--- Trials of a fact with some items, and what is settled so far of those that are marked.
+-- Trials of a fact with some items, and what is known so far of those that are marked.
 use Rattle.std.specs.Prelude.{◌≡◌, ℕ, Bool, List, Option, None, Some, length, take, All}
 use Rattle.std.specs.List.Sorted.{IsStrictlySortedBy}
 use Rattle.fact_trials.specs.Trials.{IsSpent, IsWithout}
@@ -44,16 +44,16 @@ IsTrialWith s q items budget tried.Holds = EachConsistent (kept (among items) s)
 IsTrialWith s q items budget (tried.Fails c) = FailsWith s q items c
 IsTrialWith s q items budget (tried.Open part report) = IsPartSpent s q items budget part report
 
--- ---- what is settled
+-- ---- what is reduced
 
 -- the fact holds with the marked items, of which those before a place are needed
-pub record AreSettled (s : Spec) (q : Question) (place : ℕ) (marks : List Bool) (needed : List Needed) : Type 0 where
+pub record AreReducedUpTo (s : Spec) (q : Question) (place : ℕ) (marks : List Bool) (needed : List Needed) : Type 0 where
   pub per_item : length marks ≡ length (items_of s)
   pub listed : needed_items needed ≡ marked_items (take place (items_of s)) marks
   pub sufficient : EachConsistent (kept (among (marked_items (items_of s) marks)) s) (FactHolds s.relations q)
   pub each_needed : All (IsNeeded s (FactHolds s.relations q) (marked_items (items_of s) marks)) needed
 
 -- so it is, or the budget is spent
-abbrev pub AreSettledOr : Spec → Question → ℕ → ℕ → List Bool → List Needed → Option Spent → Type 0
-AreSettledOr s q budget place marks needed None = AreSettled s q place marks needed
-AreSettledOr s q budget place marks needed (Some spent) = IsSpentOn s q budget spent
+abbrev pub AreReducedOrSpent : Spec → Question → ℕ → ℕ → List Bool → List Needed → Option Spent → Type 0
+AreReducedOrSpent s q budget place marks needed None = AreReducedUpTo s q place marks needed
+AreReducedOrSpent s q budget place marks needed (Some spent) = IsSpentOn s q budget spent

@@ -3,7 +3,7 @@ ghost use Rattle.search_logs.specs.SearchLogs.{IsWithin};
 ghost use Rattle.spec_items.specs.Items.{items_of};
 ghost use Rattle.unit_questions.specs.Facts.{IsFactQuestion};
 ghost use Rattle.minimal_items.specs.Among.{marked_items};
-ghost use Rattle.minimal_items.specs.Trials.{AreSettled, AreSettledOr};
+ghost use Rattle.minimal_items.specs.Trials.{AreReducedOrSpent, AreReducedUpTo};
 
 use crate::trying::{Tried, try_marked};
 use crate::{Needed, NeededList, Spent};
@@ -28,8 +28,8 @@ pub(crate) fn leave_out_each(
     requires within { IsWithin spec.now }
     requires question { IsFactQuestion spec.now.relations question.now }
     requires items { items.now ≡ items_of spec.now }
-    requires start { AreSettled spec.now question.now 0 marks.old needed.old }
-    ensures { IfOk result (AreSettledOr spec.now question.now budget (length items.now) marks.new needed.new) }
+    requires start { AreReducedUpTo spec.now question.now 0 marks.old needed.old }
+    ensures { IfOk result (AreReducedOrSpent spec.now question.now budget (length items.now) marks.new needed.new) }
 {
     for place in 0..items.len() {
         if let Some(spent) = leave_out(
@@ -57,8 +57,8 @@ fn leave_out(
     requires question { IsFactQuestion spec.now.relations question.now }
     requires items { items.now ≡ items_of spec.now }
     requires place { place < length items.now }
-    requires earlier { AreSettled spec.now question.now place marks.old needed.old }
-    ensures { IfOk result (AreSettledOr spec.now question.now budget (place + 1) marks.new needed.new) }
+    requires earlier { AreReducedUpTo spec.now question.now place marks.old needed.old }
+    ensures { IfOk result (AreReducedOrSpent spec.now question.now budget (place + 1) marks.new needed.new) }
 {
     fewer_items();
     if !marks[place] {

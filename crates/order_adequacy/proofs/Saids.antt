@@ -8,7 +8,7 @@ use Rattle.order_literals.proofs.Deciding.{said_of_pairs}
 use Rattle.order_literals.proofs.Sayings.{not_not, literal_var, literal_sign, turned_twice, tells, says_at, says_within}
 use Rattle.order_adequacy.specs.Laws.{variables}
 use Rattle.order_literals.specs.Numbers.{numbers_of}
-use Rattle.order_literals.specs.Said.{Said, turned, told_by, Says, IsLitTrue, IsSaidTrue}
+use Rattle.order_literals.specs.Said.{Said, turned, said_by, Says, IsLitTrue, IsSaidTrue}
 use Rattle.order_literals.specs.Truth.{Holds, IsTruth}
 use Rattle.order_literals.specs.declared.wanted.Wanted.{Wanted}
 use Rattle.refutation_log.specs.declared.statement.Statement.{Statement}
@@ -89,7 +89,7 @@ agrees relations c answers s false false own holds = absurd (own holds)
 
 told_true : (relations : List Relation) (c : Rankings) (answers : ℕ → Type 0) (statements : List Statement)
     (truths : List Bool) (lit : Lit) (s : Said)
-    → IsTruth relations c answers statements truths → told_by statements lit ≡ Some s → Holds relations c answers s
+    → IsTruth relations c answers statements truths → said_by statements lit ≡ Some s → Holds relations c answers s
     → IsLitTrue truths lit
 told_true relations c answers statements truths lit s truth told holds =
     let is = tells statements lit s told in
@@ -101,7 +101,7 @@ told_true relations c answers statements truths lit s truth told holds =
 
 told_holds : (relations : List Relation) (c : Rankings) (answers : ℕ → Type 0) (statements : List Statement)
     (truths : List Bool) (lit : Lit) (s : Said)
-    → IsTruth relations c answers statements truths → told_by statements lit ≡ Some s → IsLitTrue truths lit
+    → IsTruth relations c answers statements truths → said_by statements lit ≡ Some s → IsLitTrue truths lit
     → Holds relations c answers s
 told_holds relations c answers statements truths lit s truth told is_true =
     let is = tells statements lit s told in
@@ -117,9 +117,9 @@ pub said_true : (s : Spec) (wanted : Wanted) (c : Rankings) (answers : ℕ → T
 said_true s wanted c answers truths lit statement negative is truth at holds =
     let pair = says_paired s wanted lit statement negative at in
     ⊎_elim
-    (λ (told : told_by (variables s wanted) lit ≡ Some (said statement negative)).
+    (λ (told : said_by (variables s wanted) lit ≡ Some (said statement negative)).
     told_true s.relations c answers (variables s wanted) truths lit (said statement negative) truth told holds)
-    (λ (told : told_by (variables s wanted) lit ≡ Some (turned (said statement negative))).
+    (λ (told : said_by (variables s wanted) lit ≡ Some (turned (said statement negative))).
     told_true s.relations c answers (variables s wanted) truths lit (turned (said statement negative)) truth told
     (turned_holds s.relations c answers statement negative is pair holds))
     at
@@ -133,9 +133,9 @@ pub said_holds : (s : Spec) (wanted : Wanted) (c : Rankings) (answers : ℕ → 
 said_holds s wanted c answers truths statement negative is truth one =
     let pair = says_paired s wanted one.lit statement negative one.says in
     ⊎_elim
-    (λ (told : told_by (variables s wanted) one.lit ≡ Some (said statement negative)).
+    (λ (told : said_by (variables s wanted) one.lit ≡ Some (said statement negative)).
     told_holds s.relations c answers (variables s wanted) truths one.lit (said statement negative) truth told one.is_true)
-    (λ (told : told_by (variables s wanted) one.lit ≡ Some (turned (said statement negative))).
+    (λ (told : said_by (variables s wanted) one.lit ≡ Some (turned (said statement negative))).
     turned_back s.relations c answers statement negative is pair
     (told_holds s.relations c answers (variables s wanted) truths one.lit (turned (said statement negative)) truth
     told one.is_true))

@@ -19,7 +19,7 @@ use Rattle.bind_faults.specs.declared.fault.BindFault.{BindFault}
 use Rattle.bind_faults.proofs.Outcomes.{due_through}
 use Rattle.order_bind.specs.Orders.{is_of_one_entity, pair_of}
 use Rattle.order_bind.proofs.OrderPairs.{found_place, one_entity, place_within, position_none}
-use Rattle.order_bind.specs.TableOrders.{checked, line_at, pair_in, pairs_told, place_in, record_in, unless_wrong}
+use Rattle.order_bind.specs.TableOrders.{checked, line_at, pair_in, pairs_of_tuples, place_in, record_in, unless_wrong}
 use Rattle.order_bind.specs.declared.tables.records.PairRecord.{PairRecord}
 use Rattle.order_bind.proofs.Answered.{each_answer}
 
@@ -144,8 +144,8 @@ then_pairs : Relation → List ℕ → List PairRecord → Result (List Pair) Bi
 then_pairs r table records = and_then (all_of (pair_in table (map (λ row. row.name) r.rows)) records) (checked table r.rows)
 
 told_as : (names : RelationNames) (r : Relation) (table : List ℕ) (tuples : List (List Value)) → names ≡ names_of r
-    → pairs_told r table tuples ≡ and_then (all_of (record_in table names.attrs) (enumerate_from 0 tuples)) (then_pairs r table)
-unfolding pairs_told then_pairs
+    → pairs_of_tuples r table tuples ≡ and_then (all_of (record_in table names.attrs) (enumerate_from 0 tuples)) (then_pairs r table)
+unfolding pairs_of_tuples then_pairs
 told_as names r table tuples same =
     ap (λ (n : RelationNames). and_then (all_of (record_in table n.attrs) (enumerate_from 0 tuples))
     (then_pairs r table)) (sym same)
@@ -160,25 +160,26 @@ pairs_as names r table records same =
 told_read : (names : RelationNames) (r : Relation) (table : List ℕ) (tuples : List (List Value))
     (records : List PairRecord) → names ≡ names_of r
     → all_of (record_in table names.attrs) (enumerate_from 0 tuples) ≡ Ok records
-    → pairs_told r table tuples ≡ and_then (all_of (pair_in table names.rows) records) (checked table r.rows)
+    → pairs_of_tuples r table tuples ≡ and_then (all_of (pair_in table names.rows) records) (checked table r.rows)
 told_read names r table tuples records same read =
     told_as names r table tuples same ∙ ap (λ a. and_then a (then_pairs r table)) read ∙ pairs_as names r table records same
 
 -- an unknown attribute, or want of memory
 pub record_fault : (names : RelationNames) (r : Relation) (table : List ℕ) (tuples : List (List Value))
     (e : BindFault) → names ≡ names_of r
-    → IsDue (all_of (record_in table names.attrs) (enumerate_from 0 tuples)) (Err e) → IsDue (pairs_told r table tuples) (Err e)
+    → IsDue (all_of (record_in table names.attrs) (enumerate_from 0 tuples)) (Err e)
+    → IsDue (pairs_of_tuples r table tuples) (Err e)
 record_fault names r table tuples e same due =
-    due_through (all_of (record_in table names.attrs) (enumerate_from 0 tuples)) (pairs_told r table tuples) e due
+    due_through (all_of (record_in table names.attrs) (enumerate_from 0 tuples)) (pairs_of_tuples r table tuples) e due
     (λ is. told_as names r table tuples same ∙ ap (λ a. and_then a (then_pairs r table)) is)
 
 -- an unknown row, or want of memory
 pub row_fault : (names : RelationNames) (r : Relation) (table : List ℕ) (tuples : List (List Value))
     (records given : List PairRecord) (e : BindFault) → names ≡ names_of r
     → all_of (record_in table names.attrs) (enumerate_from 0 tuples) ≡ Ok records → given ≡ records
-    → IsDue (all_of (pair_in table names.rows) given) (Err e) → IsDue (pairs_told r table tuples) (Err e)
+    → IsDue (all_of (pair_in table names.rows) given) (Err e) → IsDue (pairs_of_tuples r table tuples) (Err e)
 row_fault names r table tuples records given e same read are due =
-    due_through (all_of (pair_in table names.rows) given) (pairs_told r table tuples) e due
+    due_through (all_of (pair_in table names.rows) given) (pairs_of_tuples r table tuples) e due
     (λ is. told_read names r table tuples records same read
     ∙ ap (λ rs. and_then (all_of (pair_in table names.rows) rs) (checked table r.rows)) (sym are)
     ∙ ap (λ a. and_then a (checked table r.rows)) is)
@@ -186,7 +187,7 @@ row_fault names r table tuples records given e same read are due =
 -- the pairs that are read of a table are those that are due, and may be given
 pub record IsRead (r : Relation) (table : List ℕ) (tuples : List (List Value))
     (result : Result (List Pair) BindFault) : Type 0 where
-  pub due : IsDue (pairs_told r table tuples) result
+  pub due : IsDue (pairs_of_tuples r table tuples) result
   pub given : IfOk result (All (IsGivenPair r))
 
 pub pairs_read : (names : RelationNames) (r : Relation) (table : List ℕ) (tuples : List (List Value))
@@ -200,7 +201,7 @@ pairs_read names r table tuples records given pairs rows result same read are pa
     (sym are) ∙ paired in
     let due' : IsDue (checked table r.rows pairs) result = subst (λ (rs : List Row). IsDue (checked table rs pairs)
     result) is_rows due in
-    let told : pairs_told r table tuples ≡ checked table r.rows pairs =
+    let told : pairs_of_tuples r table tuples ≡ checked table r.rows pairs =
     told_read names r table tuples records same read ∙ ap (λ a. and_then a (checked table r.rows)) paired' in
     record {
       due = subst (λ (d : Result (List Pair) BindFault). IsDue d result) (sym told) due';

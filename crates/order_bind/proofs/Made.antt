@@ -17,13 +17,15 @@ use Rattle.spec_model.specs.Spec.{Spec}
 use Rattle.spec_model.specs.declared.relation.Relation.{Relation}
 use Rattle.spec_names.specs.NameLists.{NameLists}
 use Rattle.spec_names.specs.Names.{all_names_of, place_of}
-use Rattle.bind_faults.specs.Faults.{all_of, and_then, found_or, refused_at, refused_in, IsReadFault, IsReadFaultOf, IsSettled}
+use Rattle.bind_faults.specs.Faults.{all_of, and_then, found_or, refused_at, refused_in, IsReadFault, IsReadFaultOf, IsDetermined}
 use Rattle.bind_faults.specs.declared.fault.BindFault.{BindFault}
-use Rattle.bind_faults.proofs.Outcomes.{all_reads, same_read_fault_of, settled_fault, then_reads}
+use Rattle.bind_faults.proofs.Outcomes.{all_reads, determined_fault, same_read_fault_of, then_reads}
 use Rattle.order_bind.specs.Orders.{giving_pairs, is_of_one_entity, Steps}
 use Rattle.order_bind.proofs.OrderFaults.{pair_reads}
 use Rattle.order_bind.proofs.OrderPairs.{found_place, steps_same}
-use Rattle.order_bind.specs.TableOrders.{checked, giving_told, line_at, order_columns, orders_at, pair_in, pairs_told, place_in, record_in, relation_at, unless_wrong, IsOrdersMade, IsOrdersTable, IsTableGiven}
+use Rattle.order_bind.specs.TableOrders.{checked, giving_tuples, line_at, order_columns, orders_at, pair_in, pairs_of_tuples}
+use Rattle.order_bind.specs.TableOrders.{place_in, record_in, relation_at, unless_wrong, IsOrdersMade, IsOrdersTable}
+use Rattle.order_bind.specs.TableOrders.{IsTableGiven}
 use Rattle.order_bind.specs.declared.tables.records.PairRecord.{PairRecord}
 
 -- ---- pairs that are due are no read fault
@@ -54,9 +56,9 @@ checked_reads table rows pairs h = by (position (λ p. not (is_of_one_entity row
     by None none = none
     by (Some wrong) none = none
 
-pub told_reads : (r : Relation) (table : List ℕ) (tuples : List (List Value)) → IsReadFault (pairs_told r table tuples) → ⊥
-unfolding pairs_told
-told_reads r table tuples h =
+pub tuples_read : (r : Relation) (table : List ℕ) (tuples : List (List Value)) → IsReadFault (pairs_of_tuples r table tuples) → ⊥
+unfolding pairs_of_tuples
+tuples_read r table tuples h =
     let attrs : List (List ℕ) = map (λ a. a.name) r.attrs in
     let rows : List (List ℕ) = map (λ row. row.name) r.rows in
     then_reads (all_of (record_in table attrs) (enumerate_from 0 tuples))
@@ -78,8 +80,8 @@ relation_there done rel relations r lt are is =
 -- what is due there
 pub due_there : (done : List Relation) (rel : ℕ) (table : List ℕ) (tuples : List (List Value)) (r : Relation)
     → slice_get done rel ≡ Some r
-    → orders_at done rel table tuples ≡ giving_pairs done rel r (pairs_told r table tuples)
-due_there done rel table tuples r here = ap (giving_told done rel table tuples) here
+    → orders_at done rel table tuples ≡ giving_pairs done rel r (pairs_of_tuples r table tuples)
+due_there done rel table tuples r here = ap (giving_tuples done rel table tuples) here
 
 -- ---- the relation of a name
 
@@ -134,14 +136,14 @@ unknown_made (Some told) names list done relation document new e result same lis
 pub unread_made : (texts : Option (List (List ℕ × List ℕ))) (done : List Relation) (relation document : Named)
     (rel : ℕ) (new : List Relation) (e : BindFault)
     (result : Result (Unit {0}) BindFault) → relation_at done relation ≡ Some rel
-    → (IsSettled {A = List (List Value)} (Err e) → IfSome texts (λ told. AreTuples told document.name order_columns (Err e)))
-    → result ≡ Err e → IsSettled result
+    → (IsDetermined {A = List (List Value)} (Err e) → IfSome texts (λ told. AreTuples told document.name order_columns (Err e)))
+    → result ≡ Err e → IsDetermined result
     → IfSome texts (λ told. (made : Result (List Relation) BindFault) × IsOrdersMade told done relation document made
     × Steps new made result)
 unfolding IsOrdersMade
-unread_made None done relation document rel new e result at read ends settled = tt
-unread_made (Some told) done relation document rel new e result at read ends settled =
-    let tuples = read (settled_fault (Unit {0}) (List (List Value)) e (subst IsSettled ends settled)) in
+unread_made None done relation document rel new e result at read ends determined = tt
+unread_made (Some told) done relation document rel new e result at read ends determined =
+    let tuples = read (determined_fault (Unit {0}) (List (List Value)) e (subst IsDetermined ends determined)) in
     (Err e, rw at (Err e, tuples, refl), rw ends (steps_same new (Err e) e refl))
 
 -- a table that is read

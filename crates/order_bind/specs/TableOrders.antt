@@ -6,7 +6,7 @@ use Rattle.currency_base.specs.declared.error_code.ErrorCode.TheVariants.{Unknow
 use Rattle.currency_base.specs.declared.pair.Pair.{Pair}
 use Rattle.currency_base.specs.declared.row.Row.{Row}
 use Rattle.currency_base.specs.declared.value.Value.{Value}
-use Rattle.currency_csv.specs.Told.{told}
+use Rattle.currency_csv.specs.Capped.{capped}
 use Rattle.currency_csv.specs.declared.table.Column.{Column}
 use Rattle.text_grammar.specs.declared.named.Named.{Named}
 use Rattle.table_bind.specs.Columns.{text_column}
@@ -25,7 +25,7 @@ order_columns = text_column (codes "attribute") ∷ text_column (codes "earlier"
 
 -- the line of the record of the tuple at a place: its number, the header being 1
 abbrev pub line_at : ℕ → ℕ
-line_at place = told (place + 2)
+line_at place = capped (place + 2)
 
 -- the place of a name, or the refusal of the record in which it stands
 abbrev pub place_in : List ℕ → ErrorCode → ℕ → List (List ℕ) → List ℕ → Result ℕ BindFault
@@ -53,19 +53,19 @@ checked table rows pairs = unless_wrong table pairs (position (λ p. not (is_of_
 
 -- the pairs that tuples say of a relation: the first unknown attribute is refused, then the first unknown row, and then
 -- the first pair that is not of one entity
-unfoldable pub pairs_told : Relation → List ℕ → List (List Value) → Result (List Pair) BindFault
-pairs_told r table tuples =
+unfoldable pub pairs_of_tuples : Relation → List ℕ → List (List Value) → Result (List Pair) BindFault
+pairs_of_tuples r table tuples =
     and_then (all_of (record_in table (map (λ a. a.name) r.attrs)) (enumerate_from 0 tuples)) (λ records.
     and_then (all_of (pair_in table (map (λ row. row.name) r.rows)) records) (checked table r.rows))
 
 -- the relations with the pairs of a table at one of them, unless those are refused
-abbrev pub giving_told : List Relation → ℕ → List ℕ → List (List Value) → Option Relation → Result (List Relation) BindFault
-giving_told done rel table tuples None = Ok done
-giving_told done rel table tuples (Some r) = giving_pairs done rel r (pairs_told r table tuples)
+abbrev pub giving_tuples : List Relation → ℕ → List ℕ → List (List Value) → Option Relation → Result (List Relation) BindFault
+giving_tuples done rel table tuples None = Ok done
+giving_tuples done rel table tuples (Some r) = giving_pairs done rel r (pairs_of_tuples r table tuples)
 
 -- the relations after the tuples of a table of given pairs, at the relation of that place
 abbrev pub orders_at : List Relation → ℕ → List ℕ → List (List Value) → Result (List Relation) BindFault
-orders_at done rel table tuples = giving_told done rel table tuples (slice_get done rel)
+orders_at done rel table tuples = giving_tuples done rel table tuples (slice_get done rel)
 
 -- the place of the relation of a name
 abbrev pub relation_at : List Relation → Named → Option ℕ

@@ -6,4 +6,4 @@ mod resolve;
 pub mod tables;
 
 pub use bind::{add_all, bind_order};
-pub use resolve::{checked, first_wrong, resolve_all};
+pub use resolve::{checked, first_wrong, is_of_one_entity, resolve_all, resolve_pair};

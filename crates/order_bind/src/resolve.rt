@@ -9,7 +9,7 @@ use std::alloc::Global;
 use text_grammar::{Named, NamedPair};
 
 /// The pair that two names of rows say.
-fn resolve_pair(rows: &NameIndex, attr: AttrId, pair: &NamedPair) -> Result<Pair, BindFault>
+pub fn resolve_pair(rows: &NameIndex, attr: AttrId, pair: &NamedPair) -> Result<Pair, BindFault>
     requires { length rows.now < 2 ^ 32 }
     ensures { result ≡ pair_named rows.now attr.0 pair.now }
 {
@@ -47,7 +47,7 @@ pub fn resolve_all(
 }
 
 /// Is the pair of two different rows of one entity?
-fn is_of_one_entity(rows: &[Row], pair: &Pair) -> bool
+pub fn is_of_one_entity(rows: &[Row], pair: &Pair) -> bool
     ensures { result ≡ is_of_one_entity rows.now pair.now }
 {
     if pair.earlier == pair.later {

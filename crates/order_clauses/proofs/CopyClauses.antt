@@ -6,7 +6,7 @@ use Rattle.std.proofs.lemmas.Option.{same_Some, none-some, slice_get_within, get
 use Rattle.currency_base.specs.declared.ids.CopyId.{CopyId}
 use Rattle.currency_base.specs.declared.ids.RowId.{RowId}
 use Rattle.currency_base.specs.declared.lit.Lit.{Lit}
-use Rattle.currency_base.specs.declared.value.Kind.{Kind}
+use Rattle.currency_base.specs.declared.value.ValueKind.{ValueKind}
 use Rattle.copied_pairs.specs.Copied.{IsCopiedPair}
 use Rattle.copied_pairs.specs.declared.pairs.CopiedPair.{CopiedPair}
 use Rattle.copy_functions.specs.Copies.{CopyFunction, source_at}
@@ -21,7 +21,7 @@ use Rattle.order_literals.specs.Axioms.{AreTwo}
 use Rattle.order_literals.specs.Said.{Said, Says, before, not_before}
 use Rattle.order_clauses.specs.Added.{Adds, IsClauseOf}
 use Rattle.order_clauses.specs.Listing.{copy_in, copy_at}
-use Rattle.order_clauses.specs.Subject.{Subject, told, IsCopiedBy, IsPairIn}
+use Rattle.order_clauses.specs.Subject.{Subject, variables, IsCopiedBy, IsPairIn}
 use Rattle.order_clauses.proofs.Reading.{all_at}
 
 -- two rows that were copied together by this copy function
@@ -52,7 +52,7 @@ first_mapped s copy p of none = none-some of.pair.together.first_source (sym non
 pub second_mapped : (s : Spec) (copy : CopyFunction) (p : CopiedPair) → IsCopiedAs s copy p → source_at copy p.second ≡ None → ⊥
 second_mapped s copy p of none = none-some of.pair.together.second_source (sym none ∙ of.pair.together.second_is)
 
-attr_of : (r : Relation) (attr : ℕ) (kind : Kind) → slice_get (kinds_of r) attr ≡ Some kind → attr < length r.attrs
+attr_of : (r : Relation) (attr : ℕ) (kind : ValueKind) → slice_get (kinds_of r) attr ≡ Some kind → attr < length r.attrs
 attr_of r attr kind at =
     let many = length-map r.attrs (λ x. x.kind) in
     let within = slice_get_within (kinds_of r) attr kind at in
@@ -98,7 +98,8 @@ pub copy_clause : (s : Subject) (k : CopyId) (place : ℕ) (p : CopiedPair) (cop
     (f g : RowId) (a b : Lit) → IsCopiedBy s.spec k.0 p
     → slice_get s.spec.copies k.0 ≡ Some copy → slice_get copy.places place ≡ Some at → source_at copy p.first ≡ Some
     f → source_at copy p.second ≡ Some g
-    → Says (told s) a (not_before copy.source at.source f g) → Says (told s) b (before copy.target at.target p.first p.second)
+    → Says (variables s) a (not_before copy.source at.source f g)
+    → Says (variables s) b (before copy.target at.target p.first p.second)
     → IsClauseOf s (label.Copy k place p.first p.second) (a ∷ b ∷ [])
 copy_clause s k place p copy at f g a b by is_copy is_place from_f from_g says_a says_b =
     let same : copy ≡ by.copy = same_Some copy by.copy (sym is_copy ∙ by.is_copy) in

@@ -15,7 +15,7 @@ use Rattle.refutation_log.specs.declared.step.Step.{Step}
 use Rattle.order_literals.specs.Said.{Says, before}
 use Rattle.order_clauses.specs.Added.{Adds, IsClauseOf}
 use Rattle.order_clauses.specs.Listing.{given_label, given_at}
-use Rattle.order_clauses.specs.Subject.{Subject, told, IsPairIn}
+use Rattle.order_clauses.specs.Subject.{Subject, variables, IsPairIn}
 
 -- a row that is there stands for an entity
 pub entity_there : (rows : List Row) (row : ℕ) → row < length rows → (ent : ℕ) × (entity_of rows row ≡ Some ent)
@@ -37,7 +37,8 @@ given_pair s rel r p at is h =
 
 pub given_clause : (s : Subject) (rel : RelId) (r : Relation) (p : Pair) (lit : Lit) → slice_get s.spec.relations
     rel.0 ≡ Some r → Contains r.given p
-    → Says (told s) lit (before rel p.attr p.earlier p.later) → IsClauseOf s (label.Given rel p.attr p.earlier p.later) (lit ∷ [])
+    → Says (variables s) lit (before rel p.attr p.earlier p.later)
+    → IsClauseOf s (label.Given rel p.attr p.earlier p.later) (lit ∷ [])
 given_clause s rel r p lit at h says = record {
   clause = before rel p.attr p.earlier p.later ∷ [];
   is_axiom =

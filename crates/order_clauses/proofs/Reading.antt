@@ -11,7 +11,7 @@ use Rattle.order_literals.specs.Numbers.{Numbers, Numbered, IsPairOf, numbers_of
 use Rattle.order_literals.specs.Said.{Said, Says}
 use Rattle.order_literals.specs.Statements.{statements_of}
 use Rattle.order_literals.proofs.Callers.{pair_of, table_at}
-use Rattle.order_clauses.specs.Subject.{Subject, told, IsPairIn}
+use Rattle.order_clauses.specs.Subject.{Subject, variables, IsPairIn}
 
 -- these are numbered of the subject
 abbrev pub AreNumbersOf : Subject → Numbers → Type 0
@@ -24,8 +24,8 @@ pair_in s n rel attr a b are p =
     b p.relation p.is_relation p.attr_within p.two)
 
 pub says_of : (s : Subject) (n : Numbers) (lit : Lit) (said : Said) → AreNumbersOf s n → Says (statements_of n) lit
-    said → Says (told s) lit said
-unfolding told
+    said → Says (variables s) lit said
+unfolding variables
 says_of s n lit said are says = subst (λ (m : Numbers). Says (statements_of m) lit said) are says
 
 length_tables : (currents : List RelId) (first : ℕ) (relations : List Relation)

@@ -14,7 +14,7 @@ use Rattle.order_literals.specs.Said.{Said, Says}
 use Rattle.order_literals.proofs.Sayings.{opposite, negation_says}
 use Rattle.order_clauses.specs.Clauses.{SaysOneOf, IsSaidByOne, AreLits}
 use Rattle.order_clauses.specs.Added.{Say, IsClauseOf, AreDistinctOf, IsAddedTo, IsStepOf, Adds}
-use Rattle.order_clauses.specs.Subject.{Subject, told}
+use Rattle.order_clauses.specs.Subject.{Subject, variables}
 use Rattle.order_clauses.proofs.Adding.{adds_one}
 
 -- the negation of a literal says the same with the other sign
@@ -102,7 +102,7 @@ adds_clause s l lits distinct old new is of e =
         is_step = refl;
         clause = is.clause;
         is_axiom = is.is_axiom;
-        are_lits = are_lits (told s) lits
+        are_lits = are_lits (variables s) lits
             distinct is.clause is.say of;
       };
     } in

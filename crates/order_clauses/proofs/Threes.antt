@@ -24,7 +24,7 @@ use Rattle.order_literals.specs.Laws.{OneSaid}
 use Rattle.order_clauses.specs.Added.{Adds, AreStepsOf, IsClauseOf, IsStepOf, below}
 use Rattle.order_clauses.specs.Clauses.{SaysOneOf, IsSaidByOne, AreLits, IsAxiomStep, IsTransitiveStep, StandsAmong, AreTransitive}
 use Rattle.order_clauses.specs.Listing.{members_of, three_label, first_labels, second_labels, third_labels, three_labels}
-use Rattle.order_clauses.specs.Subject.{told, AreThree, Attribute, IsAttribute}
+use Rattle.order_clauses.specs.Subject.{variables, AreThree, Attribute, IsAttribute}
 use Rattle.order_clauses.proofs.LabelsAre.{same_row}
 use Rattle.order_clauses.proofs.Listed.{at_of, in_below, below_in, in_none, once_both, once_none, once_one, once_below, in_one}
 use Rattle.order_clauses.proofs.Members.{member_is, member_there, members_ascend, members_once}
@@ -95,8 +95,8 @@ three_back rows a b c three = record {
 
 -- the literals of their clause
 pub three_is_clause : (p : Attribute) (f s t : RowId) (a b c : Lit) → IsAttribute p → AreThree p.relation.rows f s t
-    → Says (told p.subject) a (not_before p.rel p.attr f s) → Says (told p.subject) b (not_before p.rel p.attr s t)
-    → Says (told p.subject) c (before p.rel p.attr f t)
+    → Says (variables p.subject) a (not_before p.rel p.attr f s) → Says (variables p.subject) b (not_before p.rel p.attr s t)
+    → Says (variables p.subject) c (before p.rel p.attr f t)
     → IsClauseOf p.subject (label.Transitive p.rel p.attr f s t) (a ∷ b ∷ c ∷ [])
 three_is_clause p f s t a b c is three x y z = record {
   clause = three_clause p.rel p.attr f s t;
@@ -242,8 +242,8 @@ module _ (p : Attribute) (is : IsAttribute p) (ent : ℕ) (steps : List Step)
     (are : AreStepsOf p.subject (three_labels p (members_of p.relation ent)) steps) where
   stands : (f s t : RowId) (clause : List Said) → Contains (three_labels p (members_of p.relation ent))
       (label.Transitive p.rel p.attr f s t)
-      → ((lits : List Lit) → AreLits (told p.subject) (three_clause p.rel p.attr f s t) lits
-      → AreLits (told p.subject) clause lits) → StandsAmong (told p.subject) steps clause
+      → ((lits : List Lit) → AreLits (variables p.subject) (three_clause p.rel p.attr f s t) lits
+      → AreLits (variables p.subject) clause lits) → StandsAmong (variables p.subject) steps clause
   stands f s t clause h gives =
       let l = label.Transitive p.rel p.attr f s t in
       let at = at_of (three_labels p (members_of p.relation ent)) l h in
@@ -253,7 +253,7 @@ module _ (p : Attribute) (is : IsAttribute p) (ent : ℕ) (steps : List Step)
         label = l;
         lits = m.2.lits;
         is_in = contains_at steps at.0 (step.Axiom l m.2.lits) (m.1 ∙ ap Some m.2.step.is_step);
-        are_lits = gives m.2.lits (subst (λ (c : List Said). AreLits (told p.subject) c m.2.lits) e m.2.step.are_lits);
+        are_lits = gives m.2.lits (subst (λ (c : List Said). AreLits (variables p.subject) c m.2.lits) e m.2.step.are_lits);
       }
 
   forth : (i j k : ℕ) (a b c : RowId) → i < j → j < k → slice_get (members_of p.relation ent) i ≡ Some a
@@ -273,24 +273,24 @@ module _ (p : Attribute) (is : IsAttribute p) (ent : ℕ) (steps : List Step)
       (later_in (label.Transitive p.rel p.attr a b c) (label.Transitive p.rel p.attr c b a ∷ [])
       (label.Transitive p.rel p.attr c b a) (first_of (label.Transitive p.rel p.attr c b a) []))
 
-  turn : (a b c : RowId) (lits : List Lit) → AreLits (told p.subject) (three_clause p.rel p.attr a b c) lits
-      → AreLits (told p.subject) (three_clause p.rel p.attr c a b) lits
-  turn a b c lits = rotated (told p.subject) p.rel p.attr a b c lits
+  turn : (a b c : RowId) (lits : List Lit) → AreLits (variables p.subject) (three_clause p.rel p.attr a b c) lits
+      → AreLits (variables p.subject) (three_clause p.rel p.attr c a b) lits
+  turn a b c lits = rotated (variables p.subject) p.rel p.attr a b c lits
 
-  twice : (a b c : RowId) (lits : List Lit) → AreLits (told p.subject) (three_clause p.rel p.attr a b c) lits
-      → AreLits (told p.subject) (three_clause p.rel p.attr b c a) lits
+  twice : (a b c : RowId) (lits : List Lit) → AreLits (variables p.subject) (three_clause p.rel p.attr a b c) lits
+      → AreLits (variables p.subject) (three_clause p.rel p.attr b c a) lits
   twice a b c lits h = turn c a b lits (turn a b c lits h)
 
   among : (i j k : ℕ) (f s t : RowId) → slice_get (members_of p.relation ent) i ≡ Some f
       → slice_get (members_of p.relation ent) j ≡ Some s → slice_get (members_of p.relation ent) k ≡ Some t
-      → (i ≡ j → ⊥) → (j ≡ k → ⊥) → (i ≡ k → ⊥) → StandsAmong (told p.subject) steps (three_clause p.rel p.attr f s t)
+      → (i ≡ j → ⊥) → (j ≡ k → ⊥) → (i ≡ k → ⊥) → StandsAmong (variables p.subject) steps (three_clause p.rel p.attr f s t)
   among i j k f s t at_f at_s at_t ij jk ik = go (cases_order i j) (cases_order j k) (cases_order i k)
     where
       clause : List Said
       clause = three_clause p.rel p.attr f s t
 
       go : (i ≡ j) ⊎ ((i < j) ⊎ (j < i)) → (j ≡ k) ⊎ ((j < k) ⊎ (k < j)) → (i ≡ k) ⊎ ((i < k) ⊎ (k < i))
-          → StandsAmong (told p.subject) steps (three_clause p.rel p.attr f s t)
+          → StandsAmong (variables p.subject) steps (three_clause p.rel p.attr f s t)
       go (inl e) y z = absurd (ij e)
       go (inr x) (inl e) z = absurd (jk e)
       go (inr x) (inr y) (inl e) = absurd (ik e)
@@ -469,21 +469,21 @@ module _ (one_said : OneSaid) (p : Attribute) (is : IsAttribute p) (ent : ℕ) (
     (are : AreStepsOf p.subject (three_labels p (members_of p.relation ent)) steps) where
   -- the literals of a listed label are those of its rows' clause
   lits_of : (l : Label) (m : IsMonotone p l) (lits : List Lit) → IsStepOf p.subject l (step.Axiom l lits)
-      → AreLits (told p.subject) (three_clause p.rel p.attr m.f m.s m.t) lits
+      → AreLits (variables p.subject) (three_clause p.rel p.attr m.f m.s m.t) lits
   lits_of l m lits of =
       let e : step.Axiom l lits ≡ step.Axiom l of.lits = of.step.is_step in
       let same : of.lits ≡ lits = cc in
       let ax = subst (λ (k : Label). IsAxiom p.subject.spec k of.step.clause) m.is of.step.is_axiom in
       let clause : of.step.clause ≡ three_clause p.rel p.attr m.f m.s m.t = clause_of_three p m.f m.s m.t of.step.clause ax in
-      subst (λ (c : List Said). AreLits (told p.subject) c lits) clause
-      (subst (AreLits (told p.subject) of.step.clause) same of.step.are_lits)
+      subst (λ (c : List Said). AreLits (variables p.subject) c lits) clause
+      (subst (AreLits (variables p.subject) of.step.clause) same of.step.are_lits)
 
   same_label : (l k : Label) (m : IsMonotone p l) (n : IsMonotone p k) (lits other : List Lit) (clause : List Said)
-      → AreLits (told p.subject) (three_clause p.rel p.attr m.f m.s m.t) lits
-      → AreLits (told p.subject) (three_clause p.rel p.attr n.f n.s n.t) other → AreLits (told p.subject) clause lits
-      → AreLits (told p.subject) clause other → l ≡ k
+      → AreLits (variables p.subject) (three_clause p.rel p.attr m.f m.s m.t) lits
+      → AreLits (variables p.subject) (three_clause p.rel p.attr n.f n.s n.t) other → AreLits (variables p.subject) clause lits
+      → AreLits (variables p.subject) clause other → l ≡ k
   same_label l k m n lits other clause are_l are_k are_c are_c' =
-      let st = told p.subject in
+      let st = variables p.subject in
       let mine = three_clause p.rel p.attr m.f m.s m.t in
       let theirs = three_clause p.rel p.attr n.f n.s n.t in
       let in' : (e q : RowId) (b : Bool) → Contains mine
@@ -601,7 +601,7 @@ module _ (p : Attribute) (ent : ℕ) where
 
 module _ (one_said : OneSaid) (p : Attribute) (is : IsAttribute p) (ent : ℕ) (steps : List Step)
     (are : AreStepsOf p.subject (three_labels p (members_of p.relation ent)) steps) where
-  one_step : (t : Step) → Contains steps t → IsTransitiveStep p.subject.spec (told p.subject) p.rel p.attr ent t
+  one_step : (t : Step) → Contains steps t → IsTransitiveStep p.subject.spec (variables p.subject) p.rel p.attr ent t
   one_step t h =
       let at = at_of steps t h in
       let m = step_at p.subject (three_labels p (members_of p.relation ent)) steps at.0 t are at.1 in
@@ -609,23 +609,23 @@ module _ (one_said : OneSaid) (p : Attribute) (is : IsAttribute p) (ent : ℕ) (
       (contains_at (three_labels p (members_of p.relation ent)) at.0 m.0 m.1) in
       ⊎_elim
       (λ (e : m.0 ≡ label.Transitive p.rel p.attr three.at.a three.at.b three.at.c).
-      let r : IsTransitiveStep p.subject.spec (told p.subject) p.rel p.attr ent t = record {
+      let r : IsTransitiveStep p.subject.spec (variables p.subject) p.rel p.attr ent t = record {
         first = three.at.a;
         second = three.at.b;
         third = three.at.c;
         lits = m.2.lits;
-        step = subst (λ (l : Label). IsAxiomStep p.subject.spec (told p.subject) l m.2.lits t) e m.2.step;
+        step = subst (λ (l : Label). IsAxiomStep p.subject.spec (variables p.subject) l m.2.lits t) e m.2.step;
         relation = p.relation;
         is_relation = is.is_relation;
         of_entity = member_is p.relation ent three.i three.at.a three.at.at_a;
       } in r)
       (λ (e : m.0 ≡ label.Transitive p.rel p.attr three.at.c three.at.b three.at.a).
-      let r : IsTransitiveStep p.subject.spec (told p.subject) p.rel p.attr ent t = record {
+      let r : IsTransitiveStep p.subject.spec (variables p.subject) p.rel p.attr ent t = record {
         first = three.at.c;
         second = three.at.b;
         third = three.at.a;
         lits = m.2.lits;
-        step = subst (λ (l : Label). IsAxiomStep p.subject.spec (told p.subject) l m.2.lits t) e m.2.step;
+        step = subst (λ (l : Label). IsAxiomStep p.subject.spec (variables p.subject) l m.2.lits t) e m.2.step;
         relation = p.relation;
         is_relation = is.is_relation;
         of_entity = member_is p.relation ent three.k three.at.c three.at.at_c;
@@ -640,7 +640,7 @@ module _ (one_said : OneSaid) (p : Attribute) (is : IsAttribute p) (ent : ℕ) (
   one_clause : (r : Relation) → slice_get p.subject.spec.relations p.rel.0 ≡ Some r → (f s t : RowId)
       → entity_of r.rows f.0 ≡ Some ent
       → (clause : List Said) → IsAxiom p.subject.spec (label.Transitive p.rel p.attr f s t) clause → StandsAmong
-      (told p.subject) steps clause
+      (variables p.subject) steps clause
   one_clause r at f s t of clause ax =
       let own : r ≡ p.relation = same_Some r p.relation (sym at ∙ is.is_relation) in
       let theirs : ax.0 ≡ p.relation = same_Some ax.0 p.relation (sym ax.1 ∙ is.is_relation) in
@@ -653,7 +653,7 @@ module _ (one_said : OneSaid) (p : Attribute) (is : IsAttribute p) (ent : ℕ) (
       let i = member_there p.relation ent f of_f in
       let j = member_there p.relation ent s of_s in
       let k = member_there p.relation ent t of_t in
-      subst (StandsAmong (told p.subject) steps) (sym (clause_of_three p f s t clause ax))
+      subst (StandsAmong (variables p.subject) steps) (sym (clause_of_three p f s t clause ax))
       (among p is ent steps are i.0 j.0 k.0 f s t i.1 j.1 k.1 (other_place i.0 j.0 f s i.1 j.1 fs.differ)
       (other_place j.0 k.0 s t j.1 k.1 st.differ)
       (other_place i.0 k.0 f t i.1 k.1 ft.differ))
@@ -667,7 +667,7 @@ module _ (one_said : OneSaid) (p : Attribute) (is : IsAttribute p) (ent : ℕ) (
 
   one_of_each : (i j : ℕ) (l k : Label) (lits other : List Lit) (clause : List Said) → slice_get steps i ≡ Some
       (step.Axiom l lits) → slice_get steps j ≡ Some (step.Axiom k other)
-      → AreLits (told p.subject) clause lits → AreLits (told p.subject) clause other → i ≡ j
+      → AreLits (variables p.subject) clause lits → AreLits (variables p.subject) clause other → i ≡ j
   one_of_each i j l k lits other clause at_i at_j are_i are_j =
       let ls = three_labels p (members_of p.relation ent) in
       let in_i = label_of_step p.subject ls steps i l lits are at_i in
@@ -679,9 +679,9 @@ module _ (one_said : OneSaid) (p : Attribute) (is : IsAttribute p) (ent : ℕ) (
       (lits_of one_said p is ent steps are k n other (step_here j k other at_j)) are_i are_j in
       once_threes p ent i j k (in_i ∙ ap Some same) in_j
 
-  whole_transitive : AreTransitive p.subject.spec (told p.subject) p.rel p.attr ent steps
+  whole_transitive : AreTransitive p.subject.spec (variables p.subject) p.rel p.attr ent steps
   whole_transitive = record {
-    each = all_of (IsTransitiveStep p.subject.spec (told p.subject) p.rel p.attr ent) steps
+    each = all_of (IsTransitiveStep p.subject.spec (variables p.subject) p.rel p.attr ent) steps
         one_step;
     all = one_clause;
     once = one_of_each;
@@ -689,7 +689,7 @@ module _ (one_said : OneSaid) (p : Attribute) (is : IsAttribute p) (ent : ℕ) (
 
 pub are_transitive : OneSaid → (p : Attribute) (ent : ℕ) (rows : List RowId) (steps : List Step) → IsAttribute p
     → rows ≡ members_of p.relation ent → Adds p.subject (three_labels p rows) [] steps
-    → AreTransitive p.subject.spec (told p.subject) p.rel p.attr ent steps
+    → AreTransitive p.subject.spec (variables p.subject) p.rel p.attr ent steps
 are_transitive one_said p ent rows steps is e adds =
     let of_rows : AreStepsOf p.subject (three_labels p rows) steps =
     subst (AreStepsOf p.subject (three_labels p rows)) (sym adds.is_added) adds.are_steps in

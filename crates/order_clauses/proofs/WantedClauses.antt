@@ -24,7 +24,7 @@ use Rattle.order_literals.specs.Said.{Said, Says, turned, not_before, top, not_t
 use Rattle.order_literals.specs.Laws.{OneSaid}
 use Rattle.order_clauses.specs.Added.{Adds, Say, Tells, IsClauseOf}
 use Rattle.order_clauses.specs.Listing.{members_of, other_said, top_clause, alike_said, value_clause, value_label, above_labels, top_label, last_label, row_labels, relation_labels, wanted_at}
-use Rattle.order_clauses.specs.Subject.{Subject, told, Attribute, IsAttribute, IsWantedRow}
+use Rattle.order_clauses.specs.Subject.{Subject, variables, Attribute, IsAttribute, IsWantedRow}
 use Rattle.order_clauses.proofs.Adding.{adds_none, adds_both, flat_map_push}
 use Rattle.order_clauses.proofs.Saying.{say_both}
 use Rattle.order_clauses.proofs.Members.{member_is, row_within}
@@ -93,11 +93,11 @@ top_clause_is p ent row = ap (λ (l : List Said). top p.rel p.attr row ∷ l)
 
 pub top_is_clause : (p : Attribute) (ent : ℕ) (row : RowId) (lits : List Lit) → IsAttribute p
     → entity_of p.relation.rows row.0 ≡ Some ent
-    → Tells (told p.subject) (top_clause p ent row) [] lits → IsClauseOf p.subject (label.Top p.rel p.attr row) lits
+    → Tells (variables p.subject) (top_clause p ent row) [] lits → IsClauseOf p.subject (label.Top p.rel p.attr row) lits
 top_is_clause p ent row lits is of tells = record {
   clause = top_clause p ent row;
   is_axiom = (p.relation, is.is_relation, (is.attr_within, ent, of, top_clause_is p ent row));
-  say = say_told (told p.subject) (top_clause p ent row) lits tells;
+  say = say_told (variables p.subject) (top_clause p ent row) lits tells;
 }
 
 member_is_rows : (r : Relation) (ent i : ℕ) (row : RowId) → slice_get (rows_of (entities_of r.rows) ent) i ≡ Some row
@@ -154,7 +154,7 @@ value_clause_is p ent row is within here named =
 pub value_is_clause : (p : Attribute) (ent : ℕ) (row : RowId) (lits : List Lit) → IsAttribute p
     → IsRelation p.relation → entity_of p.relation.rows row.0 ≡ Some ent
     → name_of p.relation.rows p.attr.0 row ≡ row
-    → Tells (told p.subject) (value_clause p ent row) [] lits → IsClauseOf p.subject (label.Value p.rel p.attr row) lits
+    → Tells (variables p.subject) (value_clause p ent row) [] lits → IsClauseOf p.subject (label.Value p.rel p.attr row) lits
 value_is_clause p ent row lits is facts of named tells = record {
   clause = value_clause p ent row;
   is_axiom = (
@@ -168,7 +168,7 @@ value_is_clause p ent row lits is facts of named tells = record {
           (row_within p.relation.rows row.0 ent of) named,
     ),
   );
-  say = say_told (told p.subject) (value_clause p ent row) lits tells;
+  say = say_told (variables p.subject) (value_clause p ent row) lits tells;
 }
 
 -- ---- the clause of the value of a row that stands last
@@ -191,7 +191,7 @@ name_itself p row name is facts here e =
 
 pub last_is_clause : (p : Attribute) (row name : RowId) (a b : Lit) → IsAttribute p → IsWantedRow p row
     → name ≡ name_of p.relation.rows p.attr.0 row
-    → Says (told p.subject) a (not_top p.rel p.attr row) → Says (told p.subject) b (last p.rel p.attr name)
+    → Says (variables p.subject) a (not_top p.rel p.attr row) → Says (variables p.subject) b (last p.rel p.attr name)
     → IsClauseOf p.subject (label.Last p.rel p.attr row) (a ∷ b ∷ [])
 last_is_clause p row name a b is here e says_a says_b = record {
   clause = not_top p.rel p.attr row ∷ last p.rel p.attr name ∷ [];
@@ -311,11 +311,11 @@ same_before p row x y (inr e) = absurd (true≢false (ap (λ (s : Said). s.negat
 
 pub top_once : OneSaid → (p : Attribute) (ent : ℕ) (row : RowId) (lits : List Lit)
     → OnlyOnce (rows_of (entities_of p.relation.rows) ent)
-    → Tells (told p.subject) (top_clause p ent row) [] lits → OnlyOnce lits
+    → Tells (variables p.subject) (top_clause p ent row) [] lits → OnlyOnce lits
 top_once one p ent row lits once tells =
-    let say = subst (Say (told p.subject) lits) (top_clause_is p ent row)
-    (say_told (told p.subject) (top_clause p ent row) lits tells) in
-    once_said one (told p.subject) lits (top p.rel p.attr row ∷ map (λ other. not_before p.rel p.attr other row)
+    let say = subst (Say (variables p.subject) lits) (top_clause_is p ent row)
+    (say_told (variables p.subject) (top_clause p ent row) lits tells) in
+    once_said one (variables p.subject) lits (top p.rel p.attr row ∷ map (λ other. not_before p.rel p.attr other row)
     (others p.relation.rows ent row)) say
     (differ_mapped (top p.rel p.attr row) (λ other. not_before p.rel p.attr other row) (others p.relation.rows ent row)
     (once_filter (λ other. not (other.0 == row.0)) (rows_of (entities_of p.relation.rows) ent) once)
@@ -342,13 +342,13 @@ pub value_once : OneSaid → (p : Attribute) (ent : ℕ) (row : RowId) (lits : L
     → OnlyOnce (rows_of (entities_of p.relation.rows) ent)
     → IsAttribute p → IsRelation p.relation → entity_of p.relation.rows row.0 ≡ Some ent → name_of p.relation.rows
     p.attr.0 row ≡ row
-    → Tells (told p.subject) (value_clause p ent row) [] lits → OnlyOnce lits
+    → Tells (variables p.subject) (value_clause p ent row) [] lits → OnlyOnce lits
 value_once one p ent row lits once is facts of named tells =
     let name = name_of p.relation.rows p.attr.0 row in
-    let say = subst (Say (told p.subject) lits) (value_clause_is p ent row facts is.attr_within
+    let say = subst (Say (variables p.subject) lits) (value_clause_is p ent row facts is.attr_within
     (row_within p.relation.rows row.0 ent of) named)
-    (say_told (told p.subject) (value_clause p ent row) lits tells) in
-    once_said one (told p.subject) lits (not_last p.rel p.attr name ∷ map (top p.rel p.attr)
+    (say_told (variables p.subject) (value_clause p ent row) lits tells) in
+    once_said one (variables p.subject) lits (not_last p.rel p.attr name ∷ map (top p.rel p.attr)
     (alike p.relation.rows p.attr.0 ent row)) say
     (differ_mapped (not_last p.rel p.attr name) (top p.rel p.attr) (alike p.relation.rows p.attr.0 ent row)
     (once_filter (are_alike p.relation.rows p.attr.0 row) (rows_of (entities_of p.relation.rows) ent) once)

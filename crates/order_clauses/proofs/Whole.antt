@@ -26,7 +26,7 @@ use Rattle.order_clauses.specs.Added.{IsStepOf, AreStepsOf, Adds}
 use Rattle.order_clauses.specs.Clauses.{IsAsked, IsAskedStep, StandsOverOne, AreAxioms}
 use Rattle.order_clauses.specs.Listing.{given_at, given_labels, rule_at, rule_labels, copy_at, copy_labels, row_labels, wanted_at, wanted_labels, all_labels}
 use Rattle.order_clauses.specs.Listing.{AddsAll}
-use Rattle.order_clauses.specs.Subject.{Subject, told}
+use Rattle.order_clauses.specs.Subject.{Subject, variables}
 use Rattle.order_clauses.proofs.Adding.{adds_both}
 use Rattle.order_clauses.proofs.GivenPairs.{entity_there}
 use Rattle.order_clauses.proofs.Listed.{at_of, in_below}
@@ -255,14 +255,14 @@ pairs_once s rules copies facts i within =
 
 whole : (s : Subject) (rules : List (List (List RowId))) (copies : List (List CopiedPair)) (steps : List Step)
     → Facts s rules copies → AreStepsOf s (all_labels s rules copies) steps
-    → AreAxioms s.spec s.wanted.currents (told s) steps
+    → AreAxioms s.spec s.wanted.currents (variables s) steps
 whole s rules copies steps facts are =
     let labels = all_labels s rules copies in
     record {
-      each = all_of (IsAskedStep s.spec s.wanted.currents (told s)) steps (λ t h.
+      each = all_of (IsAskedStep s.spec s.wanted.currents (variables s)) steps (λ t h.
           let at = at_of steps t h in
           let m = step_at s labels steps at.0 t are at.1 in
-          let r : IsAskedStep s.spec s.wanted.currents (told s) t = record {
+          let r : IsAskedStep s.spec s.wanted.currents (variables s) t = record {
             label = m.0;
             lits = m.2.lits;
             step = m.2.step;
@@ -283,7 +283,7 @@ whole s rules copies steps facts are =
 
 pub are_axioms : (s : Subject) (rules : List (List (List RowId))) (copies : List (List CopiedPair))
     (steps : List Step) → Facts s rules copies
-    → Adds s (all_labels s rules copies) [] steps → AreAxioms s.spec s.wanted.currents (told s) steps
+    → Adds s (all_labels s rules copies) [] steps → AreAxioms s.spec s.wanted.currents (variables s) steps
 are_axioms s rules copies steps facts adds =
     whole s rules copies steps facts (subst (AreStepsOf s (all_labels s rules copies)) (sym adds.is_added) adds.are_steps)
 

@@ -8,7 +8,7 @@ use Rattle.refutation_log.specs.declared.step.Step.{Step}
 use Rattle.order_literals.specs.Said.{Said, Says}
 use Rattle.order_literals.specs.Axioms.{IsAxiom}
 use Rattle.order_clauses.specs.Clauses.{IsAxiomStep}
-use Rattle.order_clauses.specs.Subject.{Subject, told}
+use Rattle.order_clauses.specs.Subject.{Subject, variables}
 
 -- literals say a clause one by one
 abbrev pub Say : List Statement → List Lit → List Said → Type 0
@@ -26,7 +26,7 @@ pub record Tells (statements : List Statement) (part : List Said) (old new : Lis
 pub record IsClauseOf (s : Subject) (l : Label) (lits : List Lit) : Type 0 where
   pub clause : List Said
   pub is_axiom : IsAxiom s.spec l clause
-  pub say : Say (told s) lits clause
+  pub say : Say (variables s) lits clause
 
 -- the same literals, each once
 pub record AreDistinctOf (lits distinct : List Lit) : Type 0 where
@@ -37,7 +37,7 @@ pub record AreDistinctOf (lits distinct : List Lit) : Type 0 where
 -- a step that is the axiom of a label
 pub record IsStepOf (s : Subject) (l : Label) (taken : Step) : Type 0 where
   pub lits : List Lit
-  pub step : IsAxiomStep s.spec (told s) l lits taken
+  pub step : IsAxiomStep s.spec (variables s) l lits taken
 
 -- steps that are the axioms of these labels one by one
 abbrev pub AreStepsOf : Subject → List Label → List Step → Type 0

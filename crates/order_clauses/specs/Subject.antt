@@ -25,9 +25,9 @@ pub record Subject : Type 0 where
   pub spec : Spec
   pub wanted : Wanted
 
--- the statements that are numbered
-unfoldable pub told : Subject → List Statement
-told s = statements_of (numbers_of s.spec.relations s.wanted)
+-- the statements that are numbered: the variables of the clauses
+unfoldable pub variables : Subject → List Statement
+variables s = statements_of (numbers_of s.spec.relations s.wanted)
 
 -- an attribute of a relation, and two different rows of one entity
 pub record IsPairIn (s : Spec) (rel : RelId) (attr : AttrId) (earlier later : RowId) : Type 0 where

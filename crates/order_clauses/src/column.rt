@@ -3,7 +3,7 @@ ghost use Rattle.value_names.specs.Names.{name_of};
 ghost use Rattle.order_literals.specs.Axioms.{AreTwo};
 ghost use Rattle.order_literals.specs.Said.{Says, before, not_before, top, not_top, last, not_last};
 ghost use Rattle.order_clauses.specs.Listing.{members_of};
-ghost use Rattle.order_clauses.specs.Subject.{told, IsAttribute, IsWantedRow};
+ghost use Rattle.order_clauses.specs.Subject.{variables, IsAttribute, IsWantedRow};
 
 use crate::sayings::Sayings;
 use currency_base::{AttrId, EntId, Lit, RelId, RowId};
@@ -70,7 +70,7 @@ impl Column<'_> {
     /// The literal that says that of two rows of one entity the first stands before the second.
     pub(crate) fn before(&self, earlier: RowId, later: RowId) -> Lit
         requires { AreTwo self.now.relation.rows earlier later }
-        ensures { Says (told self.now.subject) result (before self.now.rel self.now.attr earlier later) }
+        ensures { Says (variables self.now.subject) result (before self.now.rel self.now.attr earlier later) }
     {
         self.sayings.before(self.rel, self.attr, earlier, later)
     }
@@ -78,7 +78,7 @@ impl Column<'_> {
     /// The literal that says that it does not.
     pub(crate) fn not_before(&self, earlier: RowId, later: RowId) -> Lit
         requires { AreTwo self.now.relation.rows earlier later }
-        ensures { Says (told self.now.subject) result (not_before self.now.rel self.now.attr earlier later) }
+        ensures { Says (variables self.now.subject) result (not_before self.now.rel self.now.attr earlier later) }
     {
         self.before(earlier, later).negated()
     }
@@ -86,7 +86,7 @@ impl Column<'_> {
     /// The literal that says that a row stands last.
     pub(crate) fn top(&self, row: RowId) -> Lit
         requires { IsWantedRow self.now row }
-        ensures { Says (told self.now.subject) result (top self.now.rel self.now.attr row) }
+        ensures { Says (variables self.now.subject) result (top self.now.rel self.now.attr row) }
     {
         self.sayings.numbering().top(self.rel, self.attr, row)
     }
@@ -94,7 +94,7 @@ impl Column<'_> {
     /// The literal that says that it does not.
     pub(crate) fn not_top(&self, row: RowId) -> Lit
         requires { IsWantedRow self.now row }
-        ensures { Says (told self.now.subject) result (not_top self.now.rel self.now.attr row) }
+        ensures { Says (variables self.now.subject) result (not_top self.now.rel self.now.attr row) }
     {
         self.top(row).negated()
     }
@@ -111,7 +111,7 @@ impl Column<'_> {
     pub(crate) fn last(&self, row: RowId) -> Lit
         requires row { IsWantedRow self.now row }
         requires named { name_of self.now.relation.rows self.now.attr.0 row ≡ row }
-        ensures { Says (told self.now.subject) result (last self.now.rel self.now.attr row) }
+        ensures { Says (variables self.now.subject) result (last self.now.rel self.now.attr row) }
     {
         self.sayings.numbering().last(self.rel, self.attr, row)
     }
@@ -120,7 +120,7 @@ impl Column<'_> {
     pub(crate) fn not_last(&self, row: RowId) -> Lit
         requires row { IsWantedRow self.now row }
         requires named { name_of self.now.relation.rows self.now.attr.0 row ≡ row }
-        ensures { Says (told self.now.subject) result (not_last self.now.rel self.now.attr row) }
+        ensures { Says (variables self.now.subject) result (not_last self.now.rel self.now.attr row) }
     {
         self.last(row).negated()
     }

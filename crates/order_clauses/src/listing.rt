@@ -4,7 +4,7 @@ ghost use Rattle.order_literals.specs.Numbers.{numbers_of};
 ghost use Rattle.order_literals.specs.Statements.{statements_of};
 ghost use Rattle.order_clauses.specs.Clauses.{AreAxioms};
 ghost use Rattle.order_clauses.specs.Listing.{AddsAll};
-ghost use Rattle.order_clauses.specs.Subject.{told};
+ghost use Rattle.order_clauses.specs.Subject.{variables};
 
 use crate::copied::copied;
 use crate::given::given;
@@ -61,7 +61,7 @@ fn over<'a>(
 fn listed<'a>(alloc: Global, sayings: &'a Sayings<'a>, grounds: &Grounds) -> Result<Steps, NoMemory>
     requires rules { AreRuleGrounds sayings.now.spec grounds.now.rules }
     requires copies { AreCopyGrounds sayings.now.spec grounds.now.copies }
-    ensures { IfOk result (AreAxioms sayings.now.spec sayings.now.wanted.currents (told sayings.now)) }
+    ensures { IfOk result (AreAxioms sayings.now.spec sayings.now.wanted.currents (variables sayings.now)) }
 {
     sayings.facts();
     let mut steps = Steps::new(alloc);

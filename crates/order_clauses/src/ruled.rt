@@ -3,7 +3,7 @@ ghost use Rattle.entity_ground.specs.Grounds.{AreRuleGrounds};
 ghost use Rattle.order_literals.specs.Axioms.{instance_clause};
 ghost use Rattle.order_clauses.specs.Added.{Adds, Say};
 ghost use Rattle.order_clauses.specs.Listing.{ground_label, ground_labels, rule_labels};
-ghost use Rattle.order_clauses.specs.Subject.{told, IsGroundOf, IsPairOn};
+ghost use Rattle.order_clauses.specs.Subject.{variables, IsGroundOf, IsPairOn};
 
 use crate::pushing::{Scratch, push_axiom, put};
 use crate::sayings::Sayings;
@@ -94,7 +94,7 @@ fn instance_lits(
 ) -> Result<(), NoMemory>
     requires premises { All (IsPairOn sayings.now.spec rel) instance.now.premises }
     requires conclusion { IfSome instance.now.conclusion (IsPairOn sayings.now.spec rel) }
-    ensures { OnOk result (Say (told sayings.now) lits.new.items (instance_clause rel instance.now)) }
+    ensures { OnOk result (Say (variables sayings.now) lits.new.items (instance_clause rel instance.now)) }
 {
     lits.clear();
     for pair in instance.premises.as_slice() {

@@ -2,7 +2,7 @@ ghost use Rattle.std.specs.Prelude.{◌≡◌, ◌<◌, ◌+◌, ◌^◌, length
 ghost use Rattle.spec_model.specs.Facts.{AreCopies, AreRelations, AreRules, IsRelation};
 ghost use Rattle.order_literals.specs.Numbers.{is_wanted, numbers_of};
 ghost use Rattle.order_literals.specs.Said.{Says, before, not_before};
-ghost use Rattle.order_clauses.specs.Subject.{told, IsPairIn};
+ghost use Rattle.order_clauses.specs.Subject.{variables, IsPairIn};
 
 use currency_base::{AttrId, CopyId, Lit, RelId, RowId, RuleId};
 use order_literals::{Numbering, Wanted};
@@ -110,7 +110,7 @@ impl Sayings<'_> {
     /// The literal that says that one row stands before another.
     pub(crate) fn before(&self, rel: RelId, attr: AttrId, earlier: RowId, later: RowId) -> Lit
         requires { IsPairIn self.now.spec rel attr earlier later }
-        ensures { Says (told self.now) result (before rel attr earlier later) }
+        ensures { Says (variables self.now) result (before rel attr earlier later) }
     {
         self.numbering.before(rel, attr, earlier, later)
     }
@@ -118,7 +118,7 @@ impl Sayings<'_> {
     /// The literal that says that one row does not stand before another.
     pub(crate) fn not_before(&self, rel: RelId, attr: AttrId, earlier: RowId, later: RowId) -> Lit
         requires { IsPairIn self.now.spec rel attr earlier later }
-        ensures { Says (told self.now) result (not_before rel attr earlier later) }
+        ensures { Says (variables self.now) result (not_before rel attr earlier later) }
     {
         self.before(rel, attr, earlier, later).negated()
     }

@@ -6,7 +6,7 @@ ghost use Rattle.order_literals.specs.Statements.{statements_of};
 ghost use Rattle.order_clauses.specs.Added.{Adds};
 ghost use Rattle.order_clauses.specs.Clauses.{AreTransitive};
 ghost use Rattle.order_clauses.specs.Listing.{members_of, second_labels, third_labels, three_label, three_labels, three_of};
-ghost use Rattle.order_clauses.specs.Subject.{told, AreThree};
+ghost use Rattle.order_clauses.specs.Subject.{variables, AreThree};
 
 use crate::column::Column;
 use crate::pushing::push_axiom;
@@ -72,7 +72,7 @@ fn of_attribute<'a>(
     requires rel { rel.0 < length sayings.now.spec.relations }
     requires attr { (r : Relation) → slice_get sayings.now.spec.relations rel.0 ≡ Some r → attr.0 < length r.attrs }
     requires ent { (r : Relation) → slice_get sayings.now.spec.relations rel.0 ≡ Some r → ent.0 < length r.entities }
-    ensures { IfOk result (AreTransitive sayings.now.spec (told sayings.now) rel attr ent.0) }
+    ensures { IfOk result (AreTransitive sayings.now.spec (variables sayings.now) rel attr ent.0) }
 {
     let column = Column {
         sayings,
@@ -86,7 +86,7 @@ fn of_attribute<'a>(
 // Those of an entity, with the steps for them.
 fn of_members(alloc: Global, column: &Column<'_>, ent: EntId) -> Result<Steps, NoMemory>
     requires { ent.0 < length column.now.relation.entities }
-    ensures { IfOk result (AreTransitive column.now.subject.spec (told column.now.subject) column.now.rel column.now.attr ent.0) }
+    ensures { IfOk result (AreTransitive column.now.subject.spec (variables column.now.subject) column.now.rel column.now.attr ent.0) }
 {
     column.facts();
     one_literal();

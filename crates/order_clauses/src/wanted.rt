@@ -5,7 +5,7 @@ ghost use Rattle.value_names.specs.Names.{name_of};
 ghost use Rattle.order_literals.specs.Numbers.{is_wanted};
 ghost use Rattle.order_clauses.specs.Added.{Adds, Tells};
 ghost use Rattle.order_clauses.specs.Listing.{above_label, above_labels, alike_said, attr_labels, entity_labels, last_label, named_label, other_said, relation_labels, row_labels, top_clause, top_label, value_clause, value_label, wanted_at, wanted_labels};
-ghost use Rattle.order_clauses.specs.Subject.{told, IsWantedRow};
+ghost use Rattle.order_clauses.specs.Subject.{variables, IsWantedRow};
 
 use crate::column::Column;
 use crate::pushing::{Scratch, push_axiom, push_distinct, put};
@@ -208,7 +208,7 @@ fn top_lits(
     requires ent { ent.0 < length column.now.relation.entities }
     requires row { IsWantedRow column.now row }
     requires of_entity { entity_of column.now.relation.rows row.0 ≡ Some ent.0 }
-    ensures { OnOk result (Tells (told column.now.subject) (top_clause column.now ent.0 row) [] lits.new.items) }
+    ensures { OnOk result (Tells (variables column.now.subject) (top_clause column.now ent.0 row) [] lits.new.items) }
 {
     lits.clear();
     put(lits, column.top(row))?;
@@ -228,7 +228,7 @@ fn put_other(
 ) -> Result<(), NoMemory>
     requires of_entity { entity_of column.now.relation.rows row.0 ≡ Some ent.0 }
     requires other { entity_of column.now.relation.rows other.0 ≡ Some ent.0 }
-    ensures { OnOk result (Tells (told column.now.subject) (other_said column.now row other) lits.old.items lits.new.items) }
+    ensures { OnOk result (Tells (variables column.now.subject) (other_said column.now row other) lits.old.items lits.new.items) }
 {
     if other == row {
         return Ok(());
@@ -313,7 +313,7 @@ fn value_lits(
     requires ent { ent.0 < length column.now.relation.entities }
     requires row { IsWantedRow column.now row }
     requires named { name_of column.now.relation.rows column.now.attr.0 row ≡ row }
-    ensures { OnOk result (Tells (told column.now.subject) (value_clause column.now ent.0 row) [] lits.new.items) }
+    ensures { OnOk result (Tells (variables column.now.subject) (value_clause column.now ent.0 row) [] lits.new.items) }
 {
     lits.clear();
     put(lits, column.not_last(row))?;
@@ -331,7 +331,7 @@ fn put_alike(
     other: RowId,
 ) -> Result<(), NoMemory>
     requires { IsWantedRow column.now other }
-    ensures { OnOk result (Tells (told column.now.subject) (alike_said column.now row other) lits.old.items lits.new.items) }
+    ensures { OnOk result (Tells (variables column.now.subject) (alike_said column.now row other) lits.old.items lits.new.items) }
 {
     if column.name(other) != row {
         return Ok(());

@@ -10,7 +10,7 @@ use Rattle.currency_base.specs.declared.lit.Lit.{Lit}
 use Rattle.refutation_log.specs.declared.statement.Statement.{Statement}
 use Rattle.refutation_log.specs.declared.statement.Statement.TheVariants as says
 use Rattle.order_literals.specs.Numbers.{Numbers, IsPairOf}
-use Rattle.order_literals.specs.Said.{Said, Says, told_by, turned, before, IsLitTrue, IsSaidTrue}
+use Rattle.order_literals.specs.Said.{Said, Says, said_by, turned, before, IsLitTrue, IsSaidTrue}
 use Rattle.order_literals.specs.Statements.{statements_of}
 use Rattle.order_literals.proofs.Items.{in_at, place_of}
 use Rattle.order_literals.proofs.RowLaws.{row_is, IsLess}
@@ -112,7 +112,7 @@ pair_exclude n truths rel attr t u one other =
     said_exclude n truths (before rel attr t u) one (said_turned (statements_of n) truths (before rel attr u t) other)
 
 told_pair : (n : Numbers) (lit : Lit) (rel : RelId) (attr : AttrId) (t u : RowId) (negative : Bool)
-    → told_by (statements_of n) lit ≡ Some (signed (says.Before rel attr t u) negative) → IsPairOf n rel.0 attr.0 t u
+    → said_by (statements_of n) lit ≡ Some (signed (says.Before rel attr t u) negative) → IsPairOf n rel.0 attr.0 t u
 told_pair n lit rel attr t u negative e =
     let told = tells (statements_of n) lit (signed (says.Before rel attr t u) negative) e in
     (before_in n rel attr t u (in_at (statements_of n) (var_of lit) (says.Before rel attr t u) told.at)).0

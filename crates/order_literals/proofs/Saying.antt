@@ -17,7 +17,7 @@ use Rattle.value_names.proofs.NameFacts.{first_is}
 use Rattle.order_literals.specs.Held.{IsOwnName, IsRowPair}
 use Rattle.order_literals.specs.Layout.{HasPlace, IsBlockOf}
 use Rattle.order_literals.specs.Numbers.{Numbered, Numbers, IsPairOf, IsRowOf}
-use Rattle.order_literals.specs.Said.{Said, Says, told_by, before, top, last, positive}
+use Rattle.order_literals.specs.Said.{Said, Says, said_by, before, top, last, positive}
 use Rattle.order_literals.specs.Statements.{block_statements, blocks_of, statements_of, wanted_rows, wanted_values}
 use Rattle.order_literals.specs.declared.block.Block.{Block}
 use Rattle.order_literals.specs.declared.block.Block.TheVariants.{Pairs, Tops, Lasts, Answers}
@@ -185,7 +185,7 @@ statement_of negative (Some t) s e =
     let same : record { statement = t; negative = negative } ≡ s = cc in
     ap (λ (u : Said). Some u.statement) same
 
-told_is : (statements : List Statement) (lit : Lit) (s : Said) → told_by statements lit ≡ Some s
+told_is : (statements : List Statement) (lit : Lit) (s : Said) → said_by statements lit ≡ Some s
     → slice_get statements (var_of lit) ≡ Some s.statement
 told_is statements lit s told = statement_of (is_negative lit) (slice_get statements (var_of lit)) s told
 

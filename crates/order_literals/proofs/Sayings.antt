@@ -7,7 +7,7 @@ use Rattle.currency_base.specs.declared.lit.Lit.{Lit}
 use Rattle.refutation_log.specs.declared.statement.Statement.{Statement}
 use Rattle.refutation_log.specs.declared.statement.Statement.TheVariants as says
 use Rattle.order_literals.specs.Numbers.{Numbers}
-use Rattle.order_literals.specs.Said.{Said, turned, told_by, Says}
+use Rattle.order_literals.specs.Said.{Said, turned, said_by, Says}
 use Rattle.order_literals.specs.Statements.{statements_of}
 use Rattle.order_literals.proofs.Items.{in_at}
 use Rattle.order_literals.proofs.Members.{before_in}
@@ -97,7 +97,7 @@ pub record Tells (statements : List Statement) (lit : Lit) (s : Said) : Type 0 w
   pub at : slice_get statements (var_of lit) ≡ Some s.statement
   pub sign : is_negative lit ≡ s.negative
 
-pub tells : (statements : List Statement) (lit : Lit) (s : Said) → told_by statements lit ≡ Some s → Tells statements lit s
+pub tells : (statements : List Statement) (lit : Lit) (s : Said) → said_by statements lit ≡ Some s → Tells statements lit s
 tells statements lit s told = by (slice_get statements (var_of lit)) refl
   where
     by : (o : Option Statement) → slice_get statements (var_of lit) ≡ o → Tells statements lit s
@@ -107,7 +107,7 @@ tells statements lit s told = by (slice_get statements (var_of lit)) refl
         same_Some (signed x (is_negative lit)) s (sym (ap (option_map (λ y. signed y (is_negative lit))) e) ∙ told) in
         record { at = e ∙ ap (λ (q : Said). Some q.statement) is; sign = ap (λ (q : Said). q.negative) is }
 
-pub told_from : (statements : List Statement) (lit : Lit) (s : Said) → Tells statements lit s → told_by statements lit ≡ Some s
+pub told_from : (statements : List Statement) (lit : Lit) (s : Said) → Tells statements lit s → said_by statements lit ≡ Some s
 told_from statements lit s t =
     ap (option_map (λ x. signed x (is_negative lit))) t.at ∙ ap (λ b. Some (signed s.statement b)) t.sign
 
@@ -132,7 +132,7 @@ one_said statements lit s t (inr e) (inl f) = inr (same_Some t (turned s) (sym f
 one_said statements lit s t (inr e) (inr f) =
     inl (sym (turned_twice t) ∙ ap turned (same_Some (turned t) (turned s) (sym f ∙ e)) ∙ turned_twice s)
 
-told_within : (statements : List Statement) (lit : Lit) (s : Said) → told_by statements lit ≡ Some s
+told_within : (statements : List Statement) (lit : Lit) (s : Said) → said_by statements lit ≡ Some s
     → var_of lit < length statements
 told_within statements lit s e = slice_get_within statements (var_of lit) s.statement (tells statements lit s e).at
 
@@ -140,8 +140,8 @@ pub says_within : (statements : List Statement) (lit : Lit) (s : Said) → Says 
 says_within statements lit s (inl e) = told_within statements lit s e
 says_within statements lit s (inr e) = told_within statements lit (turned s) e
 
-negation_told : (statements : List Statement) (lit : Lit) (s : Said) → told_by statements lit ≡ Some s
-    → told_by statements (negation lit) ≡ Some (opposite s)
+negation_told : (statements : List Statement) (lit : Lit) (s : Said) → said_by statements lit ≡ Some s
+    → said_by statements (negation lit) ≡ Some (opposite s)
 negation_told statements lit s e =
     let t = tells statements lit s e in
     told_from statements (negation lit) (opposite s) (record {
@@ -168,15 +168,15 @@ one_way n i j (says.Top rel attr row) negative e f = refl
 one_way n i j (says.Last rel attr row) negative e f = refl
 one_way n i j (says.Answer tuple) negative e f = refl
 
-one_told : (n : Numbers) (a b : Lit) (s : Said) → told_by (statements_of n) a ≡ Some s → told_by (statements_of n)
+one_told : (n : Numbers) (a b : Lit) (s : Said) → said_by (statements_of n) a ≡ Some s → said_by (statements_of n)
     b ≡ Some s → a ≡ b
 one_told n a b s e f =
     let of_a = tells (statements_of n) a s e in
     let of_b = tells (statements_of n) b s f in
     lit_is a b (numbered_once n (var_of a) (var_of b) s.statement of_a.at of_b.at) (of_a.sign ∙ sym of_b.sign)
 
-two_told : (n : Numbers) (a b : Lit) (s : Said) → told_by (statements_of n) a ≡ Some s
-    → told_by (statements_of n) b ≡ Some (turned s) → a ≡ b
+two_told : (n : Numbers) (a b : Lit) (s : Said) → said_by (statements_of n) a ≡ Some s
+    → said_by (statements_of n) b ≡ Some (turned s) → a ≡ b
 two_told n a b s e f =
     let of_a = tells (statements_of n) a s e in
     let of_b = tells (statements_of n) b (turned s) f in

@@ -50,13 +50,13 @@ turned s = by s.statement
     by t = s
 
 -- what a literal says by the statement of its variable
-abbrev pub told_by : List Statement → Lit → Option Said
-told_by statements lit = option_map (λ s. record { statement = s; negative = is_negative lit })
+abbrev pub said_by : List Statement → Lit → Option Said
+said_by statements lit = option_map (λ s. record { statement = s; negative = is_negative lit })
     (slice_get statements (var_of lit))
 
 -- a literal says a statement with a sign: its variable's statement with its sign is this, or this in other words
 abbrev pub Says : List Statement → Lit → Said → Type 0
-Says statements lit s = (told_by statements lit ≡ Some s) ⊎ (told_by statements lit ≡ Some (turned s))
+Says statements lit s = (said_by statements lit ≡ Some s) ⊎ (said_by statements lit ≡ Some (turned s))
 
 -- ---- assignments: a truth for each variable
 

@@ -72,7 +72,7 @@ pub(crate) fn guess(
     ensures frame { solver.new.frame ≡ solver.old.frame }
     ensures steps { solver.new.steps ≡ solver.old.steps }
 {
-    solver.settle(guides);
+    solver.propagate_at_root(guides);
     solver.is_solver();
     match subject.start(alloc, solver.trail().values(), turned) {
         Ok(start) => {

@@ -5,9 +5,9 @@ ghost use Rattle.spec_parts.specs.Index.{AreIndexed};
 ghost use Rattle.part_conflicts.specs.Conflicts.{AreConflicts, AreConflictsUpTo, IsSmallest};
 ghost use Rattle.part_conflicts.specs.Steps.{AreDecidedTo};
 
+use crate::alone::decide_alone;
 use crate::found::{ConflictList, Found};
 use crate::laws::is_specification;
-use crate::settling::settle;
 use currency_base::NoMemory;
 use entity_ties::Ties;
 use part_limits::parts_are_within;
@@ -88,7 +88,7 @@ fn decide(
     parts_are_within();
     let part = smallest(alloc, spec, ties, given, number)?;
     is_specification(&part);
-    settle(alloc, part, budget, guides, found)
+    decide_alone(alloc, part, budget, guides, found)
 }
 
 /// The smallest part of this number, as a specification of its own.

@@ -7,8 +7,8 @@ use Rattle.currency_base.specs.declared.ids.EntId.{EntId}
 use Rattle.currency_base.specs.declared.ids.RelId.{RelId}
 use Rattle.currency_base.specs.declared.ids.RowId.{RowId}
 use Rattle.currency_base.specs.declared.pair.Pair.{Pair}
-use Rattle.currency_base.specs.declared.value.Kind.{Kind}
-use Rattle.currency_base.specs.declared.value.Kind.TheVariants.{Text}
+use Rattle.currency_base.specs.declared.value.ValueKind.{ValueKind}
+use Rattle.currency_base.specs.declared.value.ValueKind.TheVariants.{Text}
 use Rattle.partial_orders.specs.Pairs.{entity_of}
 use Rattle.query_model.specs.declared.query.Atom.{Atom}
 use Rattle.query_model.specs.declared.query.Disjunct.{Disjunct}
@@ -98,7 +98,7 @@ module _ (s : Spec) (scope : Scope) (n : Places) (part : Spec) (of : IsPartOf s 
       let one = there old k (omega (arith, inside, are.as_many)) in
       pair_asked q one.0 (are.each k q one.0 at one.1) (all_at (IsAskedPair s.relations) old k one.0 can one.1)
 
-  atom_on : (kinds : List Kind) (atom : Atom) → IsAtomOn s.relations kinds atom → IsAtomOn part.relations kinds atom
+  atom_on : (kinds : List ValueKind) (atom : Atom) → IsAtomOn s.relations kinds atom → IsAtomOn part.relations kinds atom
   atom_on kinds atom is =
       let rel = atom.relation.0 in
       let found = part_at rel is.relation is.is_relation in
@@ -113,7 +113,7 @@ module _ (s : Spec) (scope : Scope) (n : Places) (part : Spec) (of : IsPartOf s 
             (is.terms k t at);
       }
 
-  disjunct_on : (heads : List Kind) (d : Disjunct) → IsDisjunctOn s.relations heads d → IsDisjunctOn part.relations heads d
+  disjunct_on : (heads : List ValueKind) (d : Disjunct) → IsDisjunctOn s.relations heads d → IsDisjunctOn part.relations heads d
   disjunct_on heads d is = record {
     few_atoms = is.few_atoms;
     few_tests = is.few_tests;

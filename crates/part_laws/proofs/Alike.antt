@@ -3,7 +3,7 @@ use Rattle.std.proofs.Common.{◌≡◌, ◌<◌, ◌∙◌, ℕ, List, [], Opti
 use Rattle.currency_base.specs.declared.ids.RowId.{RowId}
 use Rattle.currency_base.specs.declared.row.Row.{Row}
 use Rattle.currency_base.specs.declared.value.Value.{Value}
-use Rattle.currency_base.specs.declared.value.Kind.{Kind}
+use Rattle.currency_base.specs.declared.value.ValueKind.{ValueKind}
 use Rattle.denial_rules.specs.Instances.{field_value, operand_value, is_compared}
 use Rattle.denial_rules.specs.Rules.{IsPredicate, IsConclusion, IsRuleOn}
 use Rattle.denial_rules.specs.declared.rule.Conclusion.{Conclusion}
@@ -39,7 +39,8 @@ operands : (attrs : ℕ) (a b : Scene) (o : Operand) → AreAlike attrs a b → 
 operands attrs a b (Field var attr) are = are.value var attr.0
 operands attrs a b (Constant value) are = refl
 
-predicates : (vars : ℕ) (kinds : List Kind) (a b : Scene) (p : Predicate) → AreAlike (length kinds) a b → IsPredicate vars kinds p
+predicates : (vars : ℕ) (kinds : List ValueKind) (a b : Scene) (p : Predicate) → AreAlike (length kinds) a b
+    → IsPredicate vars kinds p
     → PredicateHolds a.table a.lists a.rows p → PredicateHolds b.table b.lists b.rows p
 predicates vars kinds a b (Order atom) are is holds = are.forth atom.attr.0 atom.earlier atom.later is.attr holds
 predicates vars kinds a b (Compare left cmp right) are is holds =
@@ -48,14 +49,14 @@ predicates vars kinds a b (Compare left cmp right) are is holds =
     (sym (operands (length kinds) a b right are))
     ∙ holds)
 
-conclusions : (vars : ℕ) (kinds : List Kind) (a b : Scene) (q : Conclusion) → AreAlike (length kinds) a b
+conclusions : (vars : ℕ) (kinds : List ValueKind) (a b : Scene) (q : Conclusion) → AreAlike (length kinds) a b
     → IsConclusion vars kinds q
     → ConclusionHolds a.lists a.rows q → ConclusionHolds b.lists b.rows q
 conclusions vars kinds a b conclusion.Never are is holds = holds
 conclusions vars kinds a b (conclusion.Order atom) are is holds = are.forth atom.attr.0 atom.earlier atom.later is.attr holds
 
 -- where one satisfies a rule the other does
-pub satisfied_alike : (kinds : List Kind) (rule : Rule) (a b : Scene) → AreAlike (length kinds) a b → IsRuleOn kinds rule
+pub satisfied_alike : (kinds : List ValueKind) (rule : Rule) (a b : Scene) → AreAlike (length kinds) a b → IsRuleOn kinds rule
     → IsSatisfiedBy a.table a.lists rule a.rows → IsSatisfiedBy b.table b.lists rule b.rows
 satisfied_alike kinds rule a b are is satisfied all =
     let back = alike_back (length kinds) a b are in

@@ -5,7 +5,7 @@ use Rattle.std.proofs.lemmas.List.Elements.{All-nil, All-cons}
 use Rattle.std.proofs.lemmas.Option.{same_Some}
 use Rattle.currency_base.specs.Values.{kind_of}
 use Rattle.currency_base.specs.declared.value.Cmp.TheVariants as cmp
-use Rattle.currency_base.specs.declared.value.Kind.{Kind}
+use Rattle.currency_base.specs.declared.value.ValueKind.{ValueKind}
 use Rattle.currency_base.specs.declared.value.Value.{Value}
 use Rattle.currency_base.specs.declared.value.Value.TheVariants.{Text}
 use Rattle.match_premises.specs.declared.premise.Premise.{Premise}
@@ -38,7 +38,7 @@ terms_of relations p read vars t own =
     n = length read.relation.attrs
 
 -- each of its terms has the kind of its place, if the one at the attribute's has the kind of the value
-atom_on : (relations : List Relation) (p : Premise) → (read : IsRead relations p) → (kinds : List Kind) (t : Term)
+atom_on : (relations : List Relation) (p : Premise) → (read : IsRead relations p) → (kinds : List ValueKind) (t : Term)
     → IsTermOn kinds (Some (kind_of read.value)) t → IsAtomOn relations kinds (claim_atom relations p t)
 atom_on relations p read kinds t own =
     let n = length read.relation.attrs in
@@ -153,7 +153,7 @@ other_is relations p read =
 -- the disjunct fits the relations
 other_on : (relations : List Relation) (p : Premise) → IsRead relations p → IsDisjunctOn relations [] (other_disjunct relations p)
 other_on relations p read =
-    let kinds : List Kind = kind_of read.value ∷ [] in
+    let kinds : List ValueKind = kind_of read.value ∷ [] in
     record {
       few_atoms = omega arith;
       few_tests = omega (arith, ap (λ l. length l) (tests_are relations p read));

@@ -14,8 +14,8 @@ use Rattle.possible_values.specs.declared.candidates.Candidate.TheVariants as ca
 use Rattle.possible_values.specs.declared.found.Found.{Found}
 use Rattle.query_model.specs.declared.query.Match.{Match}
 use Rattle.query_model.specs.declared.query.Query.{Query}
-use Rattle.settled_facts.specs.declared.shown.Shown.{Shown}
-use Rattle.settled_facts.specs.declared.shown.Shown.TheVariants as shown
+use Rattle.decided_facts.specs.declared.shown.Shown.{Shown}
+use Rattle.decided_facts.specs.declared.shown.Shown.TheVariants as shown
 use Rattle.spec_model.specs.Completion.{Rankings}
 use Rattle.spec_model.specs.Consistent.{IsConsistent}
 use Rattle.spec_model.specs.Facts.{AreRelations}

@@ -6,8 +6,8 @@ use Rattle.possible_values.specs.declared.candidates.Candidate.{Candidate}
 use Rattle.possible_values.specs.declared.candidates.Candidate.TheVariants as candidate
 use Rattle.query_model.specs.declared.query.Match.{Match}
 use Rattle.query_model.specs.declared.query.Query.{Query}
-use Rattle.settled_facts.specs.declared.shown.Shown.{Shown}
-use Rattle.settled_facts.specs.declared.shown.Shown.TheVariants as shown
+use Rattle.decided_facts.specs.declared.shown.Shown.{Shown}
+use Rattle.decided_facts.specs.declared.shown.Shown.TheVariants as shown
 
 -- the values of the head's variables, if the match is one of the query
 abbrev pub head_of : Query → Match → Option (List Value)

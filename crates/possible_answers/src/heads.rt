@@ -4,10 +4,10 @@ ghost use Rattle.std.specs.Prelude.{◌≡◌, ◌++◌, IfOk, OnOk, length};
 ghost use Rattle.possible_answers.specs.Heads.{head_if, head_of, heads_from, match_head};
 
 use currency_base::{NoMemory, Tuple};
+use decided_facts::Shown;
 use match_premises::head_tuple;
 use possible_values::Candidate;
 use query_model::{Match, Query};
-use settled_facts::Shown;
 use std::alloc::Global;
 
 /// The heads of the matches that are possible, in the order of the candidates.

@@ -7,15 +7,15 @@ use Rattle.posed_facts.specs.declared.fact.Fact.{Fact}
 use Rattle.possible_values.specs.declared.candidates.Candidate.{Candidate}
 use Rattle.possible_values.specs.declared.found.Found.{Found}
 use Rattle.report_model.specs.declared.report.Report.{Report}
-use Rattle.settled_facts.specs.declared.shown.Shown.{Shown}
-use Rattle.settled_facts.specs.declared.shown.Shown.TheVariants as shown
+use Rattle.decided_facts.specs.declared.shown.Shown.{Shown}
+use Rattle.decided_facts.specs.declared.shown.Shown.TheVariants as shown
 use Rattle.spec_model.specs.Spec.{Spec}
 use Rattle.spec_model.specs.declared.relation.Relation.{Relation}
 use Rattle.text_write.specs.Pieces.{text_of}
 use Rattle.possible_command.specs.Possible.{AreCounters}
 use Rattle.possible_command.specs.Possible.AreCounters.{none, passed, countered}
 use Rattle.possible_command.specs.Text.{brief_findings, counter_text, impossible_pieces, whole_findings}
-use Rattle.possible_command.specs.Told.{AreAdded, IsAdded, IsAddedAt, finding_pieces}
+use Rattle.possible_command.specs.Findings.{AreAdded, IsAdded, IsAddedAt, finding_pieces}
 
 -- what is left begins with the item that is read
 left_more : {A : Type 0} (xs : List A) (i : ℕ) (x : A) → slice_get xs i ≡ Some x → drop i xs ≡ x ∷ drop (i + 1) xs

@@ -26,7 +26,7 @@ use Rattle.spec_model.specs.Spec.{Spec}
 use Rattle.spec_model.specs.declared.question.Question.{Question}
 use Rattle.spec_model.specs.declared.question.Question.TheVariants as asked
 use Rattle.spec_model.specs.declared.relation.Relation.{Relation}
-use Rattle.possible_command.specs.Possible.{AreTold, ComesOf, IsPossibleDue, IsPossibleOf}
+use Rattle.possible_command.specs.Possible.{ArePrinted, ComesOf, IsPossibleDue, IsPossibleOf}
 use Rattle.possible_values.proofs.Few.{few_or_many}
 
 abbrev OneSpec : Type 0
@@ -44,17 +44,17 @@ IsAnswerOrLimit s q outcome =
     (((d : Done) × IsOfQuestion d.ending × (outcome ≡ Ok d)) × HasFewCandidates s q)
     ⊎ ((outcome ≡ Err (trouble.Limit 13)) × HasTooManyCandidates s.relations q)
 
-found_told : (s : Spec) (budget : ℕ) (brief : Bool) (f : Found) (outcome : Result Done Trouble)
-    → AreTold s brief budget f outcome → (d : Done) × IsOfQuestion d.ending × (outcome ≡ Ok d)
-found_told s budget true f outcome told = (_, tt, told)
-found_told s budget false f outcome (inl told) = (_, tt, told.comes)
-found_told s budget false f outcome (inr left) = (_, tt, left.comes)
+found_printed : (s : Spec) (budget : ℕ) (brief : Bool) (f : Found) (outcome : Result Done Trouble)
+    → ArePrinted s brief budget f outcome → (d : Done) × IsOfQuestion d.ending × (outcome ≡ Ok d)
+found_printed s budget true f outcome told = (_, tt, told)
+found_printed s budget false f outcome (inl told) = (_, tt, told.comes)
+found_printed s budget false f outcome (inr left) = (_, tt, left.comes)
 
 either : (s : Spec) (q : Question) (budget : ℕ) (brief : Bool) (x : Possible) (outcome : Result Done Trouble)
     → IsPossible s q budget x → ComesOf s brief budget x outcome → IsAnswerOrLimit s q outcome
 either s q budget brief (possible.Inconsistent report) outcome is comes = inl ((_, tt, comes), is.0)
 either s q budget brief (possible.Found f) outcome is comes =
-    inl (found_told s budget brief f outcome comes, (f.candidates, is.candidates))
+    inl (found_printed s budget brief f outcome comes, (f.candidates, is.candidates))
 either s q budget brief (possible.Undecided p report) outcome is comes = inl ((_, tt, comes), is.0)
 either s q budget brief possible.TooMany outcome is comes = inr (comes, is)
 
@@ -110,7 +110,7 @@ ComesToPossible s q status = (status ≡ 0) ⊎ ((status ≡ 3) ⊎ ((status ≡
 
 question_status : (s : Spec) (q : Question) (e : Ending) (status : ℕ) → IsOfQuestion e → status ≡ ending_status e
     → ComesToPossible s q status
-question_status s q ending.Told status of is = absurd of
+question_status s q ending.Printed status of is = absurd of
 question_status s q ending.Decided status of is = inl is
 question_status s q ending.Denied status of is = absurd of
 question_status s q ending.Undecided status of is = inr (inl is)

@@ -5,7 +5,7 @@ use Rattle.std.specs.Prelude.{map}
 use Rattle.std.proofs.lemmas.List.Elements.{All-map}
 use Rattle.std.proofs.lemmas.Option.{get_or_from_slice_get, same_Some, slice_get_within}
 use Rattle.bound_spec.specs.Growth.{IsWithinLimits}
-use Rattle.command_stages.specs.Named.{IsSettled}
+use Rattle.command_stages.specs.Named.{IsDetermined}
 use Rattle.command_stages.specs.Stages.{IsSpecRead, IsQuestionRead}
 use Rattle.command_stages.specs.declared.done.Done.{Done}
 use Rattle.command_stages.specs.declared.trouble.Trouble.{Trouble}
@@ -35,9 +35,9 @@ use Rattle.spec_model.specs.declared.question.Asked.{Asked}
 use Rattle.spec_model.specs.declared.question.Question.{Question}
 use Rattle.spec_model.specs.declared.question.Question.TheVariants as asked
 use Rattle.spec_model.specs.declared.relation.Relation.{Relation}
-use Rattle.possible_command.specs.Possible.{AreTold, ComesOf, IsPossibleDue, IsPossibleOf, IsPossibleTold}
+use Rattle.possible_command.specs.Possible.{ArePrinted, ComesOf, IsPossibleDue, IsPossibleOf, IsPossiblePrinted}
 use Rattle.possible_command.specs.Text.{undecided, undecided_text}
-use Rattle.possible_command.specs.Told.{CanBeTold, IsLeftAt, IsNamed, IsTellable}
+use Rattle.possible_command.specs.Findings.{IsLeftAt, IsNamed, IsWritableFound, IsWritablePossible}
 
 contains_at : {A : Type 0} (xs : List A) (k : ℕ) (x : A) → slice_get xs k ≡ Some x → Contains xs x
 contains_at xs k x at = (k, slice_get_within xs k x at, get_or_from_slice_get xs k x x at)
@@ -74,7 +74,7 @@ all_named relations (asked.Answers query) list on are =
     subst (All (IsNamed relations)) (sym are.are) (all_matches relations are.matches)
 
 module _ (law : CompletionsAreWritable) (s : Spec) (within : IsWithin s) (q : Question) (on : IsQuestionOn s.relations q) where
-  tellable : (f : Found) → AreFindings s q f → IsTellable s.relations f
+  tellable : (f : Found) → AreFindings s q f → IsWritableFound s.relations f
   tellable f is = record {
     candidates = all_named s.relations q f.candidates on is.candidates;
     facts = is.posable;
@@ -83,11 +83,11 @@ module _ (law : CompletionsAreWritable) (s : Spec) (within : IsWithin s) (q : Qu
     shown_per_candidate = is.shown_per_candidate;
   }
 
-  pub can_be_told : (budget : ℕ) (x : Possible) → IsPossible s q budget x → CanBeTold s x
-  can_be_told budget (possible.Inconsistent report) is = is.1.writable
-  can_be_told budget (possible.Found f) is = tellable f is
-  can_be_told budget (possible.Undecided p report) is = (is.1, is.2.writable)
-  can_be_told budget possible.TooMany is = tt
+  pub is_writable : (budget : ℕ) (x : Possible) → IsPossible s q budget x → IsWritablePossible s x
+  is_writable budget (possible.Inconsistent report) is = is.1.writable
+  is_writable budget (possible.Found f) is = tellable f is
+  is_writable budget (possible.Undecided p report) is = (is.1, is.2.writable)
+  is_writable budget possible.TooMany is = tt
 
 -- ---- the whole text
 
@@ -95,7 +95,7 @@ module _ (law : CompletionsAreWritable) (s : Spec) (within : IsWithin s) (q : Qu
 pub left_open : (s : Spec) (budget : ℕ) (f : Found) (place : ℕ) (report : Report) (fact : Fact) (outcome : Result Done NoMemory)
     → slice_get f.facts place ≡ Some fact → IsLeftAt s budget f place report
     → IfOk outcome (λ d. d ≡ undecided (undecided_text s (posed.Fact fact) report))
-    → IfOk outcome (λ d. AreTold s false budget f (Ok d))
+    → IfOk outcome (λ d. ArePrinted s false budget f (Ok d))
 left_open s budget f place report fact (Ok d) at left told =
     inr (record {
       fact = fact;
@@ -110,15 +110,15 @@ left_open s budget f place report fact (Err e) at left told = tt
 -- ---- what is due
 
 -- what may hold is told
-pub possible_is_told : (s : Spec) (a : PossibleSaid) (q : Question) (x : Possible) (outcome : Result Done Trouble)
-    → IsPossible s q a.budget x → (IsSettled outcome → ComesOf s a.brief a.budget x outcome) → IsSettled outcome
+pub possible_is_printed : (s : Spec) (a : PossibleSaid) (q : Question) (x : Possible) (outcome : Result Done Trouble)
+    → IsPossible s q a.budget x → (IsDetermined outcome → ComesOf s a.brief a.budget x outcome) → IsDetermined outcome
     → IsPossibleOf s a q outcome
-possible_is_told s a q x outcome is told settled = (x, is, told settled)
+possible_is_printed s a q x outcome is told determined = (x, is, told determined)
 
-told_at : (told : List (List ℕ × List ℕ)) (a : PossibleSaid) (s : Spec) (q : Question) (d : Done)
+printed_at : (told : List (List ℕ × List ℕ)) (a : PossibleSaid) (s : Spec) (q : Question) (d : Done)
     → IsSpecRead told a.spec (Ok s) → IsQuestionRead told s.relations a.question (Ok q) → IsPossibleOf s a q (Ok d)
-    → IsPossibleTold told a d.text d.ending
-told_at told a s q d spec question h = record {
+    → IsPossiblePrinted told a d.text d.ending
+printed_at told a s q d spec question h = record {
   spec = s;
   question = q;
   spec_read = spec;
@@ -127,21 +127,22 @@ told_at told a s q d spec question h = record {
 }
 
 -- the stages together
-pub stages_told : (texts : Option (List (List ℕ × List ℕ))) (a : PossibleSaid) (s : Spec) (q : Question)
+pub stages_printed : (texts : Option (List (List ℕ × List ℕ))) (a : PossibleSaid) (s : Spec) (q : Question)
     (outcome : Result Done Trouble)
     → IfSome texts (λ told. IsSpecRead told a.spec (Ok s))
     → IfSome texts (λ told. IsQuestionRead told s.relations a.question (Ok q))
-    → (IsSettled outcome → IsPossibleOf s a q outcome)
-    → IfOk outcome (λ d. IfSome texts (λ told. IsPossibleTold told a d.text d.ending))
-stages_told None a s q (Ok d) spec question job = tt
-stages_told (Some told) a s q (Ok d) spec question job = told_at told a s q d spec question (job tt)
-stages_told texts a s q (Err e) spec question job = tt
+    → (IsDetermined outcome → IsPossibleOf s a q outcome)
+    → IfOk outcome (λ d. IfSome texts (λ told. IsPossiblePrinted told a d.text d.ending))
+stages_printed None a s q (Ok d) spec question job = tt
+stages_printed (Some told) a s q (Ok d) spec question job = printed_at told a s q d spec question (job tt)
+stages_printed texts a s q (Err e) spec question job = tt
 
 -- what is told is due
 pub stages_due : (texts : Option (List (List ℕ × List ℕ))) (a : PossibleSaid) (s : Spec) (q : Question)
     (outcome : Result Done Trouble)
     → IfSome texts (λ told. IsSpecRead told a.spec (Ok s))
     → IfSome texts (λ told. IsQuestionRead told s.relations a.question (Ok q))
-    → (IsSettled outcome → IsPossibleOf s a q outcome) → IsSettled outcome → IfSome texts (λ told. IsPossibleDue told a outcome)
-stages_due None a s q outcome spec question job settled = tt
-stages_due (Some told) a s q outcome spec question job settled = (Ok s, spec, (Ok q, question, job settled))
+    → (IsDetermined outcome → IsPossibleOf s a q outcome) → IsDetermined outcome
+    → IfSome texts (λ told. IsPossibleDue told a outcome)
+stages_due None a s q outcome spec question job determined = tt
+stages_due (Some told) a s q outcome spec question job determined = (Ok s, spec, (Ok q, question, job determined))

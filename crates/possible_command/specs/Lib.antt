@@ -1,3 +1,3 @@
 pub mod Possible
 pub mod Text
-pub mod Told
+pub mod Findings

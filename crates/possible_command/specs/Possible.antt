@@ -18,11 +18,11 @@ use Rattle.program_words.specs.Words.{PossibleSaid}
 use Rattle.program_words.specs.declared.command.Possible.{Possible as Asked}
 use Rattle.report_model.specs.Verdicts.{is_decided, kind_of}
 use Rattle.report_model.specs.declared.report.Report.{Report}
-use Rattle.settled_facts.specs.declared.shown.Shown.{Shown}
-use Rattle.settled_facts.specs.declared.shown.Shown.TheVariants as shown
+use Rattle.decided_facts.specs.declared.shown.Shown.{Shown}
+use Rattle.decided_facts.specs.declared.shown.Shown.TheVariants as shown
 use Rattle.spec_model.specs.Spec.{Spec}
 use Rattle.spec_model.specs.declared.question.Question.{Question}
-use Rattle.told_answers.specs.Answers.{IsAnswer}
+use Rattle.answer_texts.specs.Answers.{IsAnswer}
 use Rattle.possible_command.specs.Text.{brief_text, decided, inconsistent_text, undecided, undecided_text, whole_text}
 
 -- what is asked, with the names of documents as bytes
@@ -44,7 +44,7 @@ pub data AreCounters (s : Spec) (budget : ℕ) : List Fact → List Shown → Li
       → AreCounters s budget (f ∷ facts) (shown.Holds ∷ list) (report ∷ reports)
 
 -- what is found is told with the reports for what is impossible; or for one of these the budget is spent over the whole
-pub record AreToldWhole (s : Spec) (budget : ℕ) (f : Found) (outcome : Result Done Trouble) : Type 0 where
+pub record ArePrintedWhole (s : Spec) (budget : ℕ) (f : Found) (outcome : Result Done Trouble) : Type 0 where
   pub reports : List Report
   pub are_counters : AreCounters s budget f.facts f.shown reports
   pub comes : outcome ≡ Ok (decided (whole_text s f reports))
@@ -56,14 +56,14 @@ pub record IsLeftOpen (s : Spec) (budget : ℕ) (f : Found) (outcome : Result Do
   pub spent : IsSpent s (fact_question s.relations fact) budget report
   pub comes : outcome ≡ Ok (undecided (undecided_text s (posed.Fact fact) report))
 
-abbrev pub AreTold : Spec → Bool → ℕ → Found → Result Done Trouble → Type 0
-AreTold s true budget f outcome = outcome ≡ Ok (decided (brief_text s f))
-AreTold s false budget f outcome = AreToldWhole s budget f outcome ⊎ IsLeftOpen s budget f outcome
+abbrev pub ArePrinted : Spec → Bool → ℕ → Found → Result Done Trouble → Type 0
+ArePrinted s true budget f outcome = outcome ≡ Ok (decided (brief_text s f))
+ArePrinted s false budget f outcome = ArePrintedWhole s budget f outcome ⊎ IsLeftOpen s budget f outcome
 
 -- what is found comes to this
 abbrev pub ComesOf : Spec → Bool → ℕ → Possible → Result Done Trouble → Type 0
 ComesOf s brief budget (possible.Inconsistent report) outcome = outcome ≡ Ok (decided (inconsistent_text s brief report))
-ComesOf s brief budget (possible.Found f) outcome = AreTold s brief budget f outcome
+ComesOf s brief budget (possible.Found f) outcome = ArePrinted s brief budget f outcome
 ComesOf s brief budget (possible.Undecided p report) outcome = outcome ≡ Ok (undecided (undecided_text s p report))
 ComesOf s brief budget possible.TooMany outcome = outcome ≡ Err (trouble.Limit 13)
 
@@ -81,7 +81,7 @@ abbrev pub IsPossibleDocumentDue : List (List ℕ × List ℕ) → PossibleSaid 
 IsPossibleDocumentDue told a name = IsSpecDocumentDue told a.spec name ⊎ IsQuestionDue told a.spec a.question name
 
 -- the documents are read as a specification and a question, and this is told of what may hold
-pub record IsPossibleTold (told : List (List ℕ × List ℕ)) (a : PossibleSaid) (text : List ℕ) (ending : Ending) : Type 0 where
+pub record IsPossiblePrinted (told : List (List ℕ × List ℕ)) (a : PossibleSaid) (text : List ℕ) (ending : Ending) : Type 0 where
   pub spec : Spec
   pub question : Question
   pub spec_read : IsSpecRead told a.spec (Ok spec)

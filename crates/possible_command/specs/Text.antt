@@ -17,8 +17,8 @@ use Rattle.possible_values.specs.declared.found.Posed.TheVariants as posed
 use Rattle.refutation_log.specs.declared.step.Label.TheVariants as label
 use Rattle.report_model.specs.declared.report.Report.{Report}
 use Rattle.report_write.specs.Pieces.{attribute_pieces, brief_pieces, completions_pieces, name, report_pieces, row_pieces}
-use Rattle.settled_facts.specs.declared.shown.Shown.{Shown}
-use Rattle.settled_facts.specs.declared.shown.Shown.TheVariants as shown
+use Rattle.decided_facts.specs.declared.shown.Shown.{Shown}
+use Rattle.decided_facts.specs.declared.shown.Shown.TheVariants as shown
 use Rattle.spec_model.specs.Spec.{Spec}
 use Rattle.spec_model.specs.declared.relation.Relation.{Relation}
 use Rattle.text_write.specs.Pieces.{Piece, text_of, word_piece}

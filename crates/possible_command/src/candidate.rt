@@ -7,7 +7,7 @@ ghost use Rattle.posed_facts.specs.Facts.{IsPlaced};
 ghost use Rattle.spec_model.specs.Questions.{IsAskedPair};
 ghost use Rattle.text_write.specs.Spacing.{writes_all};
 ghost use Rattle.possible_command.specs.Text.{candidate_pieces};
-ghost use Rattle.possible_command.specs.Told.{IsNamed};
+ghost use Rattle.possible_command.specs.Findings.{IsNamed};
 
 use currency_base::{EntId, NoMemory, Value};
 use fact_write::{name_of, value_of};

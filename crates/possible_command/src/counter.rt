@@ -2,13 +2,14 @@
 
 ghost use Rattle.std.specs.Prelude.{IfOk, Err};
 ghost use Rattle.bound_spec.specs.Growth.{IsWithinLimits};
-ghost use Rattle.command_stages.specs.Named.{IsDetermined, IsReadFault};
+ghost use Rattle.command_stages.specs.Named.{IsDeterminedTrouble, IsReadFault};
 ghost use Rattle.command_stages.specs.declared.done.Done.{Done};
 ghost use Rattle.posed_facts.specs.Facts.{IsPosable};
 ghost use Rattle.posed_facts.specs.Questions.{fact_question};
 ghost use Rattle.report_write.specs.Writable.{IsWritableReport};
-ghost use Rattle.told_answers.specs.Answers.{IsAnswer};
+ghost use Rattle.answer_texts.specs.Answers.{IsAnswer};
 
+use answer_texts::report_on;
 use bound_spec::is_specification;
 use command_stages::Trouble;
 use currency_base::NoMemory;
@@ -17,7 +18,6 @@ use report_model::Report;
 use solver_guides::Guides;
 use spec_model::Specification;
 use std::alloc::Global;
-use told_answers::report_on;
 
 /// The report that answers the question for a fact.
 pub(crate) fn report_for(
@@ -43,7 +43,7 @@ pub(crate) fn report_for(
 
 /// A trouble at a question for one fact, which has no more than one answer.
 fn wanting(trouble: Trouble) -> NoMemory
-    requires few { IsDetermined trouble → ⊥ }
+    requires few { IsDeterminedTrouble trouble → ⊥ }
     requires inside { IsReadFault {A = Done} (Err trouble) → ⊥ }
 {
     match trouble {

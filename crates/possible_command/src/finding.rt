@@ -1,12 +1,12 @@
 ghost use Rattle.std.specs.Prelude.{◌≢◌, ◌≤◌, ℕ, List, IfErr, IfOk, IfSome};
 ghost use Rattle.bound_spec.specs.Growth.{IsWithinLimits};
-ghost use Rattle.command_stages.specs.Named.{IsSettled, IsReadFault, IsReadFaultOf};
+ghost use Rattle.command_stages.specs.Named.{IsDetermined, IsReadFault, IsReadFaultOf};
 ghost use Rattle.currency_edge.specs.Fault.{Rose};
-ghost use Rattle.possible_command.specs.Possible.{IsPossibleDocumentDue, IsPossibleDue, IsPossibleOf, IsPossibleTold};
+ghost use Rattle.possible_command.specs.Possible.{IsPossibleDocumentDue, IsPossibleDue, IsPossibleOf, IsPossiblePrinted};
 ghost use Rattle.possible_command.specs.Possible.{possible_said};
 ghost use Rattle.spec_model.specs.Questions.{IsQuestionOn};
 
-use crate::telling::told_possible;
+use crate::telling::printed_possible;
 use bound_spec::is_specification;
 use command_stages::{Done, Trouble, read_specification, read_the_question};
 use currency_edge::Shelf;
@@ -27,14 +27,14 @@ fn reply(
 ) -> Result<Done, Trouble>
     requires within { IsWithinLimits spec.now }
     requires question { IsQuestionOn spec.now.relations question.now }
-    ensures job { IsSettled result → IsPossibleOf spec.now (possible_said asked.entry) question.now result }
+    ensures job { IsDetermined result → IsPossibleOf spec.now (possible_said asked.entry) question.now result }
     ensures inside { IsReadFault result → ⊥ }
     ensures not_words { IfErr result (λ e. e ≢ Trouble.Words) }
 {
     is_specification(spec);
     completions_are_writable();
     match possible(alloc, spec, question, asked.budget, guides) {
-        Ok(found) => told_possible(alloc, spec, asked, &found, guides),
+        Ok(found) => printed_possible(alloc, spec, asked, &found, guides),
         Err(_) => Err(Trouble::NoMemory),
     }
 }
@@ -48,10 +48,10 @@ pub fn possible_documents<S: Shelf>(
 ) -> Result<Done, Trouble>
     requires budget { asked.budget ≤ 10000000 }
     ensures later { S.faults shelf.old ≤ S.faults shelf.new }
-    ensures due { IsSettled result → IfSome (S.texts shelf.old)
+    ensures due { IsDetermined result → IfSome (S.texts shelf.old)
         (λ told. IsPossibleDue told (possible_said asked.entry) result) }
-    ensures told { IfOk result (λ done. IfSome (S.texts shelf.old)
-        (λ told. IsPossibleTold told (possible_said asked.entry) done.text done.ending)) }
+    ensures printed { IfOk result (λ done. IfSome (S.texts shelf.old)
+        (λ told. IsPossiblePrinted told (possible_said asked.entry) done.text done.ending)) }
     ensures read_fault { IsReadFault result → Rose (S.faults shelf.old) (S.faults shelf.new) }
     ensures unread { (n : List ℕ) → IsReadFaultOf result n
         → IfSome (S.texts shelf.old) (λ told. IsPossibleDocumentDue told (possible_said asked.entry) n) }

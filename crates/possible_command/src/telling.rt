@@ -2,14 +2,14 @@
 
 ghost use Rattle.std.specs.Prelude.{◌≡◌, ◌≢◌, ◌++◌, IfErr, IfOk, Ok, OnOk};
 ghost use Rattle.bound_spec.specs.Growth.{IsWithinLimits};
-ghost use Rattle.command_stages.specs.Named.{IsReadFault, IsSettled};
+ghost use Rattle.command_stages.specs.Named.{IsDetermined, IsReadFault};
 ghost use Rattle.possible_values.specs.Possible.{IsPosed};
 ghost use Rattle.report_write.specs.Writable.{IsWritableReport};
-ghost use Rattle.possible_command.specs.Possible.{AreTold, ComesOf};
+ghost use Rattle.possible_command.specs.Possible.{ArePrinted, ComesOf};
 ghost use Rattle.possible_command.specs.Text.{brief_findings, brief_text, decided, inconsistent_text, undecided, undecided_text};
-ghost use Rattle.possible_command.specs.Told.{CanBeTold, IsTellable};
+ghost use Rattle.possible_command.specs.Findings.{IsWritableFound, IsWritablePossible};
 
-use crate::whole::told_whole;
+use crate::whole::printed_whole;
 use crate::writing::{add_line, append, brief_front};
 use command_stages::{Done, Ending, Trouble};
 use currency_base::{ByteList, NoMemory};
@@ -22,7 +22,7 @@ use spec_model::Specification;
 use std::alloc::Global;
 
 /// What is told of what is found of the candidates of a question.
-pub(crate) fn told_possible(
+pub(crate) fn printed_possible(
     alloc: Global,
     spec: &Specification,
     asked: program_words::Possible<'_>,
@@ -30,21 +30,28 @@ pub(crate) fn told_possible(
     guides: &mut Guides,
 ) -> Result<Done, Trouble>
     requires within { IsWithinLimits spec.now }
-    requires found { CanBeTold spec.now found.now }
-    ensures told { IsSettled result → ComesOf spec.now asked.entry.brief asked.entry.budget found.now result }
+    requires found { IsWritablePossible spec.now found.now }
+    ensures printed { IsDetermined result → ComesOf spec.now asked.entry.brief asked.entry.budget found.now result }
     ensures inside { IsReadFault result → ⊥ }
     ensures not_words { IfErr result (λ e. e ≢ Trouble.Words) }
 {
     match found {
-        Possible::Inconsistent(report) => told_inconsistent(alloc, spec, asked.brief, report),
-        Possible::Found(found) => told_found(alloc, spec, asked.brief, asked.budget, found, guides),
-        Possible::Undecided { posed, report } => told_undecided(alloc, spec, posed, report),
+        Possible::Inconsistent(report) => printed_inconsistent(alloc, spec, asked.brief, report),
+        Possible::Found(found) => printed_found(
+            alloc,
+            spec,
+            asked.brief,
+            asked.budget,
+            found,
+            guides,
+        ),
+        Possible::Undecided { posed, report } => printed_undecided(alloc, spec, posed, report),
         Possible::TooMany => Err(Trouble::Limit(13)),
     }
 }
 
 /// What is found: the findings alone, or with what shows what is impossible.
-fn told_found(
+fn printed_found(
     alloc: Global,
     spec: &Specification,
     brief: bool,
@@ -53,26 +60,26 @@ fn told_found(
     guides: &mut Guides,
 ) -> Result<Done, Trouble>
     requires within { IsWithinLimits spec.now }
-    requires found { IsTellable spec.now.relations found.now }
-    ensures told { IfOk result (λ done. AreTold spec.now brief budget found.now (Ok done)) }
+    requires found { IsWritableFound spec.now.relations found.now }
+    ensures printed { IfOk result (λ done. ArePrinted spec.now brief budget found.now (Ok done)) }
     ensures memory { IfErr result (λ e. e ≡ Trouble.NoMemory) }
 {
     if brief {
-        told_brief(alloc, spec, found)
+        printed_brief(alloc, spec, found)
     } else {
-        told_whole(alloc, spec, found, budget, guides)
+        printed_whole(alloc, spec, found, budget, guides)
     }
 }
 
 /// That there is no consistent completion.
-fn told_inconsistent(
+fn printed_inconsistent(
     alloc: Global,
     spec: &Specification,
     brief: bool,
     report: &Report,
 ) -> Result<Done, Trouble>
     requires { IsWritableReport spec.now.relations report.now }
-    ensures told { IfOk result (λ done. done ≡ decided (inconsistent_text spec.now brief report.now)) }
+    ensures printed { IfOk result (λ done. done ≡ decided (inconsistent_text spec.now brief report.now)) }
     ensures memory { IfErr result (λ e. e ≡ Trouble.NoMemory) }
 {
     if brief {
@@ -83,7 +90,7 @@ fn told_inconsistent(
 }
 
 /// That the budget is spent on a question.
-fn told_undecided(
+fn printed_undecided(
     alloc: Global,
     spec: &Specification,
     posed: &Posed,
@@ -91,7 +98,7 @@ fn told_undecided(
 ) -> Result<Done, Trouble>
     requires posed { IsPosed spec.now posed.now }
     requires report { IsWritableReport spec.now.relations report.now }
-    ensures told { IfOk result (λ done. done ≡ undecided (undecided_text spec.now posed.now report.now)) }
+    ensures printed { IfOk result (λ done. done ≡ undecided (undecided_text spec.now posed.now report.now)) }
     ensures memory { IfErr result (λ e. e ≡ Trouble.NoMemory) }
 {
     let text = match posed {
@@ -102,9 +109,9 @@ fn told_undecided(
 }
 
 /// The findings alone.
-fn told_brief(alloc: Global, spec: &Specification, found: &Found) -> Result<Done, Trouble>
-    requires { IsTellable spec.now.relations found.now }
-    ensures told { IfOk result (λ done. done ≡ decided (brief_text spec.now found.now)) }
+fn printed_brief(alloc: Global, spec: &Specification, found: &Found) -> Result<Done, Trouble>
+    requires { IsWritableFound spec.now.relations found.now }
+    ensures printed { IfOk result (λ done. done ≡ decided (brief_text spec.now found.now)) }
     ensures memory { IfErr result (λ e. e ≡ Trouble.NoMemory) }
 {
     done(brief_text(alloc, spec, found), Ending::Decided)
@@ -112,7 +119,7 @@ fn told_brief(alloc: Global, spec: &Specification, found: &Found) -> Result<Done
 
 /// The text of the findings alone.
 fn brief_text(alloc: Global, spec: &Specification, found: &Found) -> Result<ByteList, NoMemory>
-    requires { IsTellable spec.now.relations found.now }
+    requires { IsWritableFound spec.now.relations found.now }
     ensures { IfOk result (λ text. text ≡ brief_text spec.now found.now) }
 {
     let mut text = brief_front(alloc, spec, found.completions.as_slice())?;
@@ -128,7 +135,7 @@ fn add_lines(
     found: &Found,
     into: &mut ByteList,
 ) -> Result<(), NoMemory>
-    requires { IsTellable spec.now.relations found.now }
+    requires { IsWritableFound spec.now.relations found.now }
     ensures { OnOk result (into.new
         ≡ into.old ++ brief_findings spec.now.relations found.now.candidates found.now.shown) }
 {
@@ -141,7 +148,7 @@ fn add_lines(
 
 /// What a command comes to with this text and this ending, unless there was no memory for the text.
 fn done(text: Result<ByteList, NoMemory>, ending: Ending) -> Result<Done, Trouble>
-    ensures told { IfOk result (λ done. text ≡ Ok done.text × (done.ending ≡ ending)) }
+    ensures printed { IfOk result (λ done. text ≡ Ok done.text × (done.ending ≡ ending)) }
     ensures memory { IfErr result (λ e. e ≡ Trouble.NoMemory) }
 {
     match text {

@@ -6,21 +6,21 @@ ghost use Rattle.fact_trials.specs.Trials.{IsSpent};
 ghost use Rattle.posed_facts.specs.Facts.{IsPosable};
 ghost use Rattle.posed_facts.specs.Questions.{fact_question};
 ghost use Rattle.report_write.specs.Writable.{IsWritableReport};
-ghost use Rattle.possible_command.specs.Possible.{AreTold};
+ghost use Rattle.possible_command.specs.Possible.{ArePrinted};
 ghost use Rattle.possible_values.specs.declared.found.Posed.TheVariants as posed;
 ghost use Rattle.possible_command.specs.Text.{counter_text, undecided, undecided_text};
-ghost use Rattle.possible_command.specs.Told.{AreAdded, IsAddedAt, IsCountered, IsLeftAt, IsNamed, IsTellable};
+ghost use Rattle.possible_command.specs.Findings.{AreAdded, IsAddedAt, IsCountered, IsLeftAt, IsNamed, IsWritableFound};
 
 use crate::counter::report_for;
 use crate::writing::{add_line, add_question, append, whole_front};
 use command_stages::{Done, Ending, Trouble};
 use currency_base::{ByteList, NoMemory};
+use decided_facts::Shown;
 use fact_write::open_text;
 use posed_facts::Fact;
 use possible_values::{Candidate, Found};
 use report_model::Report;
 use report_write::write_report;
-use settled_facts::Shown;
 use solver_guides::Guides;
 use spec_model::Specification;
 use std::alloc::Global;
@@ -33,7 +33,7 @@ struct Left {
 }
 
 /// What is told of all that is found, with the reports for what is impossible; or, if the budget is spent on one of these, that.
-pub(crate) fn told_whole(
+pub(crate) fn printed_whole(
     alloc: Global,
     spec: &Specification,
     found: &Found,
@@ -41,8 +41,8 @@ pub(crate) fn told_whole(
     guides: &mut Guides,
 ) -> Result<Done, Trouble>
     requires within { IsWithinLimits spec.now }
-    requires found { IsTellable spec.now.relations found.now }
-    ensures told { IfOk result (λ done. AreTold spec.now false budget found.now (Ok done)) }
+    requires found { IsWritableFound spec.now.relations found.now }
+    ensures printed { IfOk result (λ done. ArePrinted spec.now false budget found.now (Ok done)) }
     ensures memory { IfErr result (λ e. e ≡ Trouble.NoMemory) }
 {
     match whole_done(alloc, spec, found, budget, guides) {
@@ -60,8 +60,8 @@ fn whole_done(
     guides: &mut Guides,
 ) -> Result<Done, NoMemory>
     requires within { IsWithinLimits spec.now }
-    requires found { IsTellable spec.now.relations found.now }
-    ensures { IfOk result (λ done. AreTold spec.now false budget found.now (Ok done)) }
+    requires found { IsWritableFound spec.now.relations found.now }
+    ensures { IfOk result (λ done. ArePrinted spec.now false budget found.now (Ok done)) }
 {
     let mut text = whole_front(alloc, spec, found.completions.as_slice())?;
     match add_findings(alloc, spec, found, budget, guides, &mut text)? {
@@ -103,7 +103,7 @@ fn add_findings(
     into: &mut ByteList,
 ) -> Result<Option<Left>, NoMemory>
     requires within { IsWithinLimits spec.now }
-    requires found { IsTellable spec.now.relations found.now }
+    requires found { IsWritableFound spec.now.relations found.now }
     ensures added { IfOk result (λ left. IfNone left (AreAdded spec.now budget found.now into.old into.new)) }
     ensures left { IfOk result (λ left. IfSome left (λ l. IsLeftAt spec.now budget found.now l.place l.report)) }
 {
@@ -126,7 +126,7 @@ fn add_finding(
     into: &mut ByteList,
 ) -> Result<Option<Report>, NoMemory>
     requires within { IsWithinLimits spec.now }
-    requires found { IsTellable spec.now.relations found.now }
+    requires found { IsWritableFound spec.now.relations found.now }
     requires place { place < length found.now.candidates }
     ensures added { IfOk result (λ left. IfNone left (IsAddedAt spec.now budget found.now place into.old into.new)) }
     ensures left { IfOk result (λ left. IfSome left (IsLeftAt spec.now budget found.now place)) }

@@ -11,7 +11,8 @@ use Rattle.spec_model.specs.Consistent.{IsSatisfiable}
 use Rattle.spec_model.specs.Spec.{Spec}
 use Rattle.spec_model.specs.declared.question.Question.{Question}
 use Rattle.possible_table.specs.Table.{IsLeftOpen, IsLeftShort, IsPossibleTable, IsPossibleTableBare, IsPossibleTableOf}
-use Rattle.possible_table.specs.Table.{IsPossibleTableShort, IsPossibleTableTold, IsPossibleTabled, bare, left_open, left_short}
+use Rattle.possible_table.specs.Table.{IsPossibleTablePrinted, IsPossibleTableShort, IsPossibleTabled, bare, left_open}
+use Rattle.possible_table.specs.Table.{left_short}
 use Rattle.possible_table.specs.Table.{many_answers, many_matches, tabled}
 use Rattle.possible_table.proofs.Replies.{ends_as_table}
 
@@ -68,32 +69,32 @@ module _ (budget : ℕ) (s : Spec) (q : Question) (query : QueryTree) (text : Li
 -- ---- by the status
 
 module _ (told : List (List ℕ × List ℕ)) (a : TableSaid) (text : List ℕ) where
-  pub of_table : (e : Ending) → IsPossibleTableTold told a text e → IsOfTable e
+  pub of_table : (e : Ending) → IsPossibleTablePrinted told a text e → IsOfTable e
   of_table e h = ends_as_table a.budget h.spec h.question h.query (record { text = text; ending = e }) h.job
 
-  pub tabled_told : (e : Ending) → ending_status e ≡ 0 → IsPossibleTableTold told a text e → IsPossibleTabled told a text
-  tabled_told ending.Tabled zero h = (h, whole a.budget h.spec h.question h.query text h.job)
-  tabled_told ending.Told zero h = absurd (of_table ending.Told h)
-  tabled_told ending.Decided zero h = absurd (of_table ending.Decided h)
-  tabled_told ending.Denied zero h = absurd (of_table ending.Denied h)
-  tabled_told ending.Undecided zero h = absurd (of_table ending.Undecided h)
-  tabled_told ending.Inconsistent zero h = absurd (omega (arith, zero))
-  tabled_told ending.Open zero h = absurd (omega (arith, zero))
+  pub tabled_printed : (e : Ending) → ending_status e ≡ 0 → IsPossibleTablePrinted told a text e → IsPossibleTabled told a text
+  tabled_printed ending.Tabled zero h = (h, whole a.budget h.spec h.question h.query text h.job)
+  tabled_printed ending.Printed zero h = absurd (of_table ending.Printed h)
+  tabled_printed ending.Decided zero h = absurd (of_table ending.Decided h)
+  tabled_printed ending.Denied zero h = absurd (of_table ending.Denied h)
+  tabled_printed ending.Undecided zero h = absurd (of_table ending.Undecided h)
+  tabled_printed ending.Inconsistent zero h = absurd (omega (arith, zero))
+  tabled_printed ending.Open zero h = absurd (omega (arith, zero))
 
-  pub open_told : (e : Ending) → ending_status e ≡ 3 → IsPossibleTableTold told a text e → IsPossibleTableShort told a text
-  open_told ending.Open three h = (h, short a.budget h.spec h.question h.query text h.job)
-  open_told ending.Told three h = absurd (of_table ending.Told h)
-  open_told ending.Decided three h = absurd (of_table ending.Decided h)
-  open_told ending.Denied three h = absurd (of_table ending.Denied h)
-  open_told ending.Undecided three h = absurd (of_table ending.Undecided h)
-  open_told ending.Tabled three h = absurd (omega (arith, three))
-  open_told ending.Inconsistent three h = absurd (omega (arith, three))
+  pub open_printed : (e : Ending) → ending_status e ≡ 3 → IsPossibleTablePrinted told a text e → IsPossibleTableShort told a text
+  open_printed ending.Open three h = (h, short a.budget h.spec h.question h.query text h.job)
+  open_printed ending.Printed three h = absurd (of_table ending.Printed h)
+  open_printed ending.Decided three h = absurd (of_table ending.Decided h)
+  open_printed ending.Denied three h = absurd (of_table ending.Denied h)
+  open_printed ending.Undecided three h = absurd (of_table ending.Undecided h)
+  open_printed ending.Tabled three h = absurd (omega (arith, three))
+  open_printed ending.Inconsistent three h = absurd (omega (arith, three))
 
-  pub bare_told : (e : Ending) → ending_status e ≡ 10 → IsPossibleTableTold told a text e → IsPossibleTableBare told a text
-  bare_told ending.Inconsistent ten h = (h, none a.budget h.spec h.question h.query text h.job)
-  bare_told ending.Told ten h = absurd (of_table ending.Told h)
-  bare_told ending.Decided ten h = absurd (of_table ending.Decided h)
-  bare_told ending.Denied ten h = absurd (of_table ending.Denied h)
-  bare_told ending.Undecided ten h = absurd (of_table ending.Undecided h)
-  bare_told ending.Tabled ten h = absurd (omega (arith, ten))
-  bare_told ending.Open ten h = absurd (omega (arith, ten))
+  pub bare_printed : (e : Ending) → ending_status e ≡ 10 → IsPossibleTablePrinted told a text e → IsPossibleTableBare told a text
+  bare_printed ending.Inconsistent ten h = (h, none a.budget h.spec h.question h.query text h.job)
+  bare_printed ending.Printed ten h = absurd (of_table ending.Printed h)
+  bare_printed ending.Decided ten h = absurd (of_table ending.Decided h)
+  bare_printed ending.Denied ten h = absurd (of_table ending.Denied h)
+  bare_printed ending.Undecided ten h = absurd (of_table ending.Undecided h)
+  bare_printed ending.Tabled ten h = absurd (omega (arith, ten))
+  bare_printed ending.Open ten h = absurd (omega (arith, ten))

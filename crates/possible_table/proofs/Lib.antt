@@ -1,4 +1,4 @@
 pub mod Jobs
 pub mod Replies
 mod Tellings
-mod Told
+mod Printed

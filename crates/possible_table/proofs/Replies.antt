@@ -105,7 +105,7 @@ ends_as_table budget s q query d h = by (table_or_limit budget s q query (Ok d) 
 
 table_status : (s : Spec) (q : Question) (e : Ending) (status : ℕ) → IsOfTable e → status ≡ ending_status e
     → ComesToPossibleTable s q status
-table_status s q ending.Told status of is = absurd of
+table_status s q ending.Printed status of is = absurd of
 table_status s q ending.Decided status of is = absurd of
 table_status s q ending.Denied status of is = absurd of
 table_status s q ending.Undecided status of is = absurd of

@@ -25,7 +25,7 @@ use Rattle.spec_model.specs.Consistent.{IsSatisfiable}
 use Rattle.spec_model.specs.Spec.{Spec}
 use Rattle.spec_model.specs.declared.question.Question.{Question}
 use Rattle.spec_model.specs.declared.question.Question.TheVariants as asked
-use Rattle.told_answers.specs.Answers.{IsAnswer, answer_text}
+use Rattle.answer_texts.specs.Answers.{IsAnswer, answer_text}
 use Rattle.possible_table.specs.Text.{possible_text, undecided_text}
 
 -- ---- what the job comes to
@@ -81,7 +81,7 @@ IsPossibleTableDue told a = IsTableDue told a (IsPossibleTableOf a.budget)
 -- ---- what is told
 
 -- the documents are read as a specification and a question that asks a query, and this is told of it
-pub record IsPossibleTableTold (told : List (List ℕ × List ℕ)) (a : TableSaid) (text : List ℕ) (ending : Ending) : Type 0 where
+pub record IsPossibleTablePrinted (told : List (List ℕ × List ℕ)) (a : TableSaid) (text : List ℕ) (ending : Ending) : Type 0 where
   pub spec : Spec
   pub question : Question
   pub query : QueryTree
@@ -90,19 +90,19 @@ pub record IsPossibleTableTold (told : List (List ℕ × List ℕ)) (a : TableSa
 
 -- such a table is told
 abbrev pub IsPossibleTabled : List (List ℕ × List ℕ) → TableSaid → List ℕ → Type 0
-IsPossibleTabled told a text = (t : IsPossibleTableTold told a text ending.Tabled)
+IsPossibleTabled told a text = (t : IsPossibleTablePrinted told a text ending.Tabled)
     × IsPossibleTable t.spec t.question t.query (Ok (record { text = text; ending = ending.Tabled }))
 
 -- a budget was spent
 abbrev pub IsPossibleTableShort : List (List ℕ × List ℕ) → TableSaid → List ℕ → Type 0
-IsPossibleTableShort told a text = (t : IsPossibleTableTold told a text ending.Open)
+IsPossibleTableShort told a text = (t : IsPossibleTablePrinted told a text ending.Open)
     × (IsLeftOpen t.spec a.budget (Ok (record { text = text; ending = ending.Open }))
     ⊎ IsLeftShort t.spec t.question a.budget (Ok (record { text = text; ending = ending.Open })))
 
 -- there is no consistent completion
 abbrev pub IsPossibleTableBare : List (List ℕ × List ℕ) → TableSaid → List ℕ → Type 0
 IsPossibleTableBare told a text =
-    (t : IsPossibleTableTold told a text ending.Inconsistent) × (IsSatisfiable t.spec → ⊥)
+    (t : IsPossibleTablePrinted told a text ending.Inconsistent) × (IsSatisfiable t.spec → ⊥)
 
 -- the status of a question that asks a query, both being read
 abbrev pub ComesToPossibleTable : Spec → Question → ℕ → Type 0

@@ -1,13 +1,13 @@
 ghost use Rattle.std.specs.Prelude.{◌≢◌, ◌≤◌, ℕ, List, IfErr, IfOk, IfSome};
 ghost use Rattle.answer_tables.specs.Asked.{IsTableDocumentDue, table_said};
 ghost use Rattle.bound_spec.specs.Growth.{IsWithinLimits};
-ghost use Rattle.command_stages.specs.Named.{IsReadFault, IsReadFaultOf, IsSettled};
+ghost use Rattle.command_stages.specs.Named.{IsDetermined, IsReadFault, IsReadFaultOf};
 ghost use Rattle.currency_edge.specs.Fault.{Rose};
-ghost use Rattle.possible_table.specs.Table.{IsPossibleTableDue, IsPossibleTableOf, IsPossibleTableTold};
+ghost use Rattle.possible_table.specs.Table.{IsPossibleTableDue, IsPossibleTableOf, IsPossibleTablePrinted};
 ghost use Rattle.question_bind.specs.Bound.{AsksQuery};
 ghost use Rattle.spec_model.specs.Questions.{IsQuestionOn};
 
-use crate::telling::told_possible;
+use crate::telling::printed_possible;
 use answer_tables::{AskedQuery, read_query};
 use bound_spec::is_specification;
 use command_stages::{Done, Trouble};
@@ -28,14 +28,14 @@ fn reply(
     requires within { IsWithinLimits read.now.spec }
     requires question { IsQuestionOn read.now.spec.relations read.now.question }
     requires asks { AsksQuery read.now.question }
-    ensures job { IsSettled result → IsPossibleTableOf budget read.now.spec read.now.question read.now.query result }
+    ensures job { IsDetermined result → IsPossibleTableOf budget read.now.spec read.now.question read.now.query result }
     ensures inside { IsReadFault result → ⊥ }
     ensures not_words { IfErr result (λ e. e ≢ Trouble.Words) }
 {
     is_specification(&read.spec);
     completions_are_writable();
     match possible(alloc, &read.spec, &read.question, budget, guides) {
-        Ok(found) => told_possible(alloc, read, &found, budget, guides),
+        Ok(found) => printed_possible(alloc, read, &found, budget, guides),
         Err(_) => Err(Trouble::NoMemory),
     }
 }
@@ -49,10 +49,10 @@ pub fn possible_table_documents<S: Shelf>(
 ) -> Result<Done, Trouble>
     requires budget { asked.budget ≤ 10000000 }
     ensures later { S.faults shelf.old ≤ S.faults shelf.new }
-    ensures due { IsSettled result → IfSome (S.texts shelf.old)
+    ensures due { IsDetermined result → IfSome (S.texts shelf.old)
         (λ told. IsPossibleTableDue told (table_said asked.entry) result) }
-    ensures told { IfOk result (λ done. IfSome (S.texts shelf.old)
-        (λ told. IsPossibleTableTold told (table_said asked.entry) done.text done.ending)) }
+    ensures printed { IfOk result (λ done. IfSome (S.texts shelf.old)
+        (λ told. IsPossibleTablePrinted told (table_said asked.entry) done.text done.ending)) }
     ensures read_fault { IsReadFault result → Rose (S.faults shelf.old) (S.faults shelf.new) }
     ensures unread { (n : List ℕ) → IsReadFaultOf result n
         → IfSome (S.texts shelf.old) (λ told. IsTableDocumentDue told (table_said asked.entry) n) }

@@ -11,9 +11,9 @@ use Rattle.posed_facts.specs.declared.fact.Fact.{Fact}
 use Rattle.query_model.specs.declared.query.Disjunct.{Disjunct}
 use Rattle.query_model.specs.declared.query.Match.{Match}
 use Rattle.query_model.specs.declared.query.Query.{Query}
-use Rattle.settled_facts.specs.Settled.{AreShown, IsShown}
-use Rattle.settled_facts.specs.declared.shown.Shown.{Shown}
-use Rattle.settled_facts.specs.declared.shown.Shown.TheVariants as shown
+use Rattle.decided_facts.specs.Decided.{AreShown, IsShown}
+use Rattle.decided_facts.specs.declared.shown.Shown.{Shown}
+use Rattle.decided_facts.specs.declared.shown.Shown.TheVariants as shown
 use Rattle.spec_model.specs.Completion.{IsCompletion, Rankings}
 use Rattle.spec_model.specs.Consistent.{IsConsistent}
 use Rattle.spec_model.specs.Facts.{AreRelations}

@@ -7,4 +7,4 @@ mod Deciding
 mod Turned
 mod Findings
 mod Telling
-mod Settling
+mod Outcomes

@@ -9,8 +9,8 @@ use Rattle.report_model.specs.declared.verdict.Verdict.TheVariants as verdict
 use Rattle.report_verify.specs.Right.{EachConsistent}
 use Rattle.report_verify.specs.Shown.{ShowsVerdict}
 use Rattle.report_write.specs.Writable.{IsWritableReport}
-use Rattle.settled_facts.specs.declared.shown.Shown.{Shown}
-use Rattle.settled_facts.specs.declared.shown.Shown.TheVariants as shown
+use Rattle.decided_facts.specs.declared.shown.Shown.{Shown}
+use Rattle.decided_facts.specs.declared.shown.Shown.TheVariants as shown
 use Rattle.spec_model.specs.Completion.{Rankings}
 use Rattle.spec_model.specs.Consistent.{IsConsistent, IsSatisfiable}
 use Rattle.spec_model.specs.Spec.{Spec}

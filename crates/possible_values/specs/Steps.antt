@@ -60,7 +60,7 @@ pub record AreDenials (relations : List Relation) (q : Question) (candidates : L
 -- ---- completions
 
 -- what is told of the report that answers a question
-pub record IsTold (s : Spec) (q : Question) (budget : ℕ) (report : Report) : Type 0 where
+pub record IsAnswerReport (s : Spec) (q : Question) (budget : ℕ) (report : Report) : Type 0 where
   pub shown : ShowsVerdict s q report
   pub right : is_decided (kind_of report.verdict) ≡ true → IsRight s q report.verdict
   pub writable : IsWritableReport s.relations report

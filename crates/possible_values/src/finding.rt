@@ -3,7 +3,7 @@ ghost use Rattle.possible_values.specs.Candidates.{AreCandidates};
 ghost use Rattle.possible_values.specs.Possible.{IsPossible};
 ghost use Rattle.possible_values.specs.Steps.{AreDenials, AreSome};
 ghost use Rattle.search_logs.specs.SearchLogs.{IsWithin};
-ghost use Rattle.settled_facts.specs.Steps.{AreMarked};
+ghost use Rattle.decided_facts.specs.Steps.{AreMarked};
 ghost use Rattle.spec_model.specs.Questions.{IsQuestionOn};
 ghost use Rattle.spec_model.specs.Spec.{Spec};
 
@@ -12,9 +12,9 @@ use crate::facts::denials;
 use crate::found::{FactList, Found, Posed, Possible};
 use crate::known::{Known, first_known};
 use currency_base::NoMemory;
+use decided_facts::{FactOutcome, decide_facts};
 use posed_facts::Fact;
 use report_model::CompletionList;
-use settled_facts::{Settled, settle};
 use solver_guides::Guides;
 use spec_model::{Question, Specification};
 use std::alloc::Global;
@@ -108,14 +108,14 @@ fn of_facts(
     ensures { IfOk result (IsPossible spec.now question.now budget) }
 {
     let holds = none_marked(alloc, facts.as_slice())?;
-    match settle(alloc, spec, facts.as_slice(), holds, known, budget, guides) {
-        Ok(Settled::All { completions, shown }) => Ok(Possible::Found(Found {
+    match decide_facts(alloc, spec, facts.as_slice(), holds, known, budget, guides) {
+        Ok(FactOutcome::All { completions, shown }) => Ok(Possible::Found(Found {
             candidates,
             facts,
             completions,
             shown,
         })),
-        Ok(Settled::Open { place, report }) => {
+        Ok(FactOutcome::Open { place, report }) => {
             let posed = Posed::Fact(facts.into_items().remove(place));
             Ok(Possible::Undecided { posed, report })
         }

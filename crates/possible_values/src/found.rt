@@ -1,8 +1,8 @@
 use crate::candidates::CandidateList;
 use currency_base::ItemList;
+use decided_facts::ShownList;
 use posed_facts::Fact;
 use report_model::{CompletionList, Report};
-use settled_facts::ShownList;
 
 /// Facts, in order.
 pub type FactList = ItemList<Fact>;

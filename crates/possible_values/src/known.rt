@@ -2,7 +2,7 @@
 
 ghost use Rattle.std.specs.Prelude.{◌≡◌, ℕ, IfOk};
 ghost use Rattle.currency_ask.specs.declared.fault.AskFault.TheVariants.{TooMany};
-ghost use Rattle.possible_values.specs.Steps.{IsKnown, IsTold};
+ghost use Rattle.possible_values.specs.Steps.{IsAnswerReport, IsKnown};
 ghost use Rattle.search_logs.specs.SearchLogs.{IsWithin};
 ghost use Rattle.spec_model.specs.Completion.{Rankings};
 ghost use Rattle.spec_model.specs.Questions.{IsQuestionOn};
@@ -59,7 +59,7 @@ fn of_same(
     guides: &mut Guides,
 ) -> Result<Known, NoMemory>
     requires { IsWithin spec.now }
-    ensures { (q : Questions) → IsTold spec.now q budget report → IfOk result (IsKnown spec.now q budget) }
+    ensures { (q : Questions) → IsAnswerReport spec.now q budget report → IfOk result (IsKnown spec.now q budget) }
 {
     match &report.verdict {
         Verdict::Inconsistent => Ok(Known::Inconsistent(report)),
@@ -86,7 +86,7 @@ fn some(
 
 /// What a report on whether there is a consistent completion makes known.
 fn of_consistent(report: Report) -> Known
-    ensures { (s : Spec) (budget : ℕ) → IsTold s asked.Consistent budget report → IsKnown s asked.Consistent budget result }
+    ensures { (s : Spec) (budget : ℕ) → IsAnswerReport s asked.Consistent budget report → IsKnown s asked.Consistent budget result }
 {
     match &report.verdict {
         Verdict::Inconsistent => Known::Inconsistent(report),

@@ -14,7 +14,7 @@ use Rattle.program_words.specs.Numbers.{number_if_given, number_or, number_up_to
 use Rattle.program_words.specs.Words.{CommandSaid, ConflictsIn, ForcedOf, IsRefused, TrialOf, VerifyOf, ask_in, asked_in}
 use Rattle.program_words.specs.Words.{command_in, command_of, conflicts_in, explain_in, golden_in, has_wrong_options}
 use Rattle.program_words.specs.Words.{is_explain_wrong, is_search_wrong, is_telling_wrong, is_trial_wrong, possible_in}
-use Rattle.program_words.specs.Words.{tells_two_ways, told_in, trial_in, unit_in, unless_fault}
+use Rattle.program_words.specs.Words.{asked_in_one_way, tells_two_ways, trial_in, unit_in, unless_fault}
 use Rattle.program_words.proofs.Parts.{from_number, from_question, from_search, no_number, no_question, no_search}
 use Rattle.program_words.proofs.TextRows.{found_holds}
 use Rattle.program_words.proofs.TextWalks.{AreValued, level_texts}
@@ -66,7 +66,7 @@ asked_number rows said spec question none =
 
 told_number : (rows : List Row) (said : Text → Text → ℕ → Option ℕ → CommandSaid)
     → is_some (first_of (codes "SPEC") rows) ≡ true → is_some (first_of (codes "QUESTION") rows) ≡ true
-    → told_in rows said ≡ None → is_telling_wrong rows ≡ true
+    → asked_in_one_way rows said ≡ None → is_telling_wrong rows ≡ true
 told_number rows said spec question none = by (tells_two_ways rows) none
   where
     by : (two : Bool) → cond two None (asked_in rows said) ≡ None → (two || is_search_wrong rows) ≡ true
@@ -315,7 +315,7 @@ asked_none rows said wrong = no_question (first_of (codes "SPEC") rows) (first_o
     (number_if_given 4 (first_of (codes "guide") rows)) _ wrong)
 
 told_none : (rows : List Row) (said : Text → Text → ℕ → Option ℕ → CommandSaid) → is_telling_wrong rows ≡ true
-    → told_in rows said ≡ None
+    → asked_in_one_way rows said ≡ None
 told_none rows said wrong = by (tells_two_ways rows) wrong
   where
     by : (two : Bool) → (two || is_search_wrong rows) ≡ true → cond two None (asked_in rows said) ≡ None

@@ -12,7 +12,7 @@ use Rattle.program_words.specs.Numbers.{number_if_given, number_or, number_up_to
 use Rattle.program_words.specs.Words.{AskFor, CertainTableFor, CommandSaid, ConflictsIn, ExplainFor, ForcedOf, GoldenIn}
 use Rattle.program_words.specs.Words.{PossibleFor, PossibleTableFor, TrialOf, VerifyOf, ask_for, ask_in, asked_in, command_in}
 use Rattle.program_words.specs.Words.{command_of, conflicts_in, explain_in, forced_in, golden_in, has_flag, possible_for}
-use Rattle.program_words.specs.Words.{possible_in, tells_two_ways, told_in, trial_in, unit_in, unless_fault, verify_in}
+use Rattle.program_words.specs.Words.{asked_in_one_way, possible_in, tells_two_ways, trial_in, unit_in, unless_fault, verify_in}
 use Rattle.program_words.proofs.Numerals.{number_in_range}
 use Rattle.program_words.proofs.Parts.{of_question, of_search}
 
@@ -92,7 +92,7 @@ asked_in_range rows said holds =
 
 told_in_range : (rows : List Row) (said : Text → Text → ℕ → Option ℕ → CommandSaid)
     → ((s q : Text) (b : ℕ) (g : Option ℕ) → AreInRange b g → IsInRange (said s q b g))
-    → IfSome (told_in rows said) IsInRange
+    → IfSome (asked_in_one_way rows said) IsInRange
 told_in_range rows said holds = by (tells_two_ways rows)
   where
     by : (two : Bool) → IfSome (cond two None (asked_in rows said)) IsInRange

@@ -111,8 +111,8 @@ form_of false true = Verdict
 form_of false false = Whole
 
 -- the same, where it is to tell in one way
-abbrev pub told_in : List Row → (Text → Text → ℕ → Option ℕ → CommandSaid) → Option CommandSaid
-told_in rows said = if tells_two_ways rows then None else asked_in rows said
+abbrev pub asked_in_one_way : List Row → (Text → Text → ℕ → Option ℕ → CommandSaid) → Option CommandSaid
+asked_in_one_way rows said = if tells_two_ways rows then None else asked_in rows said
 
 -- the table of these rows
 abbrev pub table_for : Text → Text → ℕ → Option ℕ → TableSaid
@@ -132,7 +132,7 @@ ask_for rows spec question budget guide =
 
 -- `ask` with these rows; none where a number is wrong, or it is to tell in two ways
 abbrev pub ask_in : List Row → Option CommandSaid
-ask_in rows = told_in rows (ask_for rows)
+ask_in rows = asked_in_one_way rows (ask_for rows)
 
 -- `verify` with these rows
 abbrev pub verify_in : List Row → Option CommandSaid
@@ -196,7 +196,7 @@ possible_for rows spec question budget guide =
 
 -- `possible` with these rows; none where a number is wrong, or it is to tell in two ways
 abbrev pub possible_in : List Row → Option CommandSaid
-possible_in rows = told_in rows (possible_for rows)
+possible_in rows = asked_in_one_way rows (possible_for rows)
 
 -- the command of this name with these rows
 abbrev pub command_in : Text × List Row → Option CommandSaid

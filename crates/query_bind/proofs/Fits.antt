@@ -8,8 +8,8 @@ use Rattle.std.proofs.lemmas.List.Sums.{sum_by-cons}
 use Rattle.std.proofs.lemmas.Option.{get_or_from_slice_get, slice_get-map, slice_get_cases, slice_get_within}
 use Rattle.currency_base.specs.Values.{kind_of}
 use Rattle.currency_base.specs.declared.error_code.ErrorCode.TheVariants.{UnknownName}
-use Rattle.currency_base.specs.declared.value.Kind.{Kind}
-use Rattle.currency_base.specs.declared.value.Kind.TheVariants.{Text}
+use Rattle.currency_base.specs.declared.value.ValueKind.{ValueKind}
+use Rattle.currency_base.specs.declared.value.ValueKind.TheVariants.{Text}
 use Rattle.text_grammar.specs.declared.named.Named.{Named}
 use Rattle.query_syntax.specs.declared.trees.DisjunctTree.{DisjunctTree}
 use Rattle.query_syntax.specs.declared.trees.AtomTree.{AtomTree}
@@ -133,7 +133,7 @@ tests_many vars (part.Atom atom ∷ parts) tests is =
 -- ---- a disjunct and what is made of it
 
 pub record IsMade (names : List (List ℕ)) (relations : List Relation) (head : List Named) (d : DisjunctTree)
-    (before : List ℕ → Option Kind) (made : Disjunct) : Type 0 where
+    (before : List ℕ → Option ValueKind) (made : Disjunct) : Type 0 where
   pub are : names ≡ map (λ r. r.name) relations
   pub agreed : IsAgreed names relations d before
   pub numbers : all_of (var_named (vars_of d)) head ≡ Ok made.head
@@ -142,7 +142,7 @@ pub record IsMade (names : List (List ℕ)) (relations : List Relation) (head : 
   pub vars : made.vars ≡ length (vars_of d)
 
 pub is_made : (names : List (List ℕ)) (relations : List Relation) (head : List Named) (d : DisjunctTree)
-    (before : List ℕ → Option Kind) (made : Disjunct)
+    (before : List ℕ → Option ValueKind) (made : Disjunct)
     → names ≡ map (λ r. r.name) relations → IsAgreed names relations d before → disjunct_of names head d ≡ Ok made
     → IsMade names relations head d before made
 is_made names relations head d before made are agreed is =
@@ -201,15 +201,15 @@ atom_made names relations vars atom a are is =
     made_with rel terms = record { relation = record { 0 = rel }; terms = terms }
 
 -- the kinds of a disjunct's variables
-abbrev pub or_text : Option Kind → Kind
+abbrev pub or_text : Option ValueKind → ValueKind
 or_text None = Text
 or_text (Some kind) = kind
 
-abbrev pub kinds_in : List (List ℕ) → List Relation → DisjunctTree → List Kind
+abbrev pub kinds_in : List (List ℕ) → List Relation → DisjunctTree → List ValueKind
 kinds_in names relations d = map (λ name. or_text (kind_in names relations d name)) (vars_of d)
 
 pub kind_at : (names : List (List ℕ)) (relations : List Relation) (d : DisjunctTree) (name : List ℕ) (v : ℕ)
-    (kind : Kind) → place_of (vars_of d) name ≡ Some v
+    (kind : ValueKind) → place_of (vars_of d) name ≡ Some v
     → kind_in names relations d name ≡ Some kind → slice_get (kinds_in names relations d) v ≡ Some kind
 kind_at names relations d name v kind at is =
     slice_get-map (λ n. or_text (kind_in names relations d n)) (vars_of d) v
@@ -218,9 +218,9 @@ kind_at names relations d name v kind at is =
 
 -- a variable with a number has a kind
 pub var_fits : (names : List (List ℕ)) (relations : List Relation) (head : List Named) (d : DisjunctTree)
-    (before : List ℕ → Option Kind) (made : Disjunct) (name : List ℕ) (v : ℕ)
+    (before : List ℕ → Option ValueKind) (made : Disjunct) (name : List ℕ) (v : ℕ)
     → IsMade names relations head d before made → place_of (vars_of d) name ≡ Some v
-    → (kind : Kind) × (kind_in names relations d name ≡ Some kind) × ((other : Kind) → before name ≡ Some other → other ≡ kind)
+    → (kind : ValueKind) × (kind_in names relations d name ≡ Some kind) × ((other : ValueKind) → before name ≡ Some other → other ≡ kind)
 var_fits names relations head d before made name v m at =
     let s = var_stands d name v (stands_at (vars_of d) name v at) in
     let a = parts_atom names (vars_of d) (all_parts d) made.atoms s.atom m.atoms s.among in
@@ -236,7 +236,7 @@ var_fits names relations head d before made name v m at =
 -- ---- atoms
 
 term_fits : (names : List (List ℕ)) (relations : List Relation) (head : List Named) (d : DisjunctTree)
-    (before : List ℕ → Option Kind) (made : Disjunct)
+    (before : List ℕ → Option ValueKind) (made : Disjunct)
     (atom : AtomTree) (r : Relation) (k : ℕ) (p : PlaceTree) (t : Term) → IsMade names relations head d before made
     → IsIn (part.Atom atom) (all_parts d)
     → relation_of names relations atom.relation ≡ Some r → slice_get atom.places k ≡ Some p → term_of (vars_of d) p ≡ Ok t
@@ -262,7 +262,7 @@ term_fits names relations head d before made atom r k (place.Constant constant) 
     subst (IsTermOn (kinds_in names relations d) (slice_get (place_kinds r) k)) same (ap Some one ∙ sym has.1)
 
 atom_fits : (names : List (List ℕ)) (relations : List Relation) (head : List Named) (d : DisjunctTree)
-    (before : List ℕ → Option Kind) (made : Disjunct)
+    (before : List ℕ → Option ValueKind) (made : Disjunct)
     (atom : AtomTree) (a : Atom) → IsMade names relations head d before made → IsIn (part.Atom atom) (all_parts d)
     → atom_of names (vars_of d) atom ≡ Ok a
     → IsAtomOn relations (kinds_in names relations d) a
@@ -290,9 +290,9 @@ term_within vars (place.Constant constant) t is = let same : term.Constant const
 -- ---- comparisons
 
 side_fits : (names : List (List ℕ)) (relations : List Relation) (head : List Named) (d : DisjunctTree)
-    (before : List ℕ → Option Kind) (made : Disjunct)
+    (before : List ℕ → Option ValueKind) (made : Disjunct)
     (tree : TestTermTree) (t : TestTerm) → IsMade names relations head d before made → side_of (vars_of d) tree ≡ Ok t
-    → (kind : Kind) × (side_kind (kind_in names relations d) tree ≡ Some kind) ×
+    → (kind : ValueKind) × (side_kind (kind_in names relations d) tree ≡ Some kind) ×
     (fit.side_kind (kinds_in names relations d) t ≡ Some kind)
 side_fits names relations head d before made (side.Var named) t m is =
     let v = and_then_ok (var_named (vars_of d) named) (λ v. Ok (compared.Var v)) t is in
@@ -329,7 +329,7 @@ test_made vars tree t is =
     made_with l r = record { left = l; cmp = tree.cmp; right = r }
 
 test_fits : (names : List (List ℕ)) (relations : List Relation) (head : List Named) (d : DisjunctTree)
-    (before : List ℕ → Option Kind) (made : Disjunct)
+    (before : List ℕ → Option ValueKind) (made : Disjunct)
     (tree : TestTree) (t : Test) → IsMade names relations head d before made → IsIn (part.Test tree) d.parts
     → test_of (vars_of d) tree ≡ Ok t
     → IsTestOn (kinds_in names relations d) t
@@ -346,14 +346,14 @@ test_fits names relations head d before made tree t m among is =
 -- ---- the whole
 
 pub atoms_fit : (names : List (List ℕ)) (relations : List Relation) (head : List Named) (d : DisjunctTree)
-    (before : List ℕ → Option Kind) (made : Disjunct)
+    (before : List ℕ → Option ValueKind) (made : Disjunct)
     → IsMade names relations head d before made → All (IsAtomOn relations (kinds_in names relations d)) made.atoms
 atoms_fit names relations head d before made m =
     atoms_each (IsAtomOn relations (kinds_in names relations d)) names (vars_of d) (all_parts d) made.atoms m.atoms
     (λ atom a among is. atom_fits names relations head d before made atom a m among is)
 
 pub tests_fit : (names : List (List ℕ)) (relations : List Relation) (head : List Named) (d : DisjunctTree)
-    (before : List ℕ → Option Kind) (made : Disjunct)
+    (before : List ℕ → Option ValueKind) (made : Disjunct)
     → IsMade names relations head d before made → All (IsTestOn (kinds_in names relations d)) made.tests
 tests_fit names relations head d before made m =
     tests_each (IsTestOn (kinds_in names relations d)) (vars_of d) d.parts made.tests m.tests
@@ -364,7 +364,7 @@ contains_at xs i x at = (i, slice_get_within xs i x at, get_or_from_slice_get xs
 
 -- each variable stands in an atom
 each_stands : (names : List (List ℕ)) (relations : List Relation) (head : List Named) (d : DisjunctTree)
-    (before : List ℕ → Option Kind) (made : Disjunct) (v : ℕ)
+    (before : List ℕ → Option ValueKind) (made : Disjunct) (v : ℕ)
     → IsMade names relations head d before made → v < length (vars_of d) → StandsIn made.atoms v
 each_stands names relations head d before made v m within = elim (slice_get_cases (vars_of d) v).1 [
   | inr past ↦ absurd (omega (arith, past, within))
@@ -390,7 +390,7 @@ each_stands names relations head d before made v m within = elim (slice_get_case
 ]
 
 pub is_disjunct : (names : List (List ℕ)) (relations : List Relation) (head : List Named) (d : DisjunctTree)
-    (before : List ℕ → Option Kind) (made : Disjunct)
+    (before : List ℕ → Option ValueKind) (made : Disjunct)
     → IsMade names relations head d before made → IsDisjunct made
 is_disjunct names relations head d before made m =
     let vars = vars_of d in

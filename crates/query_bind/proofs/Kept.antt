@@ -5,7 +5,7 @@ use Rattle.std.specs.List.{list_any}
 use Rattle.std.specs.Str.{bytes_eq}
 use Rattle.std.proofs.Math.Path.{fun_ext}
 use Rattle.std.proofs.lemmas.List.{at_drop_more}
-use Rattle.currency_base.specs.declared.value.Kind.{Kind}
+use Rattle.currency_base.specs.declared.value.ValueKind.{ValueKind}
 use Rattle.text_grammar.specs.declared.named.Named.{Named}
 use Rattle.query_syntax.specs.declared.trees.DisjunctTree.{DisjunctTree}
 use Rattle.bind_faults.specs.Faults.{or_else}
@@ -29,7 +29,7 @@ some_push f (y ∷ ys) x = ap (or_first (f y)) (some_push f ys x) ∙ sym (neste
 
 -- from what stands in the head and what earlier disjuncts give, the same is refused
 pub from_after : (names : List (List ℕ)) (relations : List Relation) (head : List Named) (in_head : List ℕ → Bool)
-    (before : List ℕ → Option Kind) (front ds : List DisjunctTree)
+    (before : List ℕ → Option ValueKind) (front ds : List DisjunctTree)
     → ((name : List ℕ) → in_head name ≡ list_any (λ h. bytes_eq name h.name) head)
     → ((name : List ℕ) → before name ≡ first_some (λ d. kind_in names relations d name) front)
     → mismatch_from names relations in_head before ds ≡ mismatch_after names relations head front ds
@@ -50,7 +50,7 @@ from_after names relations head in_head before front (d ∷ ds) is_head is_befor
 
 -- one disjunct that is not refused
 pub from_more : (names : List (List ℕ)) (relations : List Relation) (in_head : List ℕ → Bool)
-    (old new : List (List ℕ × Kind)) (ds : List DisjunctTree) (i : ℕ) (d : DisjunctTree)
+    (old new : List (List ℕ × ValueKind)) (ds : List DisjunctTree) (i : ℕ) (d : DisjunctTree)
     (whole : Option BindFault) → i < length ds → d ≡ get_or ds i d
     → None ≡ mismatch_by names relations (kind_in names relations d) (λ name. if in_head name then kind_for old name else None) d
     → Notes old new (kind_in names relations d) → mismatch_from names relations in_head (kind_for old) (drop i ds) ≡ whole
@@ -65,7 +65,7 @@ from_more names relations in_head old new ds i d whole lt item none notes so =
 
 -- one that is refused
 pub from_fault : (names : List (List ℕ)) (relations : List Relation) (in_head : List ℕ → Bool)
-    (old : List (List ℕ × Kind)) (ds : List DisjunctTree) (i : ℕ) (d : DisjunctTree)
+    (old : List (List ℕ × ValueKind)) (ds : List DisjunctTree) (i : ℕ) (d : DisjunctTree)
     (fault : BindFault) (whole : Option BindFault) → i < length ds → d ≡ get_or ds i d
     → Some fault ≡ mismatch_by names relations (kind_in names relations d)
     (λ name. if in_head name then kind_for old name else None) d

@@ -6,8 +6,8 @@ use Rattle.std.proofs.lemmas.List.{length-map}
 use Rattle.std.proofs.lemmas.Option.{none-some, slice_get_cases, slice_get_within}
 use Rattle.std.specs.Str.{bytes_eq}
 use Rattle.currency_base.specs.declared.error_code.ErrorCode.TheVariants.{Mismatch}
-use Rattle.currency_base.specs.declared.value.Kind.{Kind}
-use Rattle.currency_base.specs.declared.value.Kind.TheVariants.{Text, Int}
+use Rattle.currency_base.specs.declared.value.ValueKind.{ValueKind}
+use Rattle.currency_base.specs.declared.value.ValueKind.TheVariants.{Text, Int}
 use Rattle.text_grammar.specs.declared.named.Named.{Named}
 use Rattle.query_syntax.specs.declared.trees.DisjunctTree.{DisjunctTree}
 use Rattle.query_syntax.specs.declared.trees.AtomTree.{AtomTree}
@@ -28,7 +28,7 @@ use Rattle.query_bind.proofs.Names.{own_bytes, same_bytes}
 
 -- a place of an atom of a relation gives a variable of this name the kind
 pub record GivesKind (names : List (List ℕ)) (relations : List Relation) (parts : List PartTree) (name : List ℕ)
-    (kind : Kind) : Type 0 where
+    (kind : ValueKind) : Type 0 where
   pub atom : AtomTree
   pub among : IsIn (part.Atom atom) parts
   pub relation : Relation
@@ -39,7 +39,7 @@ pub record GivesKind (names : List (List ℕ)) (relations : List Relation) (part
   pub is_name : named.name ≡ name
   pub has : slice_get (place_kinds relation) at ≡ Some kind
 
-by_var : (r : Relation) (name : List ℕ) (k : ℕ) (p : PlaceTree) (kind : Kind) → kind_by r name k p ≡ Some kind
+by_var : (r : Relation) (name : List ℕ) (k : ℕ) (p : PlaceTree) (kind : ValueKind) → kind_by r name k p ≡ Some kind
     → (named : Named) × (p ≡ place.Var named) × (named.name ≡ name) × (slice_get (place_kinds r) k ≡ Some kind)
 by_var r name k (place.Var named) kind is = by (bytes_eq name named.name) refl is
   where
@@ -50,7 +50,7 @@ by_var r name k (place.Var named) kind is = by (bytes_eq name named.name) refl i
 by_var r name k (place.Any line) kind is = absurd (cc)
 by_var r name k (place.Constant constant) kind is = absurd (cc)
 
-pub kind_found : (names : List (List ℕ)) (relations : List Relation) (parts : List PartTree) (name : List ℕ) (kind : Kind)
+pub kind_found : (names : List (List ℕ)) (relations : List Relation) (parts : List PartTree) (name : List ℕ) (kind : ValueKind)
     → first_some (kind_in_part names relations name) parts ≡ Some kind → GivesKind names relations parts name kind
 kind_found names relations parts name kind is =
     let found = some_in (kind_in_part names relations name) parts kind is in of found.0 found.1 found.2
@@ -80,12 +80,13 @@ kind_found names relations parts name kind is =
     of (part.Test test) among here = absurd (cc)
 
 -- a place with a kind gives its variable one
-pub kind_there : (names : List (List ℕ)) (relations : List Relation) (parts : List PartTree) (name : List ℕ) (kind : Kind)
-    → GivesKind names relations parts name kind → (k : Kind) × (first_some (kind_in_part names relations name) parts ≡ Some k)
+pub kind_there : (names : List (List ℕ)) (relations : List Relation) (parts : List PartTree) (name : List ℕ) (kind : ValueKind)
+    → GivesKind names relations parts name kind
+    → (k : ValueKind) × (first_some (kind_in_part names relations name) parts ≡ Some k)
 kind_there names relations parts name kind g = by (first_some (kind_in_part names relations name) parts) refl
   where
-    by : (o : Option Kind) → first_some (kind_in_part names relations name) parts ≡ o →
-        (k : Kind) × (first_some (kind_in_part names relations name) parts ≡ Some k)
+    by : (o : Option ValueKind) → first_some (kind_in_part names relations name) parts ≡ o →
+        (k : ValueKind) × (first_some (kind_in_part names relations name) parts ≡ Some k)
     by (Some k) is = (k, is)
     by None is =
         let in_part = none_some (kind_in_part names relations name) parts (part.Atom g.atom) is g.among in
@@ -99,29 +100,29 @@ kind_there names relations parts name kind g = by (first_some (kind_in_part name
 
 -- ---- what is not of two kinds
 
-one_kind : (a b : Kind) → differ (Some a) (Some b) ≡ false → a ≡ b
+one_kind : (a b : ValueKind) → differ (Some a) (Some b) ≡ false → a ≡ b
 one_kind Text Text is = refl
 one_kind Text Int is = absurd (cc)
 one_kind Int Text is = absurd (cc)
 one_kind Int Int is = refl
 
 -- kinds that do not clash are one
-pub no_clash : (line : ℕ) (a b : Option Kind) (k l : Kind) → clash line a b ≡ None → a ≡ Some k → b ≡ Some l → k ≡ l
+pub no_clash : (line : ℕ) (a b : Option ValueKind) (k l : ValueKind) → clash line a b ≡ None → a ≡ Some k → b ≡ Some l → k ≡ l
 no_clash line a b k l none is_a is_b =
     one_kind k l (sym (ap₂ differ is_a is_b) ∙ if_none (differ a b)
     (Refused record { code = Mismatch; document = None; line = line }) none)
 
 -- no part of a disjunct is of two kinds
 pub record IsAgreed (names : List (List ℕ)) (relations : List Relation) (d : DisjunctTree)
-    (before : List ℕ → Option Kind) : Type 0 where
+    (before : List ℕ → Option ValueKind) : Type 0 where
   pub none : first_of (part_mismatch names relations (kind_in names relations d) before) (all_parts d) ≡ None
 
 -- an atom that is as long as its relation wants
-pub record IsAgreedAtom (own before : List ℕ → Option Kind) (r : Relation) (atom : AtomTree) : Type 0 where
+pub record IsAgreedAtom (own before : List ℕ → Option ValueKind) (r : Relation) (atom : AtomTree) : Type 0 where
   pub as_many : length atom.places ≡ length r.attrs + 1
   pub places : (k : ℕ) (p : PlaceTree) → slice_get atom.places k ≡ Some p → place_mismatch own before r k p ≡ None
 
-atom_agreed : (own before : List ℕ → Option Kind) (r : Relation) (atom : AtomTree) → atom_mismatch own before
+atom_agreed : (own before : List ℕ → Option ValueKind) (r : Relation) (atom : AtomTree) → atom_mismatch own before
     (Some r) atom ≡ None → IsAgreedAtom own before r atom
 atom_agreed own before r atom is = by (length atom.places == length r.attrs + 1) refl is
   where
@@ -135,7 +136,7 @@ atom_agreed own before r atom is = by (length atom.places == length r.attrs + 1)
     by false same none = absurd (cc)
 
 pub agreed_atom : (names : List (List ℕ)) (relations : List Relation) (d : DisjunctTree)
-    (before : List ℕ → Option Kind) (atom : AtomTree) (r : Relation)
+    (before : List ℕ → Option ValueKind) (atom : AtomTree) (r : Relation)
     → IsAgreed names relations d before → IsIn (part.Atom atom) (all_parts d) → relation_of names relations atom.relation ≡ Some r
     → IsAgreedAtom (kind_in names relations d) before r atom
 agreed_atom names relations d before atom r agreed among is =
@@ -144,9 +145,9 @@ agreed_atom names relations d before atom r agreed among is =
     ∙ none_of (part_mismatch names relations (kind_in names relations d) before) (all_parts d) (part.Atom atom) agreed.none among)
 
 -- each place has a kind
-pub place_kind : (own before : List ℕ → Option Kind) (r : Relation) (atom : AtomTree) (k : ℕ) (p : PlaceTree)
+pub place_kind : (own before : List ℕ → Option ValueKind) (r : Relation) (atom : AtomTree) (k : ℕ) (p : PlaceTree)
     → IsAgreedAtom own before r atom
-    → slice_get atom.places k ≡ Some p → (kind : Kind) × (slice_get (place_kinds r) k ≡ Some kind)
+    → slice_get atom.places k ≡ Some p → (kind : ValueKind) × (slice_get (place_kinds r) k ≡ Some kind)
 place_kind own before r atom k p agreed at = elim (slice_get_cases (place_kinds r) k).1 [
   | inl there ↦ (there.0, there.2)
   | inr past ↦ absurd (omega (
@@ -160,13 +161,13 @@ place_kind own before r atom k p agreed at = elim (slice_get_cases (place_kinds 
 ]
 
 -- a variable at a place has the kind of the place in its disjunct, and in those before if it has one there
-pub record HasKind (own before : List ℕ → Option Kind) (r : Relation) (k : ℕ) (name : List ℕ) : Type 0 where
-  pub kind : Kind
+pub record HasKind (own before : List ℕ → Option ValueKind) (r : Relation) (k : ℕ) (name : List ℕ) : Type 0 where
+  pub kind : ValueKind
   pub has : slice_get (place_kinds r) k ≡ Some kind
   pub is_own : own name ≡ Some kind
-  pub is_before : (other : Kind) → before name ≡ Some other → other ≡ kind
+  pub is_before : (other : ValueKind) → before name ≡ Some other → other ≡ kind
 
-pub var_kind : (names : List (List ℕ)) (relations : List Relation) (d : DisjunctTree) (before : List ℕ → Option Kind)
+pub var_kind : (names : List (List ℕ)) (relations : List Relation) (d : DisjunctTree) (before : List ℕ → Option ValueKind)
     (atom : AtomTree) (r : Relation) (k : ℕ) (named : Named)
     → IsAgreed names relations d before → IsIn (part.Atom atom) (all_parts d) → relation_of names relations atom.relation ≡ Some r
     → slice_get atom.places k ≡ Some (place.Var named) → HasKind (kind_in names relations d) before r k named.name

@@ -2,7 +2,7 @@
 use Rattle.std.proofs.Common.{◌+◌, ℕ, Bool, true, false, List, [], ◌∷◌, ◌++◌, length, map, Option, Some, None, Result, Ok, Err, slice_get}
 use Rattle.std.specs.Prelude.{if◌then◌else◌, is_some, ◌==◌}
 use Rattle.currency_base.specs.declared.error_code.ErrorCode.TheVariants.{UnknownName, Mismatch}
-use Rattle.currency_base.specs.declared.value.Kind.{Kind}
+use Rattle.currency_base.specs.declared.value.ValueKind.{ValueKind}
 use Rattle.currency_base.specs.Values.{kind_of}
 use Rattle.text_grammar.specs.declared.named.Named.{Named}
 use Rattle.query_syntax.specs.declared.trees.QueryTree.{QueryTree}
@@ -60,10 +60,10 @@ part_plain : (names : List (List ℕ)) (p : PartTree) → IsPlain (unknown_part 
 part_plain names (part.Atom atom) = unknown_plain names atom.relation (is_some (place_of names atom.relation.name))
 part_plain names (part.Test test) = tt
 
-clash_plain : (line : ℕ) (a b : Option Kind) → IsPlain (clash line a b)
+clash_plain : (line : ℕ) (a b : Option ValueKind) → IsPlain (clash line a b)
 clash_plain line a b = if_plain (differ a b) (Refused record { code = Mismatch; document = None; line = line }) (λ h. h)
 
-place_plain : (own before : List ℕ → Option Kind) (r : Relation) (k : ℕ) (p : PlaceTree)
+place_plain : (own before : List ℕ → Option ValueKind) (r : Relation) (k : ℕ) (p : PlaceTree)
     → IsPlain (place_mismatch own before r k p)
 place_plain own before r k (place.Var named) =
     either_plain (clash named.line (own named.name) (slice_get (place_kinds r) k))
@@ -79,7 +79,7 @@ places_plain : (b : Bool) (o : Option BindFault) (fault : BindFault) → IsPlain
 places_plain true o fault p q = p
 places_plain false o fault p q = q
 
-atom_plain : (own before : List ℕ → Option Kind) (r : Option Relation) (atom : AtomTree)
+atom_plain : (own before : List ℕ → Option ValueKind) (r : Option Relation) (atom : AtomTree)
     → IsPlain (atom_mismatch own before r atom)
 atom_plain own before None atom = tt
 atom_plain own before (Some r) atom =
@@ -87,7 +87,7 @@ atom_plain own before (Some r) atom =
     (refused_at Mismatch atom.relation)
     (at_plain (place_mismatch own before r) (place_plain own before r) 0 atom.places) (λ h. h)
 
-mismatch_plain : (names : List (List ℕ)) (relations : List Relation) (own before : List ℕ → Option Kind)
+mismatch_plain : (names : List (List ℕ)) (relations : List Relation) (own before : List ℕ → Option ValueKind)
     (p : PartTree) → IsPlain (part_mismatch names relations own before p)
 mismatch_plain names relations own before (part.Atom atom) = atom_plain own before
     (relation_of names relations atom.relation) atom

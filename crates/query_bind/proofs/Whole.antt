@@ -7,7 +7,7 @@ use Rattle.std.proofs.lemmas.Bool.{ltb-false, or_parts}
 use Rattle.std.proofs.lemmas.List.{append-nil, length-map}
 use Rattle.std.proofs.lemmas.List.Elements.{All-nil}
 use Rattle.std.proofs.lemmas.List.Sums.{sum_by-cons}
-use Rattle.currency_base.specs.declared.value.Kind.{Kind}
+use Rattle.currency_base.specs.declared.value.ValueKind.{ValueKind}
 use Rattle.text_grammar.specs.declared.named.Named.{Named}
 use Rattle.query_syntax.specs.declared.trees.DisjunctTree.{DisjunctTree}
 use Rattle.query_syntax.specs.declared.trees.QueryTree.{QueryTree}
@@ -28,7 +28,7 @@ use Rattle.query_bind.proofs.Names.{own_bytes}
 -- ---- heads
 
 -- the numbers of the head have these kinds
-numbers_fit : (vars : List (List ℕ)) (kinds : List Kind) (f : Named → Kind) (hs : List Named) (numbers : List ℕ)
+numbers_fit : (vars : List (List ℕ)) (kinds : List ValueKind) (f : Named → ValueKind) (hs : List Named) (numbers : List ℕ)
     → all_of (var_named vars) hs ≡ Ok numbers
     → ((h : Named) (v : ℕ) → IsIn h hs → var_named vars h ≡ Ok v → slice_get kinds v ≡ Some (f h))
     → map (slice_get kinds) numbers ≡ map (λ kind. Some kind) (map f hs)
@@ -39,7 +39,7 @@ numbers_fit vars kinds f (h ∷ hs) numbers is each =
     ∙ ap₂ (λ x xs. x ∷ xs) (each h a.0 (inl refl) a.2) (numbers_fit vars kinds f hs a.1 a.3 (λ g v there. each g v (inr there)))
 
 -- the kinds of the head by a disjunct
-head_kind : List (List ℕ) → List Relation → DisjunctTree → Named → Kind
+head_kind : List (List ℕ) → List Relation → DisjunctTree → Named → ValueKind
 head_kind names relations d h = or_text (kind_in names relations d h.name)
 
 -- a disjunct whose variables of the head have the kinds that another gives them
@@ -49,7 +49,7 @@ record AgreesWith (names : List (List ℕ)) (relations : List Relation) (head : 
 
 -- the first agrees with itself
 agrees_first : (names : List (List ℕ)) (relations : List Relation) (head : List Named) (d : DisjunctTree)
-    (before : List ℕ → Option Kind) (made : Disjunct)
+    (before : List ℕ → Option ValueKind) (made : Disjunct)
     → IsMade names relations head d before made → AgreesWith names relations head d d
 unfolding head_kind
 agrees_first names relations head d before made m = record {
@@ -62,7 +62,7 @@ agrees_first names relations head d before made m = record {
 -- a later one agrees with the first
 agrees_later : (names : List (List ℕ)) (relations : List Relation) (head : List Named) (first d : DisjunctTree)
     (front : List DisjunctTree)
-    (before : List ℕ → Option Kind) (made_first made : Disjunct) → IsMade names relations head first before made_first
+    (before : List ℕ → Option ValueKind) (made_first made : Disjunct) → IsMade names relations head first before made_first
     → IsMade names relations head d (kind_before names relations head (first ∷ front)) made
     → AgreesWith names relations head first d
 unfolding head_kind
@@ -87,7 +87,7 @@ agrees_later names relations head first d front before made_first made one m = r
 
 -- a disjunct that is small enough
 fits_small : (names : List (List ℕ)) (relations : List Relation) (head : List Named) (first d : DisjunctTree)
-    (before : List ℕ → Option Kind) (made : Disjunct)
+    (before : List ℕ → Option ValueKind) (made : Disjunct)
     → IsMade names relations head d before made → AgreesWith names relations head first d → is_large d ≡ false
     → IsDisjunctOn relations (map (head_kind names relations first) head) made
 fits_small names relations head first d before made m agrees small =
@@ -132,12 +132,12 @@ agreed_later names relations head before (e ∷ ds) d none there =
     ]
 
 -- both facts of a disjunct
-record IsFit (relations : List Relation) (heads : List Kind) (made : Disjunct) : Type 0 where
+record IsFit (relations : List Relation) (heads : List ValueKind) (made : Disjunct) : Type 0 where
   pub is_disjunct : IsDisjunct made
   pub on : IsDisjunctOn relations heads made
 
 first_fits : (names : List (List ℕ)) (relations : List Relation) (head : List Named) (d : DisjunctTree)
-    (before : List ℕ → Option Kind) (made : Disjunct)
+    (before : List ℕ → Option ValueKind) (made : Disjunct)
     → IsMade names relations head d before made → is_large d ≡ false → IsFit relations
     (map (head_kind names relations d) head) made
 first_fits names relations head d before made m small = record {

@@ -7,8 +7,8 @@ use Rattle.std.specs.Str.{bytes_eq}
 use Rattle.currency_base.specs.Values.{kind_of}
 use Rattle.currency_base.specs.declared.error_code.ErrorCode.{ErrorCode}
 use Rattle.currency_base.specs.declared.error_code.ErrorCode.TheVariants.{UnknownName, Mismatch, UnsafeVariable}
-use Rattle.currency_base.specs.declared.value.Kind.{Kind}
-use Rattle.currency_base.specs.declared.value.Kind.TheVariants.{Text, Int}
+use Rattle.currency_base.specs.declared.value.ValueKind.{ValueKind}
+use Rattle.currency_base.specs.declared.value.ValueKind.TheVariants.{Text, Int}
 use Rattle.text_grammar.specs.declared.named.Named.{Named}
 use Rattle.query_syntax.specs.declared.trees.QueryTree.{QueryTree}
 use Rattle.query_syntax.specs.declared.trees.DisjunctTree.{DisjunctTree}
@@ -91,42 +91,42 @@ first_at f k [] = None
 first_at f k (x ∷ xs) = or_first (f k x) (first_at f (k + 1) xs)
 
 -- the kind that a place gives the variable of a name
-abbrev pub kind_by : Relation → List ℕ → ℕ → PlaceTree → Option Kind
+abbrev pub kind_by : Relation → List ℕ → ℕ → PlaceTree → Option ValueKind
 kind_by r name k (place.Var named) = if bytes_eq name named.name then slice_get (place_kinds r) k else None
 kind_by r name k (place.Any line) = None
 kind_by r name k (place.Constant constant) = None
 
 -- the kind that an atom of a relation gives it, by the first place that gives one
-abbrev pub kind_in_places : Option Relation → List ℕ → List PlaceTree → Option Kind
+abbrev pub kind_in_places : Option Relation → List ℕ → List PlaceTree → Option ValueKind
 kind_in_places None name places = None
 kind_in_places (Some r) name places = first_at (kind_by r name) 0 places
 
-abbrev pub kind_in_part : List (List ℕ) → List Relation → List ℕ → PartTree → Option Kind
+abbrev pub kind_in_part : List (List ℕ) → List Relation → List ℕ → PartTree → Option ValueKind
 kind_in_part names relations name (part.Atom atom) = kind_in_places (relation_of names relations atom.relation) name atom.places
 kind_in_part names relations name (part.Test test) = None
 
 -- the kind that a disjunct gives the variable of a name, by the first place of an atom that gives one
-abbrev pub kind_in : List (List ℕ) → List Relation → DisjunctTree → List ℕ → Option Kind
+abbrev pub kind_in : List (List ℕ) → List Relation → DisjunctTree → List ℕ → Option ValueKind
 kind_in names relations d name = first_some (kind_in_part names relations name) (all_parts d)
 
 -- the kind that earlier disjuncts give a variable of the head
-abbrev pub kind_before : List (List ℕ) → List Relation → List Named → List DisjunctTree → List ℕ → Option Kind
+abbrev pub kind_before : List (List ℕ) → List Relation → List Named → List DisjunctTree → List ℕ → Option ValueKind
 kind_before names relations head before name =
     if list_any (λ h. bytes_eq name h.name) head then first_some (λ d. kind_in names relations d name) before else None
 
 -- two kinds, and not one
-abbrev pub differ : Option Kind → Option Kind → Bool
+abbrev pub differ : Option ValueKind → Option ValueKind → Bool
 differ (Some Text) (Some Int) = true
 differ (Some Int) (Some Text) = true
 differ a b = false
 
 -- the refusal of two kinds, at a line
-abbrev pub clash : ℕ → Option Kind → Option Kind → Option BindFault
+abbrev pub clash : ℕ → Option ValueKind → Option ValueKind → Option BindFault
 clash line a b = if differ a b then Some (Refused record { code = Mismatch; document = None; line = line }) else None
 
 -- the refusal of what stands at a place of another kind than its own. `own` are the kinds of the disjunct's variables, and
 -- `before` those of the head's by earlier disjuncts
-abbrev pub place_mismatch : (List ℕ → Option Kind) → (List ℕ → Option Kind) → Relation → ℕ → PlaceTree → Option BindFault
+abbrev pub place_mismatch : (List ℕ → Option ValueKind) → (List ℕ → Option ValueKind) → Relation → ℕ → PlaceTree → Option BindFault
 place_mismatch own before r k (place.Var named) =
     or_else (clash named.line (own named.name) (slice_get (place_kinds r) k))
     (clash named.line (before named.name) (slice_get (place_kinds r) k))
@@ -135,14 +135,14 @@ place_mismatch own before r k (place.Constant constant) = clash constant.line (S
     (slice_get (place_kinds r) k)
 
 -- the refusal of an atom that has not one place more than its relation has attributes, or of the first of its places
-abbrev pub atom_mismatch : (List ℕ → Option Kind) → (List ℕ → Option Kind) → Option Relation → AtomTree → Option BindFault
+abbrev pub atom_mismatch : (List ℕ → Option ValueKind) → (List ℕ → Option ValueKind) → Option Relation → AtomTree → Option BindFault
 atom_mismatch own before None atom = None
 atom_mismatch own before (Some r) atom =
     if length atom.places == length r.attrs + 1 then first_at (place_mismatch own before r) 0 atom.places else Some
     (refused_at Mismatch atom.relation)
 
 -- the kind of a side of a comparison, and the line of its token
-abbrev pub side_kind : (List ℕ → Option Kind) → TestTermTree → Option Kind
+abbrev pub side_kind : (List ℕ → Option ValueKind) → TestTermTree → Option ValueKind
 side_kind own (side.Var named) = own named.name
 side_kind own (side.Constant constant) = Some (kind_of constant.value)
 
@@ -150,7 +150,7 @@ abbrev pub side_line : TestTermTree → ℕ
 side_line (side.Var named) = named.line
 side_line (side.Constant constant) = constant.line
 
-abbrev pub part_mismatch : List (List ℕ) → List Relation → (List ℕ → Option Kind) → (List ℕ → Option Kind) → PartTree
+abbrev pub part_mismatch : List (List ℕ) → List Relation → (List ℕ → Option ValueKind) → (List ℕ → Option ValueKind) → PartTree
     → Option BindFault
 part_mismatch names relations own before (part.Atom atom) = atom_mismatch own before
     (relation_of names relations atom.relation) atom
@@ -158,7 +158,7 @@ part_mismatch names relations own before (part.Test test) = clash (side_line tes
     (side_kind own test.right)
 
 -- the refusal of the first part of a disjunct that is of two kinds
-abbrev pub mismatch_by : List (List ℕ) → List Relation → (List ℕ → Option Kind) → (List ℕ → Option Kind)
+abbrev pub mismatch_by : List (List ℕ) → List Relation → (List ℕ → Option ValueKind) → (List ℕ → Option ValueKind)
     → DisjunctTree → Option BindFault
 mismatch_by names relations own before d = first_of (part_mismatch names relations own before) (all_parts d)
 

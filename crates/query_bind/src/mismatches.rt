@@ -12,7 +12,7 @@ use crate::known::{head_names, kinds_in, note_disjunct};
 use crate::noted::NotedKinds;
 use crate::relations::relation_of;
 use bind_faults::BindFault;
-use currency_base::{ErrorCode, Kind, NoMemory};
+use currency_base::{ErrorCode, NoMemory, ValueKind};
 use name_index::NameIndex;
 use query_syntax::{AtomTree, DisjunctTree, PartTree, PlaceTree, TestTermTree, TestTree};
 use spec_model::Relation;
@@ -163,7 +163,7 @@ fn test_mismatch(scope: &Scope, test: &TestTree) -> Option<BindFault>
 }
 
 /// The kind of a side of a comparison, where its variable has one.
-fn side_kind(scope: &Scope, side: &TestTermTree) -> Option<Kind>
+fn side_kind(scope: &Scope, side: &TestTermTree) -> Option<ValueKind>
     ensures { result ≡ side_kind (kind_for scope.now.own.now) side.now }
 {
     match side {
@@ -245,7 +245,7 @@ fn place_mismatch(
 }
 
 /// The refusal of a variable at a place of another kind than it has by the disjunct, or by those before.
-fn var_mismatch(scope: &Scope, named: &Named, kind: Option<Kind>) -> Option<BindFault>
+fn var_mismatch(scope: &Scope, named: &Named, kind: Option<ValueKind>) -> Option<BindFault>
     ensures { result ≡ or_else
         (clash named.now.line (kind_for scope.now.own.now named.now.name) kind)
         (clash named.now.line (kind_among scope.now.head.now scope.now.before.now named.now.name) kind) }
@@ -258,7 +258,7 @@ fn var_mismatch(scope: &Scope, named: &Named, kind: Option<Kind>) -> Option<Bind
 }
 
 /// The kind that disjuncts before give a variable of the head.
-fn kind_before(scope: &Scope, named: &Named) -> Option<Kind>
+fn kind_before(scope: &Scope, named: &Named) -> Option<ValueKind>
     ensures { result ≡ kind_among scope.now.head.now scope.now.before.now named.now.name }
 {
     if scope.head.find(&named.name).is_some() {

@@ -5,10 +5,10 @@ use Rattle.std.proofs.lemmas.Bool.{cond-true, cond-false, le-leb, lt-leb, ltb-tr
 use Rattle.std.proofs.lemmas.List.{at_drop_all, at_drop_more}
 use Rattle.std.proofs.lemmas.List.Elements.{All-append}
 use Rattle.std.proofs.lemmas.List.Recursion.{is_count_by}
-use Rattle.bind_faults.specs.Faults.{all_of, and_then, IsDue, IsReadFault, IsReadFaultOf, IsSettled}
+use Rattle.bind_faults.specs.Faults.{all_of, and_then, IsDue, IsReadFault, IsReadFaultOf, IsDetermined}
 use Rattle.bind_faults.specs.declared.fault.BindFault.{BindFault}
 use Rattle.bind_faults.specs.declared.fault.BindFault.TheVariants.{Refused, CopyDiffers, Limit, ReadFault, NoMemory}
-use Rattle.bind_faults.proofs.Outcomes.{all_reads, due_reads, same_read_fault_of, settled_fault}
+use Rattle.bind_faults.proofs.Outcomes.{all_reads, determined_fault, due_reads, same_read_fault_of}
 use Rattle.spec_model.specs.Questions.{IsAskedPair, IsQuestionOn}
 use Rattle.spec_model.specs.Spec.{Spec}
 use Rattle.spec_model.specs.declared.question.Asked.{Asked}
@@ -29,27 +29,27 @@ use Rattle.question_bind.proofs.Unread.{head_reads}
 abbrev pub Docs : Type 0
 Docs = List (List ℕ × List ℕ)
 
--- an answer that is due and settled is what is due
-pub due_settled : {A : Type 0} (due r : Result A BindFault) → IsDue due r → IsSettled r → due ≡ r
-due_settled due (Ok x) is settled = is
-due_settled due (Err (Refused refusal)) is settled = is
-due_settled due (Err (CopyDiffers document line target source)) is settled = is
-due_settled due (Err (Limit k)) is settled = is
-due_settled due (Err (ReadFault name)) is settled = absurd settled
-due_settled due (Err NoMemory) is settled = absurd settled
+-- an answer that is due and determined is what is due
+pub due_determined : {A : Type 0} (due r : Result A BindFault) → IsDue due r → IsDetermined r → due ≡ r
+due_determined due (Ok x) is determined = is
+due_determined due (Err (Refused refusal)) is determined = is
+due_determined due (Err (CopyDiffers document line target source)) is determined = is
+due_determined due (Err (Limit k)) is determined = is
+due_determined due (Err (ReadFault name)) is determined = absurd determined
+due_determined due (Err NoMemory) is determined = absurd determined
 
 -- ---- one group
 
 -- where its heads are refused
 pub heads_refused : (texts : Texts) (names : NameLists) (s : Spec) (so_far : List Asked) (group : List AskedTree)
     (e : BindFault) → AreNamesOf names s
-    → IsDue (all_of (head_named names) group) (Err e) → IsSettled {A = List Asked} (Err e) → IfSome texts
+    → IsDue (all_of (head_named names) group) (Err e) → IsDetermined {A = List Asked} (Err e) → IfSome texts
     (λ told. IsGroupStep told s.relations so_far group (Err e))
-heads_refused None names s so_far group e known due settled = tt
-heads_refused (Some told) names s so_far group e known due settled =
+heads_refused None names s so_far group e known due determined = tt
+heads_refused (Some told) names s so_far group e known due determined =
     let is : all_of (head_of s.relations) group ≡ Err e =
-    sym (heads_same names s group known) ∙ due_settled (all_of (head_named names) group) (Err e) due
-    (settled_fault (List Asked) (List Head) e settled) in
+    sym (heads_same names s group known) ∙ due_determined (all_of (head_named names) group) (Err e) due
+    (determined_fault (List Asked) (List Head) e determined) in
     (Err e, rw is refl, refl)
 
 -- which is no read fault
@@ -64,13 +64,13 @@ heads_no_read A names s group e known due h =
 pub tables_step : (texts : Texts) (names : NameLists) (s : Spec) (so_far : List Asked) (group : List AskedTree)
     (heads : List Head) (e : BindFault) → AreNamesOf names s
     → all_of (head_named names) group ≡ Ok heads →
-    (IsSettled {A = List Tuples} (Err e) → IfSome texts (λ told. AreRead told group (Err e)))
-    → IsSettled {A = List Asked} (Err e) → IfSome texts (λ told. IsGroupStep told s.relations so_far group (Err e))
-tables_step None names s so_far group heads e known found read settled = tt
-tables_step (Some told) names s so_far group heads e known found read settled =
+    (IsDetermined {A = List Tuples} (Err e) → IfSome texts (λ told. AreRead told group (Err e)))
+    → IsDetermined {A = List Asked} (Err e) → IfSome texts (λ told. IsGroupStep told s.relations so_far group (Err e))
+tables_step None names s so_far group heads e known found read determined = tt
+tables_step (Some told) names s so_far group heads e known found read determined =
     let is : all_of (head_of s.relations) group ≡ Ok heads = sym (heads_same names s group known) ∙ found in
     let asked : IsGroupAsked told s.relations group (Err e) =
-    rw is (Err e, read (settled_fault (List Asked) (List Tuples) e settled), refl) in
+    rw is (Err e, read (determined_fault (List Asked) (List Tuples) e determined), refl) in
     (Err e, asked, refl)
 
 -- or not read
@@ -101,14 +101,14 @@ pub read_step : (texts : Texts) (names : NameLists) (s : Spec) (so_far : List As
     (result : Result (List Asked) BindFault) → AreNamesOf names s → all_of (head_named names) group ≡ Ok heads
     → IfSome texts (λ told. AreRead told group (Ok tables))
     → IsDue (and_then (asked_in s.relations heads group tables) (within_limit so_far)) result
-    → IsSettled result → IfSome texts (λ told. IsGroupStep told s.relations so_far group result)
-read_step None names s so_far group heads tables result known found read due settled = tt
-read_step (Some told) names s so_far group heads tables result known found read due settled =
+    → IsDetermined result → IfSome texts (λ told. IsGroupStep told s.relations so_far group result)
+read_step None names s so_far group heads tables result known found read due determined = tt
+read_step (Some told) names s so_far group heads tables result known found read due determined =
     let is : all_of (head_of s.relations) group ≡ Ok heads = sym (heads_same names s group known) ∙ found in
     let asked : IsGroupAsked told s.relations group (asked_in s.relations heads group tables) = rw is (Ok tables, read, refl) in (
       asked_in s.relations heads group tables,
       asked,
-      sym (due_settled (and_then (asked_in s.relations heads group tables) (within_limit so_far)) result due settled),
+      sym (due_determined (and_then (asked_in s.relations heads group tables) (within_limit so_far)) result due determined),
     )
 
 -- these after what was asked so far
@@ -328,23 +328,23 @@ one_by_one trees lt = cond-false _ _ _ (lt-leb (tables_among trees) 1 (omega (ar
 pub asked_at_once : (texts : Texts) (relations : List Relation) (trees : List AskedTree) (count : ℕ)
     (none : List Asked) (result : Result (List Asked) BindFault)
     → count ≡ count_by has_table trees → count ≤ 1 → none ≡ []
-    → (IsSettled result → IfSome texts (λ told. IsGroupStep told relations none trees result)) → IsSettled result
+    → (IsDetermined result → IfSome texts (λ told. IsGroupStep told relations none trees result)) → IsDetermined result
     → IfSome texts (λ told. AreGroupsAsked told relations [] (groups_of trees) result)
-asked_at_once texts relations trees count none result counted le empty step settled =
+asked_at_once texts relations trees count none result counted le empty step determined =
     subst (λ (groups : List (List AskedTree)). IfSome texts (λ told. AreGroupsAsked told relations [] groups result))
     (sym (all_at_once trees (omega (arith, counted, le))))
     (one_group texts relations trees result
     (subst (λ (so_far : List Asked). IfSome texts (λ told. IsGroupStep told relations so_far trees result)) empty
-    (step settled)))
+    (step determined)))
 
 -- and one after another
 pub asked_in_turn : (texts : Texts) (relations : List Relation) (trees : List AskedTree) (count : ℕ)
     (result : Result (List Asked) BindFault) → count ≡ count_by has_table trees → 1 < count
-    → (IsSettled result → IfSome texts (λ told. AreGroupsAsked told relations [] (single trees) result)) → IsSettled result
+    → (IsDetermined result → IfSome texts (λ told. AreGroupsAsked told relations [] (single trees) result)) → IsDetermined result
     → IfSome texts (λ told. AreGroupsAsked told relations [] (groups_of trees) result)
-asked_in_turn texts relations trees count result counted lt asked settled =
+asked_in_turn texts relations trees count result counted lt asked determined =
     subst (λ (groups : List (List AskedTree)). IfSome texts (λ told. AreGroupsAsked told relations [] groups result))
-    (sym (one_by_one trees (omega (arith, counted, lt)))) (asked settled)
+    (sym (one_by_one trees (omega (arith, counted, lt)))) (asked determined)
 
 -- the table that is due
 pub due_at_once : (texts : Texts) (relations : List Relation) (trees : List AskedTree) (count : ℕ)

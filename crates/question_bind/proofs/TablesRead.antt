@@ -2,9 +2,9 @@
 use Rattle.std.proofs.Common.{◌≡◌, ◌∙◌, ◌+◌, ◌<◌, ◌≤◌, ℕ, List, [], ◌∷◌, ◌++◌, length, drop, get_or, Option, Some, None, Result, Ok, Err, IfSome, append_assoc, refl, sym, ap, subst}
 use Rattle.std.proofs.lemmas.List.{append-nil, at_drop_all, at_drop_more}
 use Rattle.currency_base.specs.declared.value.Value.{Value}
-use Rattle.bind_faults.specs.Faults.{and_then, IsReadFaultOf, IsSettled}
+use Rattle.bind_faults.specs.Faults.{and_then, IsReadFaultOf, IsDetermined}
 use Rattle.bind_faults.specs.declared.fault.BindFault.{BindFault}
-use Rattle.bind_faults.proofs.Outcomes.{same_read_fault_of, settled_fault}
+use Rattle.bind_faults.proofs.Outcomes.{determined_fault, same_read_fault_of}
 use Rattle.order_bind.proofs.OrderLemmas.{with_front, with_front-none}
 use Rattle.question_syntax.specs.declared.trees.AskedTree.{AskedTree}
 use Rattle.question_bind.specs.Asked.{AreRead, IsRead}
@@ -63,14 +63,14 @@ tables_all (Some told) items i list le so_far =
 -- a table that is refused
 pub tables_refused : (texts now : Texts) (items : List AskedTree) (i : ℕ) (t : AskedTree) (list : List Tuples) (fault : BindFault)
     → now ≡ texts → i < length items → t ≡ get_or items i t →
-    (IsSettled {A = Tuples} (Err fault) → IfSome now (λ told. IsRead told t (Err fault)))
-    → TablesSoFar texts (drop i items) items list → IsSettled {A = List Tuples} (Err fault) → IfSome texts
+    (IsDetermined {A = Tuples} (Err fault) → IfSome now (λ told. IsRead told t (Err fault)))
+    → TablesSoFar texts (drop i items) items list → IsDetermined {A = List Tuples} (Err fault) → IfSome texts
     (λ told. AreRead told items (Err fault))
-tables_refused None now items i t list fault same lt is read so_far settled = tt
-tables_refused (Some told) now items i t list fault same lt is read so_far settled =
+tables_refused None now items i t list fault same lt is read so_far determined = tt
+tables_refused (Some told) now items i t list fault same lt is read so_far determined =
     let here : IsRead told t (Err fault) =
     subst (λ (texts : Texts). IfSome texts (λ docs. IsRead docs t (Err fault))) same
-    (read (settled_fault (List Tuples) Tuples fault settled)) in
+    (read (determined_fault (List Tuples) Tuples fault determined)) in
     let all : AreRead told (t ∷ drop (i + 1) items) (Err fault) = (Err fault, here, refl) in
     so_far (Err fault) (subst (λ (ts : List AskedTree). AreRead told ts (Err fault)) (sym (drop_at items i t lt is)) all)
 

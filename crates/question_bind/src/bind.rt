@@ -1,6 +1,6 @@
 ghost use Rattle.std.specs.Prelude.{◌≡◌, ◌≤◌, ℕ, List, IfOk, IfSome};
 ghost use Rattle.currency_edge.specs.Fault.{Rose};
-ghost use Rattle.bind_faults.specs.Faults.{IsSettled, IsReadFault, IsReadFaultOf};
+ghost use Rattle.bind_faults.specs.Faults.{IsDetermined, IsReadFault, IsReadFaultOf};
 ghost use Rattle.spec_model.specs.Questions.{IsQuestionOn};
 ghost use Rattle.question_bind.specs.Bound.{AskAlike, IsQuestionBound, IsQuestionTableDue};
 
@@ -38,7 +38,7 @@ pub fn bind_question<S: Shelf>(
 ) -> Result<Question, BindFault>
     ensures kept { S.texts shelf.new ≡ S.texts shelf.old }
     ensures later { S.faults shelf.old ≤ S.faults shelf.new }
-    ensures bound { IsSettled result → IfSome (S.texts shelf.old) (λ told. IsQuestionBound told spec.now.relations
+    ensures bound { IsDetermined result → IfSome (S.texts shelf.old) (λ told. IsQuestionBound told spec.now.relations
         tree.now result) }
     ensures fits { IfOk result (IsQuestionOn spec.now.relations) }
     ensures alike { IfOk result (AskAlike tree.now) }

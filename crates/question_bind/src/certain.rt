@@ -2,7 +2,7 @@
 
 ghost use Rattle.std.specs.Prelude.{◌≡◌, ◌≤◌, ◌∷◌, ℕ, List, [], map, count_by, All, IfOk, IfSome};
 ghost use Rattle.currency_edge.specs.Fault.{Rose};
-ghost use Rattle.bind_faults.specs.Faults.{IsSettled, IsReadFault, IsReadFaultOf};
+ghost use Rattle.bind_faults.specs.Faults.{IsDetermined, IsReadFault, IsReadFaultOf};
 ghost use Rattle.spec_model.specs.Questions.{IsAskedPair, IsQuestionOn};
 ghost use Rattle.question_bind.specs.Bound.{AreGroupsAsked, IsGroupTableDue, certain_of, groups_of};
 ghost use Rattle.question_bind.specs.Steps.{AreNamesOf, IsCertain, has_table};
@@ -27,7 +27,7 @@ pub fn bind_certain<S: Shelf>(
 ) -> Result<Question, BindFault>
     ensures kept { S.texts shelf.new ≡ S.texts shelf.old }
     ensures later { S.faults shelf.old ≤ S.faults shelf.new }
-    ensures bound { IsSettled result → IfSome (S.texts shelf.old)
+    ensures bound { IsDetermined result → IfSome (S.texts shelf.old)
         (λ told. IsCertain told spec.now.relations line trees.now result) }
     ensures fits { IfOk result (IsQuestionOn spec.now.relations) }
     ensures read_fault { IsReadFault result → Rose (S.faults shelf.old) (S.faults shelf.new) }
@@ -53,7 +53,7 @@ fn ask_groups<S: Shelf>(
     requires { AreNamesOf names.now spec.now }
     ensures kept { S.texts shelf.new ≡ S.texts shelf.old }
     ensures later { S.faults shelf.old ≤ S.faults shelf.new }
-    ensures asked { IsSettled result → IfSome (S.texts shelf.old) (λ told. AreGroupsAsked told spec.now.relations []
+    ensures asked { IsDetermined result → IfSome (S.texts shelf.old) (λ told. AreGroupsAsked told spec.now.relations []
         (groups_of trees.now) result) }
     ensures fits { IfOk result (All (IsAskedPair spec.now.relations)) }
     ensures read_fault { IsReadFault result → Rose (S.faults shelf.old) (S.faults shelf.new) }
@@ -79,7 +79,7 @@ fn ask_each<S: Shelf>(
     requires { AreNamesOf names.now spec.now }
     ensures kept { S.texts shelf.new ≡ S.texts shelf.old }
     ensures later { S.faults shelf.old ≤ S.faults shelf.new }
-    ensures asked { IsSettled result → IfSome (S.texts shelf.old) (λ told. AreGroupsAsked told spec.now.relations []
+    ensures asked { IsDetermined result → IfSome (S.texts shelf.old) (λ told. AreGroupsAsked told spec.now.relations []
         (map (λ t. t ∷ []) trees.now) result) }
     ensures fits { IfOk result (All (IsAskedPair spec.now.relations)) }
     ensures read_fault { IsReadFault result → Rose (S.faults shelf.old) (S.faults shelf.new) }

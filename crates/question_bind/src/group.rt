@@ -2,7 +2,7 @@
 
 ghost use Rattle.std.specs.Prelude.{◌≡◌, ◌≤◌, ℕ, List, length, All, IfOk, IfSome};
 ghost use Rattle.currency_edge.specs.Fault.{Rose};
-ghost use Rattle.bind_faults.specs.Faults.{all_of, and_then, IsDue, IsSettled, IsReadFault, IsReadFaultOf};
+ghost use Rattle.bind_faults.specs.Faults.{all_of, and_then, IsDue, IsDetermined, IsReadFault, IsReadFaultOf};
 ghost use Rattle.spec_model.specs.Questions.{IsAskedPair};
 ghost use Rattle.question_bind.specs.Asked.{asked_in};
 ghost use Rattle.question_bind.specs.Bound.{IsTableOf};
@@ -41,7 +41,7 @@ pub fn ask_group<S: Shelf>(
     requires so_far { All (IsAskedPair spec.now.relations) so_far }
     ensures kept { S.texts shelf.new ≡ S.texts shelf.old }
     ensures later { S.faults shelf.old ≤ S.faults shelf.new }
-    ensures asked { IsSettled result → IfSome (S.texts shelf.old) (λ told. IsGroupStep told spec.now.relations so_far
+    ensures asked { IsDetermined result → IfSome (S.texts shelf.old) (λ told. IsGroupStep told spec.now.relations so_far
         group.now result) }
     ensures fits { IfOk result (All (IsAskedPair spec.now.relations)) }
     ensures read_fault { IsReadFault result → Rose (S.faults shelf.old) (S.faults shelf.new) }

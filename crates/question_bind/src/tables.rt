@@ -2,7 +2,7 @@
 
 ghost use Rattle.std.specs.Prelude.{◌≡◌, ◌≤◌, ℕ, List, length, IfOk, IfSome};
 ghost use Rattle.currency_edge.specs.Fault.{Rose};
-ghost use Rattle.bind_faults.specs.Faults.{IsSettled, IsReadFault, IsReadFaultOf};
+ghost use Rattle.bind_faults.specs.Faults.{IsDetermined, IsReadFault, IsReadFaultOf};
 ghost use Rattle.question_bind.specs.Asked.{IsRead, AreRead};
 ghost use Rattle.question_bind.specs.Steps.{HasTable, IsItsTable};
 
@@ -24,7 +24,7 @@ pub fn tables_of<S: Shelf>(
 ) -> Result<TableList, BindFault>
     ensures kept { S.texts shelf.new ≡ S.texts shelf.old }
     ensures later { S.faults shelf.old ≤ S.faults shelf.new }
-    ensures read { IsSettled result → IfSome (S.texts shelf.old) (λ told. AreRead told trees.now result) }
+    ensures read { IsDetermined result → IfSome (S.texts shelf.old) (λ told. AreRead told trees.now result) }
     ensures count { IfOk result (λ tables. length tables ≡ length trees.now) }
     ensures read_fault { IsReadFault result → Rose (S.faults shelf.old) (S.faults shelf.new) }
     ensures table { (name : List ℕ) → IsReadFaultOf result name → HasTable trees.now name }
@@ -51,7 +51,7 @@ fn table_of<S: Shelf>(
 ) -> Result<TupleList, BindFault>
     ensures kept { S.texts shelf.new ≡ S.texts shelf.old }
     ensures later { S.faults shelf.old ≤ S.faults shelf.new }
-    ensures read { IsSettled result → IfSome (S.texts shelf.old) (λ told. IsRead told tree.now result) }
+    ensures read { IsDetermined result → IfSome (S.texts shelf.old) (λ told. IsRead told tree.now result) }
     ensures read_fault { IsReadFault result → Rose (S.faults shelf.old) (S.faults shelf.new) }
     ensures table { (name : List ℕ) → IsReadFaultOf result name → IsItsTable tree.now name }
 {

@@ -2,8 +2,8 @@
 use Rattle.std.proofs.Common.{◌≡◌, ℕ, List, Option, Some, None, Result, Ok, Err, IfSome, inl, inr, sym, subst, refl}
 use Rattle.table_rows.specs.declared.rows.TableRows.{TableRows}
 use Rattle.spec_model.specs.declared.relation.Relation.{Relation}
-use Rattle.bind_faults.specs.Faults.{and_then, IsSettled, IsReadFaultOf}
-use Rattle.bind_faults.proofs.Outcomes.{read_fault_of, same_read_fault_of, settled_fault}
+use Rattle.bind_faults.specs.Faults.{and_then, IsDetermined, IsReadFaultOf}
+use Rattle.bind_faults.proofs.Outcomes.{determined_fault, read_fault_of, same_read_fault_of}
 use Rattle.bind_faults.specs.declared.fault.BindFault.{BindFault}
 use Rattle.relation_bind.specs.Declarations.{Declared}
 use Rattle.relation_bind.specs.Relations.{IsTable, IsDeclared, IsTableOf, relation_of}
@@ -12,10 +12,10 @@ use Rattle.relation_bind.proofs.Heads.{head_reads}
 
 -- a declaration that takes a name that is taken
 refused_head : (told : List (List ℕ × List ℕ)) (taken : List (List ℕ)) (d : Declared) (fault : BindFault)
-    → ChecksHead taken d (Err fault) → IsSettled {A = Relation} (Err fault) → IsDeclared told taken d (Err fault)
-refused_head told taken d fault (inl memory) settled =
-    absurd (subst (λ (f : BindFault). IsSettled {A = Relation} (Err f)) memory settled)
-refused_head told taken d fault (inr head) settled = rw head
+    → ChecksHead taken d (Err fault) → IsDetermined {A = Relation} (Err fault) → IsDeclared told taken d (Err fault)
+refused_head told taken d fault (inl memory) determined =
+    absurd (subst (λ (f : BindFault). IsDetermined {A = Relation} (Err f)) memory determined)
+refused_head told taken d fault (inr head) determined = rw head
 
 -- a declaration whose table is read
 read_table : (told : List (List ℕ × List ℕ)) (taken : List (List ℕ)) (d : Declared) (names : List (List ℕ))
@@ -25,21 +25,22 @@ read_table told taken d names table head reads = rw head.0 (table, reads, refl)
 
 pub head_refused : (texts : Option (List (List ℕ × List ℕ))) (taken : List (List ℕ)) (d : Declared)
     (fault : BindFault) (result : Result Relation BindFault)
-    → ChecksHead taken d (Err fault) → result ≡ Err fault → IsSettled result → IfSome texts
+    → ChecksHead taken d (Err fault) → result ≡ Err fault → IsDetermined result → IfSome texts
     (λ told. IsDeclared told taken d result)
-head_refused None taken d fault result head is settled = tt
-head_refused (Some told) taken d fault result head is settled =
+head_refused None taken d fault result head is determined = tt
+head_refused (Some told) taken d fault result head is determined =
     subst (λ (r : Result Relation BindFault). IsDeclared told taken d r) (sym is)
-    (refused_head told taken d fault head (subst IsSettled is settled))
+    (refused_head told taken d fault head (subst IsDetermined is determined))
 
 pub table_refused : (texts : Option (List (List ℕ × List ℕ))) (taken : List (List ℕ)) (d : Declared)
     (names : List (List ℕ)) (fault : BindFault) (result : Result Relation BindFault)
-    → ChecksHead taken d (Ok names) → (IsSettled {A = TableRows} (Err fault) → IfSome texts (λ told. IsTable told d (Err fault)))
-    → result ≡ Err fault → IsSettled result → IfSome texts (λ told. IsDeclared told taken d result)
-table_refused None taken d names fault result head reads is settled = tt
-table_refused (Some told) taken d names fault result head reads is settled =
+    → ChecksHead taken d (Ok names)
+    → (IsDetermined {A = TableRows} (Err fault) → IfSome texts (λ told. IsTable told d (Err fault)))
+    → result ≡ Err fault → IsDetermined result → IfSome texts (λ told. IsDeclared told taken d result)
+table_refused None taken d names fault result head reads is determined = tt
+table_refused (Some told) taken d names fault result head reads is determined =
     subst (λ (r : Result Relation BindFault). IsDeclared told taken d r) (sym is)
-    (read_table told taken d names (Err fault) head (reads (settled_fault Relation TableRows fault (subst IsSettled is settled))))
+    (read_table told taken d names (Err fault) head (reads (determined_fault Relation TableRows fault (subst IsDetermined is determined))))
 
 pub relation_read : (texts : Option (List (List ℕ × List ℕ))) (taken : List (List ℕ)) (d : Declared)
     (names : List (List ℕ)) (table : TableRows) (made : Relation)

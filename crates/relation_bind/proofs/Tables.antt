@@ -10,15 +10,16 @@ use Rattle.spec_syntax.specs.declared.trees.AttrTree.{AttrTree}
 use Rattle.text_grammar.specs.declared.named.Named.{Named}
 use Rattle.table_bind.specs.Columns.{text_column}
 use Rattle.table_bind.specs.Tuples.{AreTuples}
-use Rattle.table_rows.specs.Rows.{attribute_values, entities_of, first_repeat, row_names_of, row_of, rows_from, rows_of, told_rows}
+use Rattle.table_rows.specs.Rows.{attribute_values, entities_of, first_repeat, row_names_of, row_of, rows_from, rows_of}
+use Rattle.table_rows.specs.Rows.{rows_or_repeat}
 use Rattle.table_rows.specs.declared.rows.TableRows.{TableRows}
 use Rattle.table_rows.specs.declared.rows.RowFault.{RowFault}
 use Rattle.table_rows.specs.declared.rows.RowFault.TheVariants as rows
 use Rattle.relation_bind.specs.Declarations.{Declared}
 use Rattle.relation_bind.specs.Relations.{attr_column, columns_of, kinds_declared, kinds_of_columns, row_columns, rows_or_refusal, rows_read, IsTable}
 use Rattle.relation_bind.specs.Steps.{HaveKinds, RowsHaveKinds}
-use Rattle.bind_faults.specs.Faults.{refused_in, IsSettled, IsReadFault, IsReadFaultOf}
-use Rattle.bind_faults.proofs.Outcomes.{read_fault_of, settled_fault}
+use Rattle.bind_faults.specs.Faults.{refused_in, IsDetermined, IsReadFault, IsReadFaultOf}
+use Rattle.bind_faults.proofs.Outcomes.{determined_fault, read_fault_of}
 use Rattle.bind_faults.specs.declared.fault.BindFault.{BindFault}
 use Rattle.bind_faults.specs.declared.fault.BindFault.TheVariants.{NoMemory}
 
@@ -78,7 +79,7 @@ attribute_kinds (Some named) entity attrs tuple is =
     after_two (text_column named.name) (text_column entity) (map attr_column attrs) tuple is ∙ kinds_of_attrs attrs
 
 told_rows_are : (named : Bool) (tuples : List (List Value)) (repeated : Option ℕ) (t : TableRows)
-    → told_rows named tuples repeated ≡ Ok t → t.rows ≡ rows_of named tuples
+    → rows_or_repeat named tuples repeated ≡ Ok t → t.rows ≡ rows_of named tuples
 told_rows_are named tuples None t is = cc
 told_rows_are named tuples (Some place) t is = cc
 
@@ -108,17 +109,17 @@ due_values d tuples t kinds (inr is) = values_read d tuples t kinds (sym is)
 rows_told : (told : List (List ℕ × List ℕ)) (d : Declared) (name : List ℕ) (columns : List Column)
     (tuples : List (List Value)) (result : Result TableRows BindFault)
     → name ≡ d.document.name → columns ≡ columns_of d → AreTuples told name columns (Ok tuples)
-    → (result ≡ Err NoMemory) ⊎ (result ≡ rows_read d tuples) → IsSettled result → IsTable told d result
-rows_told told d name columns tuples result named are read (inl memory) settled = absurd (subst IsSettled memory settled)
-rows_told told d name columns tuples result named are read (inr is) settled = (Ok tuples, rw (named, are) at read, is)
+    → (result ≡ Err NoMemory) ⊎ (result ≡ rows_read d tuples) → IsDetermined result → IsTable told d result
+rows_told told d name columns tuples result named are read (inl memory) determined = absurd (subst IsDetermined memory determined)
+rows_told told d name columns tuples result named are read (inr is) determined = (Ok tuples, rw (named, are) at read, is)
 
 pub table_read : (texts : Option (List (List ℕ × List ℕ))) (d : Declared) (name : List ℕ) (columns : List Column)
     (tuples : List (List Value)) (result : Result TableRows BindFault)
     → name ≡ d.document.name → columns ≡ columns_of d → IfSome texts (λ told. AreTuples told name columns (Ok tuples))
-    → (result ≡ Err NoMemory) ⊎ (result ≡ rows_read d tuples) → IsSettled result → IfSome texts (λ told. IsTable told d result)
-table_read None d name columns tuples result named are read exact settled = tt
-table_read (Some told) d name columns tuples result named are read exact settled = rows_told told d name columns
-    tuples result named are read exact settled
+    → (result ≡ Err NoMemory) ⊎ (result ≡ rows_read d tuples) → IsDetermined result → IfSome texts (λ told. IsTable told d result)
+table_read None d name columns tuples result named are read exact determined = tt
+table_read (Some told) d name columns tuples result named are read exact determined = rows_told told d name columns
+    tuples result named are read exact determined
 
 -- a table that is not read
 fault_told : (told : List (List ℕ × List ℕ)) (d : Declared) (name : List ℕ) (columns : List Column) (fault : BindFault)
@@ -127,13 +128,13 @@ fault_told told d name columns fault named are read = (Err fault, rw (named, are
 
 pub table_not_read : (texts : Option (List (List ℕ × List ℕ))) (d : Declared) (name : List ℕ) (columns : List Column)
     (fault : BindFault) (result : Result TableRows BindFault)
-    → name ≡ d.document.name → columns ≡ columns_of d → (IsSettled {A = List (List Value)} (Err fault) → IfSome texts
+    → name ≡ d.document.name → columns ≡ columns_of d → (IsDetermined {A = List (List Value)} (Err fault) → IfSome texts
     (λ told. AreTuples told name columns (Err fault)))
-    → result ≡ Err fault → IsSettled result → IfSome texts (λ told. IsTable told d result)
-table_not_read None d name columns fault result named are read e settled = tt
-table_not_read (Some told) d name columns fault result named are read e settled =
+    → result ≡ Err fault → IsDetermined result → IfSome texts (λ told. IsTable told d result)
+table_not_read None d name columns fault result named are read e determined = tt
+table_not_read (Some told) d name columns fault result named are read e determined =
     rw e (fault_told told d name columns fault named are
-    (read (settled_fault TableRows (List (List Value)) fault (subst (IsSettled {A = TableRows}) e settled))))
+    (read (determined_fault TableRows (List (List Value)) fault (subst (IsDetermined {A = TableRows}) e determined))))
 
 -- reading rows makes no read fault
 or_refusal_reads : (d : Declared) (due : Result TableRows RowFault) → IsReadFault (rows_or_refusal d due) → ⊥

@@ -3,7 +3,7 @@ use Rattle.std.specs.Prelude.{◌≡◌, ℕ, Bool, true, false, List, [], ◌�
 use Rattle.std.specs.List.{list_any}
 use Rattle.std.specs.Str.{bytes_eq}
 use Rattle.currency_base.specs.declared.error_code.ErrorCode.TheVariants as code
-use Rattle.currency_base.specs.declared.value.Kind.{Kind}
+use Rattle.currency_base.specs.declared.value.ValueKind.{ValueKind}
 use Rattle.currency_base.specs.declared.value.Value.{Value}
 use Rattle.currency_csv.specs.declared.table.Column.{Column}
 use Rattle.table_bind.specs.Columns.{column_of, text_column}
@@ -36,11 +36,11 @@ abbrev pub columns_of : Declared → List Column
 columns_of d = row_columns d.row ++ text_column d.entity.name ∷ map attr_column d.attrs
 
 -- the kinds of the values of a declaration's tuples
-abbrev pub kinds_of_columns : Declared → List Kind
+abbrev pub kinds_of_columns : Declared → List ValueKind
 kinds_of_columns d = map (λ c. c.kind) (columns_of d)
 
 -- the kinds of the declared attributes
-abbrev pub kinds_declared : Declared → List Kind
+abbrev pub kinds_declared : Declared → List ValueKind
 kinds_declared d = map (λ a. a.kind) d.attrs
 
 -- the attribute that is declared

@@ -3,7 +3,7 @@ use Rattle.std.specs.Prelude.{◌≡◌, ◌⊎◌, ℕ, List, [], map, All, Som
 use Rattle.currency_base.specs.Values.{kind_of}
 use Rattle.currency_base.specs.declared.error_code.ErrorCode.TheVariants.{DuplicateName}
 use Rattle.currency_base.specs.declared.row.Row.{Row}
-use Rattle.currency_base.specs.declared.value.Kind.{Kind}
+use Rattle.currency_base.specs.declared.value.ValueKind.{ValueKind}
 use Rattle.currency_base.specs.declared.value.Value.{Value}
 use Rattle.spec_syntax.specs.declared.trees.AttrTree.{AttrTree}
 use Rattle.text_grammar.specs.declared.named.Named.{Named}
@@ -31,9 +31,9 @@ ChecksHead taken d result = MatchResult result
     (λ fault. (fault ≡ NoMemory) ⊎ (head_fault taken d ≡ Some fault))
 
 -- each tuple has a value of each of these kinds
-abbrev pub HaveKinds : List Kind → List (List Value) → Type 0
+abbrev pub HaveKinds : List ValueKind → List (List Value) → Type 0
 HaveKinds kinds tuples = All (λ tuple. map kind_of tuple ≡ kinds) tuples
 
 -- each row has
-abbrev pub RowsHaveKinds : List Kind → List Row → Type 0
+abbrev pub RowsHaveKinds : List ValueKind → List Row → Type 0
 RowsHaveKinds kinds rows = All (λ row. map kind_of row.values ≡ kinds) rows

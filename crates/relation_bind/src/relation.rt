@@ -1,7 +1,7 @@
 ghost use Rattle.std.specs.Prelude.{◌≡◌, ◌≤◌, ℕ, List, [], None, map, Contains, IfOk, IfSome};
 ghost use Rattle.currency_edge.specs.Fault.{Rose};
 ghost use Rattle.table_rows.specs.Rows.{AreRows};
-ghost use Rattle.bind_faults.specs.Faults.{IsSettled, IsReadFault, IsReadFaultOf};
+ghost use Rattle.bind_faults.specs.Faults.{IsDetermined, IsReadFault, IsReadFaultOf};
 ghost use Rattle.relation_bind.specs.Relations.{attr_of, kinds_declared, relation_of, IsDeclared, IsTableOf};
 ghost use Rattle.relation_bind.specs.Steps.{names_of_attrs, RowsHaveKinds};
 
@@ -32,7 +32,7 @@ pub fn bind_relation<S: Shelf>(
 ) -> Result<NamedRelation, BindFault>
     ensures kept { S.texts shelf.new ≡ S.texts shelf.old }
     ensures later { S.faults shelf.old ≤ S.faults shelf.new }
-    ensures declared { IsSettled result
+    ensures declared { IsDetermined result
         → IfSome (S.texts shelf.old) (λ told. IsDeclared told taken.now declaration.now result) }
     ensures fresh { IfOk result (λ r. Contains taken.now r.name → ⊥) }
     ensures read_fault { IsReadFault result → Rose (S.faults shelf.old) (S.faults shelf.new) }

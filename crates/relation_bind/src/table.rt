@@ -3,13 +3,13 @@
 ghost use Rattle.std.specs.Prelude.{◌≡◌, ◌⊎◌, ◌≤◌, ℕ, List, Err, IfOk, IfSome};
 ghost use Rattle.currency_edge.specs.Fault.{Rose};
 ghost use Rattle.table_rows.specs.Rows.{AreRows};
-ghost use Rattle.bind_faults.specs.Faults.{IsSettled, IsReadFault, IsReadFaultOf};
+ghost use Rattle.bind_faults.specs.Faults.{IsDetermined, IsReadFault, IsReadFaultOf};
 ghost use Rattle.relation_bind.specs.Relations.{columns_of, kinds_of_columns, kinds_declared, rows_read, IsTable};
 ghost use Rattle.relation_bind.specs.Steps.{HaveKinds, RowsHaveKinds};
 
 use crate::declaration::Declaration;
 use bind_faults::BindFault;
-use currency_base::{ErrorCode, Kind, NoMemory, TupleList};
+use currency_base::{ErrorCode, NoMemory, TupleList, ValueKind};
 use currency_edge::Shelf;
 use std::alloc::Global;
 use table_bind::{ColumnList, column, read_tuples, refused_in};
@@ -23,7 +23,7 @@ pub fn read_rows<S: Shelf>(
 ) -> Result<TableRows, BindFault>
     ensures kept { S.texts shelf.new ≡ S.texts shelf.old }
     ensures later { S.faults shelf.old ≤ S.faults shelf.new }
-    ensures table { IsSettled result
+    ensures table { IsDetermined result
         → IfSome (S.texts shelf.old) (λ told. IsTable told declaration.now result) }
     ensures facts { IfOk result AreRows }
     ensures values { IfOk result (λ t. RowsHaveKinds (kinds_declared declaration.now) t.rows) }
@@ -64,9 +64,9 @@ fn columns(alloc: Global, declaration: &Declaration) -> Result<ColumnList, NoMem
 {
     let mut columns = ColumnList::new(alloc);
     if let Some(row) = declaration.row {
-        columns.push(column(alloc, &row.name, Kind::Text)?)?;
+        columns.push(column(alloc, &row.name, ValueKind::Text)?)?;
     }
-    columns.push(column(alloc, &declaration.entity.name, Kind::Text)?)?;
+    columns.push(column(alloc, &declaration.entity.name, ValueKind::Text)?)?;
     for attr in declaration.attrs.as_slice() {
         columns.push(column(alloc, &attr.name.name, attr.kind)?)?;
     }

@@ -1,12 +1,12 @@
 -- The kinds of verdicts, and the items that a verdict lists.
 use Rattle.std.specs.Prelude.{ℕ, Bool, true, false, List, length, codes}
-use Rattle.report_model.specs.declared.verdict.Kind.{Kind}
-use Rattle.report_model.specs.declared.verdict.Kind.TheVariants as kind
+use Rattle.report_model.specs.declared.verdict.VerdictKind.{VerdictKind}
+use Rattle.report_model.specs.declared.verdict.VerdictKind.TheVariants as kind
 use Rattle.report_model.specs.declared.verdict.Verdict.{Verdict}
 use Rattle.report_model.specs.declared.verdict.Verdict.TheVariants.{Inconsistent, Consistent, Certain, NotCertain, Same, NotSame, Answers, Undecided}
 
 -- the kind of a verdict
-abbrev pub kind_of : Verdict → Kind
+abbrev pub kind_of : Verdict → VerdictKind
 kind_of Inconsistent = kind.Inconsistent
 kind_of Consistent = kind.Consistent
 kind_of Certain = kind.Certain
@@ -17,7 +17,7 @@ kind_of (Answers tuples) = kind.Answers
 kind_of (Undecided counted) = kind.Undecided
 
 -- the words of a kind
-abbrev pub kind_text : Kind → List ℕ
+abbrev pub kind_text : VerdictKind → List ℕ
 kind_text kind.Inconsistent = codes "inconsistent"
 kind_text kind.Consistent = codes "consistent"
 kind_text kind.Certain = codes "certain"
@@ -28,7 +28,7 @@ kind_text kind.Answers = codes "answers"
 kind_text kind.Undecided = codes "undecided"
 
 -- something is claimed: all verdicts but `undecided`
-abbrev pub is_decided : Kind → Bool
+abbrev pub is_decided : VerdictKind → Bool
 is_decided kind.Undecided = false
 is_decided other = true
 

@@ -5,4 +5,4 @@ mod report;
 mod verdict;
 
 pub use report::{CompletionList, Part, Report};
-pub use verdict::{Current, CurrentList, Kind, Verdict};
+pub use verdict::{Current, CurrentList, Verdict, VerdictKind};

@@ -42,7 +42,7 @@ pub enum Verdict {
 
 /// The kind of a verdict.
 #[derive(Clone, Copy, PartialEq, Eq)]
-pub enum Kind {
+pub enum VerdictKind {
     Inconsistent,
     Consistent,
     Certain,
@@ -55,36 +55,36 @@ pub enum Kind {
 
 impl Verdict {
     /// The kind of the verdict.
-    pub fn kind(&self) -> Kind
+    pub fn kind(&self) -> VerdictKind
         ensures { result ≡ kind_of self.now }
     {
         match self {
-            Verdict::Inconsistent => Kind::Inconsistent,
-            Verdict::Consistent => Kind::Consistent,
-            Verdict::Certain => Kind::Certain,
-            Verdict::NotCertain(_) => Kind::NotCertain,
-            Verdict::Same(_) => Kind::Same,
-            Verdict::NotSame { .. } => Kind::NotSame,
-            Verdict::Answers(_) => Kind::Answers,
-            Verdict::Undecided(_) => Kind::Undecided,
+            Verdict::Inconsistent => VerdictKind::Inconsistent,
+            Verdict::Consistent => VerdictKind::Consistent,
+            Verdict::Certain => VerdictKind::Certain,
+            Verdict::NotCertain(_) => VerdictKind::NotCertain,
+            Verdict::Same(_) => VerdictKind::Same,
+            Verdict::NotSame { .. } => VerdictKind::NotSame,
+            Verdict::Answers(_) => VerdictKind::Answers,
+            Verdict::Undecided(_) => VerdictKind::Undecided,
         }
     }
 }
 
-impl Kind {
+impl VerdictKind {
     /// The words of the kind, as reports and the program write them.
     pub fn text(&self) -> &'static str
         ensures { result.now ≡ kind_text self.now }
     {
         match self {
-            Kind::Inconsistent => "inconsistent",
-            Kind::Consistent => "consistent",
-            Kind::Certain => "certain",
-            Kind::NotCertain => "not certain",
-            Kind::Same => "same",
-            Kind::NotSame => "not same",
-            Kind::Answers => "answers",
-            Kind::Undecided => "undecided",
+            VerdictKind::Inconsistent => "inconsistent",
+            VerdictKind::Consistent => "consistent",
+            VerdictKind::Certain => "certain",
+            VerdictKind::NotCertain => "not certain",
+            VerdictKind::Same => "same",
+            VerdictKind::NotSame => "not same",
+            VerdictKind::Answers => "answers",
+            VerdictKind::Undecided => "undecided",
         }
     }
 
@@ -92,6 +92,6 @@ impl Kind {
     pub fn is_decided(&self) -> bool
         ensures { result ≡ is_decided self.now }
     {
-        !matches!(self, Kind::Undecided)
+        !matches!(self, VerdictKind::Undecided)
     }
 }

@@ -3,7 +3,7 @@ mod Unlined
 mod ClaimTrees
 mod Ranked
 mod Later
-mod Told
+mod Saying
 mod Reread
 mod Likenesses
 mod Names

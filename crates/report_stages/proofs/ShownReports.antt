@@ -4,7 +4,7 @@ use Rattle.command_stages.specs.declared.trouble.Trouble.{Trouble}
 use Rattle.command_stages.specs.declared.trouble.Trouble.TheVariants as trouble
 use Rattle.currency_report.specs.declared.report.ReadReport.{ReadReport}
 use Rattle.report_model.specs.Verdicts.{is_decided, kind_of}
-use Rattle.report_model.specs.declared.verdict.Kind.{Kind}
+use Rattle.report_model.specs.declared.verdict.VerdictKind.{VerdictKind}
 use Rattle.report_verify.specs.Right.{IsRight}
 use Rattle.report_verify.specs.Shown.{ShowsVerdict}
 use Rattle.spec_model.specs.Spec.{Spec}
@@ -14,7 +14,7 @@ use Rattle.report_stages.specs.Shown.{IsReportShown}
 
 -- the report and the job together
 pub report_shown : (texts : Option (List (List ℕ × List ℕ))) (s : Spec) (q : Question) (name : List ℕ)
-    (read : ReadReport) (r : Result Kind Trouble)
+    (read : ReadReport) (r : Result VerdictKind Trouble)
     → IfSome texts (λ told. IsReportRead told s.relations name (Ok read)) → OnOk r (ShowsVerdict s q read.report)
     → IfOk r (λ kind. kind ≡ kind_of read.report.verdict)
     → IfOk r (λ kind. is_decided kind ≡ true → IsRight s q read.report.verdict)

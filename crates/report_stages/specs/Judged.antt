@@ -12,7 +12,7 @@ use Rattle.currency_report.specs.declared.report.ReportFault.{ReportFault}
 use Rattle.currency_report.specs.declared.report.ReportFault.TheVariants as report
 use Rattle.report_model.specs.Verdicts.{kind_of}
 use Rattle.report_model.specs.declared.report.Part.{Part}
-use Rattle.report_model.specs.declared.verdict.Kind.{Kind}
+use Rattle.report_model.specs.declared.verdict.VerdictKind.{VerdictKind}
 use Rattle.report_verify.specs.Shown.{ShowsVerdict, IsFirstUnshown}
 use Rattle.report_verify.specs.declared.fault.Unshown.{Unshown}
 use Rattle.report_verify.specs.declared.fault.Unshown.TheVariants.{BadCompletion, BadLog, NotShown}
@@ -46,7 +46,7 @@ abbrev pub IsReportRead : List (List ℕ × List ℕ) → List Relation → List
 IsReportRead told relations name = IsReportSaid relations name (document told name)
 
 -- the job: the report shows its verdict, whose kind is told, or the first check that it fails, with the line of the part
-abbrev pub IsJudged : Spec → Question → List ℕ → ReadReport → Result Kind Trouble → Type 0
+abbrev pub IsJudged : Spec → Question → List ℕ → ReadReport → Result VerdictKind Trouble → Type 0
 IsJudged s question name r outcome =
     (ShowsVerdict s question r.report × (outcome ≡ Ok (kind_of r.report.verdict)))
     ⊎ ((part : Part) × (why : Unshown) × IsFirstUnshown s question r.report part why

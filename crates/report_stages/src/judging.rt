@@ -10,13 +10,13 @@ ghost use Rattle.spec_model.specs.Questions.{IsQuestionOn};
 ghost use Rattle.report_stages.specs.Shown.{IsReportShown};
 ghost use Rattle.command_stages.specs.Stages.{Then};
 ghost use Rattle.report_stages.specs.Judged.{IsReportSaid, IsReportRead, IsJudged};
-ghost use Rattle.command_stages.specs.Named.{IsSettled, IsReadFault, IsReadFaultOf};
+ghost use Rattle.command_stages.specs.Named.{IsDetermined, IsReadFault, IsReadFaultOf};
 
 use crate::troubles::{of_report, of_unshown};
 use command_stages::{Trouble, read_bytes};
 use currency_edge::Shelf;
 use currency_report::{ReadReport, read_report};
-use report_model::Kind;
+use report_model::VerdictKind;
 use report_verify::{VerifyFault, verify};
 use spec_model::{Question, Specification};
 use std::alloc::Global;
@@ -28,7 +28,7 @@ fn report_said(
     bytes: &[u8],
     spec: &Specification,
 ) -> Result<ReadReport, Trouble>
-    ensures said { IsSettled result → IsReportSaid spec.now.relations name.now bytes.now result }
+    ensures said { IsDetermined result → IsReportSaid spec.now.relations name.now bytes.now result }
     ensures inside { IsReadFault result → ⊥ }
     ensures shape { IfOk result (λ r. All (HasShape spec.now.relations) r.report.completions) }
     ensures few { IfOk result (λ r. length r.report.completions < 2 ^ 32) }
@@ -51,7 +51,7 @@ fn read_the_report<S: Shelf>(
 ) -> Result<ReadReport, Trouble>
     ensures kept { S.texts shelf.new ≡ S.texts shelf.old }
     ensures later { S.faults shelf.old ≤ S.faults shelf.new }
-    ensures stage { IsSettled result → IfSome (S.texts shelf.old) (λ told. IsReportRead told spec.now.relations name.now result) }
+    ensures stage { IsDetermined result → IfSome (S.texts shelf.old) (λ told. IsReportRead told spec.now.relations name.now result) }
     ensures read_fault { IsReadFault result → Rose (S.faults shelf.old) (S.faults shelf.new) }
     ensures shape { IfOk result (λ r. All (HasShape spec.now.relations) r.report.completions) }
     ensures few { IfOk result (λ r. length r.report.completions < 2 ^ 32) }
@@ -76,7 +76,7 @@ fn judge(
     spec: &Specification,
     question: &Question,
     read: &ReadReport,
-) -> Result<Kind, Trouble>
+) -> Result<VerdictKind, Trouble>
     requires question { IsQuestionOn spec.now.relations question.now }
     requires shape { All (HasShape spec.now.relations) read.now.report.completions }
     requires few { length read.now.report.completions < 2 ^ 32 }
@@ -85,7 +85,7 @@ fn judge(
     ensures kind { IfOk result (λ kind. kind ≡ kind_of read.now.report.verdict) }
     ensures shown { OnOk result (ShowsVerdict spec.now question.now read.now.report) }
     ensures right { IfOk result (λ kind. is_decided kind ≡ true → IsRight spec.now question.now read.now.report.verdict) }
-    ensures job { IsSettled result → IsJudged spec.now question.now name.now read.now result }
+    ensures job { IsDetermined result → IsJudged spec.now question.now name.now read.now result }
     ensures inside { IsReadFault result → ⊥ }
     ensures not_words { IfErr result (λ e. e ≢ Trouble.Words) }
 {
@@ -105,10 +105,10 @@ pub fn judge_document<S: Shelf>(
     name: &str,
     spec: &Specification,
     question: &Question,
-) -> Result<Kind, Trouble>
+) -> Result<VerdictKind, Trouble>
     requires question { IsQuestionOn spec.now.relations question.now }
     ensures later { S.faults shelf.old ≤ S.faults shelf.new }
-    ensures due { IsSettled result → IfSome (S.texts shelf.old) (λ told.
+    ensures due { IsDetermined result → IfSome (S.texts shelf.old) (λ told.
         Then (IsReportRead told spec.now.relations name.now) (IsJudged spec.now question.now name.now) result) }
     ensures right { IfOk result (λ kind. IfSome (S.texts shelf.old) (λ told. IsReportShown told spec.now question.now
         name.now kind)) }

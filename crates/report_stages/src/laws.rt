@@ -1,7 +1,7 @@
 ghost use Rattle.std.specs.Prelude.{◌≡◌, ℕ, List, Result};
 ghost use Rattle.command_stages.specs.declared.trouble.Trouble.{Trouble};
 ghost use Rattle.currency_report.specs.declared.report.ReadReport.{ReadReport};
-ghost use Rattle.report_model.specs.declared.verdict.Kind.{Kind};
+ghost use Rattle.report_model.specs.declared.verdict.VerdictKind.{VerdictKind};
 ghost use Rattle.report_stages.specs.Judged.{IsReportRead, IsJudged};
 ghost use Rattle.spec_model.specs.Spec.{Spec};
 ghost use Rattle.spec_model.specs.declared.question.Question.{Question};
@@ -15,7 +15,7 @@ pub fn one_judgement()
     ensures reports { (told : List (List ℕ × List ℕ)) (relations : List Relation) (name : List ℕ)
         (a b : Result ReadReport Trouble)
         → IsReportRead told relations name a → IsReportRead told relations name b → a ≡ b }
-    ensures judged { (s : Spec) (question : Question) (name : List ℕ) (r : ReadReport) (a b : Result Kind Trouble)
+    ensures judged { (s : Spec) (question : Question) (name : List ℕ) (r : ReadReport) (a b : Result VerdictKind Trouble)
         → IsJudged s question name r a → IsJudged s question name r b → a ≡ b }
 {
     one_report();

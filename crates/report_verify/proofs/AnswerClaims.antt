@@ -92,7 +92,7 @@ module _ (laws : AnswerLaws) (s : Spec) (facts : IsSpecification s) (log : Log) 
   clauses_hold query accepted c consistent =
       let own = laws.exist s.relations facts.relations.each c consistent.completion in
       laws.steps (λ place. true) s facts c consistent query log
-      record { instance = own.0; is_current = own.1; told = λ q place tuple asked named is. refl } accepted
+      record { instance = own.0; is_current = own.1; complete = λ q place tuple asked named is. refl } accepted
 
   module _ (query : Query) (is_query : IsQuery query) (accepted : IsAccepted s (Some query) log) where
     abbrev At : Rankings → ℕ → Type 0
@@ -131,7 +131,7 @@ module _ (laws : AnswerLaws) (s : Spec) (facts : IsSpecification s) (log : Log) 
             record {
               instance = own.0;
               is_current = own.1;
-              told = λ q place t asked named is.
+              complete = λ q place t asked named is.
                   passes (decided_at c consistent place)
                   record {
                     tuple = t;

@@ -66,7 +66,7 @@ module _ (relations : List Relation) (rel : RelId) (attr : AttrId) (ent : EntId)
 
   -- ---- a place that is not there
 
-  no_list : (c : Rankings) (r : Relation) → HasShape relations c → slice_get relations rel.0 ≡ Some r
+  pub no_list : (c : Rankings) (r : Relation) → HasShape relations c → slice_get relations rel.0 ≡ Some r
       → (IsPlaceOf relations rel.0 attr.0 ent.0 → ⊥) → ranking_of c rel.0 attr.0 ent.0 ≡ []
   no_list c r shape at missing =
       ⊎_elim
@@ -83,7 +83,7 @@ module _ (relations : List Relation) (rel : RelId) (attr : AttrId) (ent : EntId)
       ap (λ ls. slice_index_or ls ent.0 []) (get_or_past (slice_index_or c rel.0 []) attr.0 [] (omega arith)))
       (cases_lt attr.0 (length r.attrs))
 
-  no_value : (c : Rankings) (r : Relation) → HasShape relations c → slice_get relations rel.0 ≡ Some r
+  pub no_value : (c : Rankings) (r : Relation) → HasShape relations c → slice_get relations rel.0 ≡ Some r
       → (IsPlaceOf relations rel.0 attr.0 ent.0 → ⊥) → current_value c rel.0 r.rows attr.0 ent.0 ≡ None
   no_value c r shape at missing = ap (λ list. field_value r.rows (last_row list) attr.0) (no_list c r shape at missing)
 

@@ -2,7 +2,7 @@ mod AnswerClaims
 mod Claimed
 mod Claims
 mod Counting
-mod Differing
+pub mod Differing
 mod FirstUnshown
 mod Firsts
 mod Fronts

@@ -7,8 +7,8 @@ use Rattle.std.proofs.lemmas.List.Quantifiers.{position-Some}
 use Rattle.std.proofs.lemmas.Option.{slice_get_cases}
 use Rattle.currency_base.specs.Values.{kind_of}
 use Rattle.currency_base.specs.declared.error_code.ErrorCode.TheVariants.{UnknownName}
-use Rattle.currency_base.specs.declared.value.Kind.{Kind}
-use Rattle.currency_base.specs.declared.value.Kind.TheVariants.{Text, Int}
+use Rattle.currency_base.specs.declared.value.ValueKind.{ValueKind}
+use Rattle.currency_base.specs.declared.value.ValueKind.TheVariants.{Text, Int}
 use Rattle.text_grammar.specs.declared.named.Named.{Named}
 use Rattle.rule_syntax.specs.declared.trees.RuleTree.{RuleTree}
 use Rattle.rule_syntax.specs.declared.trees.PredicateTree.{PredicateTree}
@@ -56,7 +56,8 @@ named_within : (names : List (List ℕ)) (named : Named) (k n : ℕ) → length 
 named_within names named k n few is = omega (arith, (position-Some _ names k [] (named_at names named k is)).0)
 
 -- an order atom fits
-atom_fits : (vars attrs : List (List ℕ)) (n : ℕ) (kinds : List Kind) (tree : OrderAtomTree) (atom : OrderAtom) → length vars ≤ n
+atom_fits : (vars attrs : List (List ℕ)) (n : ℕ) (kinds : List ValueKind) (tree : OrderAtomTree) (atom : OrderAtom)
+    → length vars ≤ n
     → length attrs ≤ length kinds → atom_of vars attrs tree ≡ Ok atom → IsAtom n kinds atom
 atom_fits vars attrs n kinds tree atom few as_many is =
     let a = and_then_ok _ _ atom is in
@@ -70,13 +71,14 @@ atom_fits vars attrs n kinds tree atom few as_many is =
     })
 
 -- an operand that fits, and is of its term's kind
-record IsFitting (n : ℕ) (kinds : List Kind) (term_is : Option Kind) (operand : Operand) : Type 0 where
+record IsFitting (n : ℕ) (kinds : List ValueKind) (term_is : Option ValueKind) (operand : Operand) : Type 0 where
   pub is_operand : IsOperand n operand
-  pub kind : Kind
+  pub kind : ValueKind
   pub has_kind : operand_kind kinds operand ≡ Some kind
   pub same_kind : term_is ≡ Some kind
 
-field_fits : (vars attrs : List (List ℕ)) (n : ℕ) (kinds : List Kind) (var attr : Named) (operand : Operand) → length vars ≤ n
+field_fits : (vars attrs : List (List ℕ)) (n : ℕ) (kinds : List ValueKind) (var attr : Named) (operand : Operand)
+    → length vars ≤ n
     → length attrs ≤ length kinds → field_of vars attrs var attr ≡ Ok operand
     → IsFitting n kinds (kind_at kinds (place_of attrs attr.name)) operand
 field_fits vars attrs n kinds var attr operand few as_many is =
@@ -95,7 +97,8 @@ field_fits vars attrs n kinds var attr operand few as_many is =
       | inr past ↦ absurd (omega arith)
     ])
 
-operand_fits : (vars attrs : List (List ℕ)) (n : ℕ) (kinds : List Kind) (tree : TermTree) (operand : Operand) → length vars ≤ n
+operand_fits : (vars attrs : List (List ℕ)) (n : ℕ) (kinds : List ValueKind) (tree : TermTree) (operand : Operand)
+    → length vars ≤ n
     → length attrs ≤ length kinds → operand_of vars attrs tree ≡ Ok operand → IsFitting n kinds
     (term_kind attrs kinds tree) operand
 operand_fits vars attrs n kinds (term_tree.Field var attr) operand few as_many is = field_fits vars attrs n kinds var
@@ -106,7 +109,7 @@ operand_fits vars attrs n kinds (term_tree.Constant constant) operand few as_man
     (record { is_operand = tt; kind = kind_of constant.value; has_kind = refl; same_kind = refl })
 
 -- kinds that do not differ are one
-one_kind : (a b : Kind) → differ (Some a) (Some b) ≡ false → a ≡ b
+one_kind : (a b : ValueKind) → differ (Some a) (Some b) ≡ false → a ≡ b
 one_kind Text Text is = refl
 one_kind Text Int is = absurd (cc)
 one_kind Int Text is = absurd (cc)
@@ -117,7 +120,7 @@ if_none true fault is = absurd (cc)
 if_none false fault is = refl
 
 -- a predicate fits, where it does not compare two kinds
-predicate_fits : (vars attrs : List (List ℕ)) (n : ℕ) (kinds : List Kind) (tree : PredicateTree)
+predicate_fits : (vars attrs : List (List ℕ)) (n : ℕ) (kinds : List ValueKind) (tree : PredicateTree)
     (predicate : Predicate) → length vars ≤ n
     → length attrs ≤ length kinds → predicate_of vars attrs tree ≡ Ok predicate → mismatch attrs kinds tree ≡ None
     → IsPredicate n kinds predicate
@@ -147,7 +150,7 @@ neither None b is = (refl, is)
 neither (Some fault) b is = absurd (cc)
 
 -- all predicates fit, where none of them compares two kinds
-predicates_fit : (vars attrs : List (List ℕ)) (n : ℕ) (kinds : List Kind) (trees : List PredicateTree)
+predicates_fit : (vars attrs : List (List ℕ)) (n : ℕ) (kinds : List ValueKind) (trees : List PredicateTree)
     (predicates : List Predicate)
     → length vars ≤ n → length attrs ≤ length kinds → all_of (predicate_of vars attrs) trees ≡ Ok predicates
     → first_of (mismatch attrs kinds) trees ≡ None → All (IsPredicate n kinds) predicates
@@ -164,7 +167,7 @@ predicates_fit vars attrs n kinds (tree ∷ trees) predicates few as_many is fin
     (predicates_fit vars attrs n kinds trees b.0 few as_many b.1 both.1))
 
 -- a conclusion fits
-conclusion_fits : (vars attrs : List (List ℕ)) (n : ℕ) (kinds : List Kind) (tree : ConclusionTree)
+conclusion_fits : (vars attrs : List (List ℕ)) (n : ℕ) (kinds : List ValueKind) (tree : ConclusionTree)
     (made : Conclusion) → length vars ≤ n
     → length attrs ≤ length kinds → conclusion_of vars attrs tree ≡ Ok made → IsConclusion n kinds made
 conclusion_fits vars attrs n kinds conclusion_tree.Never made few as_many is =

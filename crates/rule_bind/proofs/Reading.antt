@@ -1,7 +1,7 @@
 -- A rule reads nothing.
 use Rattle.std.proofs.Common.{ℕ, Bool, true, false, List, [], ◌∷◌, map, Option, Some, None, option_map, Result, Ok, Err, slice_get, if◌then◌else◌}
 use Rattle.currency_base.specs.declared.error_code.ErrorCode.TheVariants.{UnknownName, DuplicateName}
-use Rattle.currency_base.specs.declared.value.Kind.{Kind}
+use Rattle.currency_base.specs.declared.value.ValueKind.{ValueKind}
 use Rattle.text_grammar.specs.declared.named.Named.{Named}
 use Rattle.rule_syntax.specs.declared.trees.RuleTree.{RuleTree}
 use Rattle.rule_syntax.specs.declared.trees.PredicateTree.{PredicateTree}
@@ -87,7 +87,7 @@ test_refuses : (b : Bool) (fault : BindFault) → (IsReadFault {A = Spec} (Err f
 test_refuses true fault none = none
 test_refuses false fault none = tt
 
-mismatch_refuses : (attrs : List (List ℕ)) (kinds : List Kind) (tree : PredicateTree) → Refuses (mismatch attrs kinds tree)
+mismatch_refuses : (attrs : List (List ℕ)) (kinds : List ValueKind) (tree : PredicateTree) → Refuses (mismatch attrs kinds tree)
 mismatch_refuses attrs kinds (predicate_tree.Order tree) = tt
 mismatch_refuses attrs kinds (predicate_tree.Compare left cmp right) =
     test_refuses (differ (term_kind attrs kinds left) (term_kind attrs kinds right)) _ (λ h. h)

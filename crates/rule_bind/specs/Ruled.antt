@@ -3,8 +3,8 @@
 use Rattle.std.specs.Prelude.{ℕ, Bool, true, false, List, [], ◌∷◌, ◌++◌, length, map, Option, Some, None, option_map, is_some, Result, Ok, Err, if◌then◌else◌, slice_get}
 use Rattle.currency_base.specs.Values.{kind_of}
 use Rattle.currency_base.specs.declared.error_code.ErrorCode.TheVariants.{UnknownName, DuplicateName, Mismatch}
-use Rattle.currency_base.specs.declared.value.Kind.{Kind}
-use Rattle.currency_base.specs.declared.value.Kind.TheVariants.{Text, Int}
+use Rattle.currency_base.specs.declared.value.ValueKind.{ValueKind}
+use Rattle.currency_base.specs.declared.value.ValueKind.TheVariants.{Text, Int}
 use Rattle.text_grammar.specs.declared.named.Named.{Named}
 use Rattle.rule_syntax.specs.declared.trees.RuleTree.{RuleTree}
 use Rattle.rule_syntax.specs.declared.trees.PredicateTree.{PredicateTree}
@@ -81,17 +81,17 @@ repeated before (named ∷ more) = or_else (taken before named) (repeated (with_
 -- ---- terms of two kinds
 
 -- the kind that stands at a place
-abbrev pub kind_at : List Kind → Option ℕ → Option Kind
+abbrev pub kind_at : List ValueKind → Option ℕ → Option ValueKind
 kind_at kinds None = None
 kind_at kinds (Some place) = slice_get kinds place
 
 -- the kind of a term, where its attribute is there
-abbrev pub term_kind : List (List ℕ) → List Kind → TermTree → Option Kind
+abbrev pub term_kind : List (List ℕ) → List ValueKind → TermTree → Option ValueKind
 term_kind attrs kinds (term_tree.Field var attr) = kind_at kinds (place_of attrs attr.name)
 term_kind attrs kinds (term_tree.Constant constant) = Some (kind_of constant.value)
 
 -- two kinds, and not one
-abbrev pub differ : Option Kind → Option Kind → Bool
+abbrev pub differ : Option ValueKind → Option ValueKind → Bool
 differ (Some Text) (Some Int) = true
 differ (Some Int) (Some Text) = true
 differ a b = false
@@ -102,7 +102,7 @@ line_of (term_tree.Field var attr) = var.line
 line_of (term_tree.Constant constant) = constant.line
 
 -- the refusal of a comparison of two kinds, at its left term
-abbrev pub mismatch : List (List ℕ) → List Kind → PredicateTree → Option BindFault
+abbrev pub mismatch : List (List ℕ) → List ValueKind → PredicateTree → Option BindFault
 mismatch attrs kinds (predicate_tree.Order tree) = None
 mismatch attrs kinds (predicate_tree.Compare left cmp right) =
     if differ (term_kind attrs kinds left) (term_kind attrs kinds right)

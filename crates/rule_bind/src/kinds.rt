@@ -4,7 +4,7 @@ ghost use Rattle.spec_model.specs.Facts.{kinds_of};
 ghost use Rattle.rule_bind.specs.Ruled.{differ, line_of, mismatch, term_kind};
 
 use bind_faults::{BindFault, Refusal};
-use currency_base::{ErrorCode, Kind};
+use currency_base::{ErrorCode, ValueKind};
 use name_index::NameIndex;
 use rule_syntax::{PredicateTree, TermTree};
 use spec_model::Relation;
@@ -49,7 +49,7 @@ fn mismatch(attrs: &NameIndex, relation: &Relation, tree: &PredicateTree) -> Opt
 }
 
 /// The kind of a term, where its attribute is there.
-fn term_kind(attrs: &NameIndex, relation: &Relation, term: &TermTree) -> Option<Kind>
+fn term_kind(attrs: &NameIndex, relation: &Relation, term: &TermTree) -> Option<ValueKind>
     ensures { result ≡ term_kind attrs.now (kinds_of relation.now) term.now }
 {
     match term {
@@ -63,12 +63,12 @@ fn term_kind(attrs: &NameIndex, relation: &Relation, term: &TermTree) -> Option<
 }
 
 /// Are there two kinds, and not one?
-fn differ(left: Option<Kind>, right: Option<Kind>) -> bool
+fn differ(left: Option<ValueKind>, right: Option<ValueKind>) -> bool
     ensures { result ≡ differ left right }
 {
     match (left, right) {
-        (Some(Kind::Text), Some(Kind::Int)) => true,
-        (Some(Kind::Int), Some(Kind::Text)) => true,
+        (Some(ValueKind::Text), Some(ValueKind::Int)) => true,
+        (Some(ValueKind::Int), Some(ValueKind::Text)) => true,
         _ => false,
     }
 }

@@ -14,7 +14,8 @@ use Rattle.watch_propagate.proofs.KeptRules.{keeps_assumed, keeps_begun, keeps_l
 use Rattle.watch_propagate.proofs.KeptWatchers.{added_is_watched, watched_added}
 use Rattle.watch_propagate.proofs.ReasonFacts.{reasons_added, reasons_assumed, reasons_dropped, reasons_implied, reasons_propagated, reasons_undone}
 use Rattle.watch_propagate.proofs.SameFacts.{clause_there, has_true_same, reordered_then}
-use Rattle.search_state.specs.Held.{AreHeld, AreSettled, BeginsOpen, BeginsTrue, BeginsUnit, IsAllFalse, IsRefuted, ground_lits}
+use Rattle.search_state.specs.Held.{AreHeld, AreWatchedOrTrue, BeginsOpen, BeginsTrue, BeginsUnit, IsAllFalse, IsRefuted}
+use Rattle.search_state.specs.Held.{ground_lits}
 use Rattle.search_state.proofs.Grounds.{ground_all, ground_assumed, ground_more, ground_undone, undone_none}
 
 -- more literals are true
@@ -23,9 +24,9 @@ has_true_more : (truths more lits : List Lit) → ((x : Lit) → Contains truths
 has_true_more truths more lits grows h = record { lit = h.lit; is_in = h.is_in; is_true = grows h.lit h.is_true }
 
 -- the same clauses, where those that hold at level 0 hold still
-settled_more : (a : Arena) (t u : Trail) → ((x : Lit) → Contains (ground_lits t) x → Contains (ground_lits u) x)
-    → AreSettled a t → AreSettled a u
-settled_more a t u grows settled clause lits is = go (settled clause lits is)
+covered_more : (a : Arena) (t u : Trail) → ((x : Lit) → Contains (ground_lits t) x → Contains (ground_lits u) x)
+    → AreWatchedOrTrue a t → AreWatchedOrTrue a u
+covered_more a t u grows covered clause lits is = go (covered clause lits is)
   where
     go : IsWatched a clause ⊎ HasTrue (ground_lits t) lits → IsWatched a clause ⊎ HasTrue (ground_lits u) lits
     go (inl w) = inl w
@@ -43,7 +44,7 @@ held_begun a t clauses entries starts =
       reasons = λ place e clause is. absurd (no_entry place e (ap (λ (es : List Entry). slice_get es place) (sym entries) ∙ is));
       goes_on = λ e. record {
         rule = keeps_begun a t entries starts;
-        settled = λ clause lits is. absurd
+        covered = λ clause lits is. absurd
             (none lits clause (ap (λ (cs : List (List Lit)). slice_get cs clause) (sym clauses) ∙ is));
       };
       stuck = λ clause e. absurd (no_clause clause e);
@@ -64,15 +65,15 @@ held_propagated clauses old new was is are re implies rule held =
     record {
       reordered = reordered_then clauses old.clauses new.clauses held.reordered re.clauses;
       reasons = reasons_propagated old new was is re implies held.reasons;
-      goes_on = λ e. record { rule = rule; settled = settled };
+      goes_on = λ e. record { rule = rule; covered = covered };
       stuck = λ clause e. absurd (no_clause clause e);
     }
   where
-    settled : AreSettled new is
-    settled clause lits there = go (clause_there new.clauses old.clauses clause lits (sym re.clauses.as_many) there)
+    covered : AreWatchedOrTrue new is
+    covered clause lits there = go (clause_there new.clauses old.clauses clause lits (sym re.clauses.as_many) there)
       where
         go : (xs : List Lit) × (slice_get old.clauses clause ≡ Some xs) → IsWatched new clause ⊎ HasTrue (ground_lits is) lits
-        go (xs, before) = by ((held.goes_on refl).settled clause xs before)
+        go (xs, before) = by ((held.goes_on refl).covered clause xs before)
           where
             by : IsWatched old clause ⊎ HasTrue (ground_lits was) xs → IsWatched new clause ⊎ HasTrue (ground_lits is) lits
             by (inl w) = inl (re.still clause w)
@@ -89,7 +90,7 @@ held_assumed clauses a t lit are whole held =
       reasons = reasons_assumed a t lit held.reasons;
       goes_on = λ e. record {
         rule = keeps_assumed a t lit (held.goes_on refl).rule whole;
-        settled = settled_more a t (assumed t lit) (λ x c. ground_assumed t lit x are c) (held.goes_on refl).settled;
+        covered = covered_more a t (assumed t lit) (λ x c. ground_assumed t lit x are c) (held.goes_on refl).covered;
       };
       stuck = λ clause e. absurd (no_clause clause e);
     }
@@ -102,7 +103,7 @@ held_undone clauses a t refuted level are held =
       reasons = reasons_undone a t level held.reasons;
       goes_on = λ e. record {
         rule = keeps_undone a t level are (held.goes_on e).rule;
-        settled = settled_more a t (undone t level) (λ x c. ground_undone t level x are c) (held.goes_on e).settled;
+        covered = covered_more a t (undone t level) (λ x c. ground_undone t level x are c) (held.goes_on e).covered;
       };
       stuck = λ clause e.
           let r = held.stuck clause e in
@@ -129,10 +130,10 @@ reordered_push clauses old new xs ys re same added =
     go clause us vs (inr a) (inl b) = absurd (omega (arith, slice_get_within old.clauses clause vs b, a.0, re.as_many))
     go clause us vs (inr a) (inr b) = subst (λ (zs : List Lit). AreSameLits zs vs) a.1 (subst (AreSameLits xs) b.1 same)
 
-settled_push : (old new : Arena) (lits : List Lit) (t u : Trail) → HasAdded old new lits →
+covered_push : (old new : Arena) (lits : List Lit) (t u : Trail) → HasAdded old new lits →
     ((x : Lit) → Contains (ground_lits t) x → Contains (ground_lits u) x)
-    → AreSettled old t → IsWatched new (length old.clauses) ⊎ HasTrue (ground_lits u) lits → AreSettled new u
-settled_push old new lits t u added grows settled last clause xs is =
+    → AreWatchedOrTrue old t → IsWatched new (length old.clauses) ⊎ HasTrue (ground_lits u) lits → AreWatchedOrTrue new u
+covered_push old new lits t u added grows covered last clause xs is =
     go (get_push old.clauses lits clause xs (ap (λ (cs : List (List Lit)). slice_get cs clause) (sym added.clauses) ∙ is))
   where
     before : IsWatched old clause ⊎ HasTrue (ground_lits t) xs → IsWatched new clause ⊎ HasTrue (ground_lits u) xs
@@ -141,7 +142,7 @@ settled_push old new lits t u added grows settled last clause xs is =
 
     go : (slice_get old.clauses clause ≡ Some xs) ⊎ ((clause ≡ length old.clauses) × (lits ≡ xs))
         → IsWatched new clause ⊎ HasTrue (ground_lits u) xs
-    go (inl there) = before (settled clause xs there)
+    go (inl there) = before (covered clause xs there)
     go (inr h) =
         subst (λ (zs : List Lit). IsWatched new clause ⊎ HasTrue (ground_lits u) zs) h.1
         (subst (λ (n : ℕ). IsWatched new n ⊎ HasTrue (ground_lits u) lits) (sym h.0) last)
@@ -215,7 +216,7 @@ held_rests clauses old new xs ys t are starts same added within begins held =
       reasons = reasons_added old new ys t.entries added held.reasons;
       goes_on = λ e. record {
         rule = keeps_quiet old new ys t are starts added (quiet begins) (held.goes_on refl).rule;
-        settled = settled_push old new ys t t added (λ x c. c) (held.goes_on refl).settled (last begins);
+        covered = covered_push old new ys t t added (λ x c. c) (held.goes_on refl).covered (last begins);
       };
       stuck = λ clause e. absurd (no_clause clause e);
     }
@@ -253,8 +254,8 @@ held_implied clauses old new xs ys first t are same added within head unit due a
       reasons = reasons_implied new t first (length old.clauses) reason (reasons_added old new ys t.entries added held.reasons);
       goes_on = λ e. record {
         rule = keeps_learned old new ys t first (length old.clauses) are head added due (held.goes_on refl).rule;
-        settled = settled_push old new ys t after added (λ x c. ground_more t after (entry ∷ []) x are refl refl c)
-            (held.goes_on refl).settled last;
+        covered = covered_push old new ys t after added (λ x c. ground_more t after (entry ∷ []) x are refl refl c)
+            (held.goes_on refl).covered last;
       };
       stuck = λ clause e. absurd (no_clause clause e);
     }
@@ -326,8 +327,8 @@ held_same clauses a b t refuted same watchers held =
       reasons = reasons_dropped a b t.entries same held.reasons;
       goes_on = λ e. record {
         rule = rule_same b a (sym same) (sym watchers) t (held.goes_on e).rule;
-        settled = λ clause lits is. go clause lits
-            ((held.goes_on e).settled clause lits (ap (λ (cs : List (List Lit)). slice_get cs clause) (sym same) ∙ is));
+        covered = λ clause lits is. go clause lits
+            ((held.goes_on e).covered clause lits (ap (λ (cs : List (List Lit)). slice_get cs clause) (sym same) ∙ is));
       };
       stuck = λ clause e.
           let r = held.stuck clause e in

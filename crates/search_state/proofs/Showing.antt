@@ -15,7 +15,7 @@ use Rattle.watch_propagate.proofs.RestFacts.{rest_at_starts}
 use Rattle.watch_propagate.proofs.SameFacts.{at_rest_same, clause_there, same_back}
 use Rattle.conflict_analysis.specs.Analyses.{IsFalsified, IsOfLevel, lits_below}
 use Rattle.search_state.specs.States.{IsFalse, IsNotBelow, State}
-use Rattle.search_state.specs.Held.{AreSettled, CanGoOn, ground_lits}
+use Rattle.search_state.specs.Held.{AreWatchedOrTrue, CanGoOn, ground_lits}
 use Rattle.search_state.proofs.Grounds.{ground_below}
 
 -- ---- conflicts
@@ -74,9 +74,9 @@ not_below s place are rest f = go (All-contains (IsAtRest (lits_below s.trail)) 
 
 -- on the clause of each step, where on each watched clause
 pub quiet_of : (steps : List Step) (a : Arena) (t : Trail) (truths : List Lit) → AreReordered (clauses_of steps)
-    a.clauses → AreSettled a t
+    a.clauses → AreWatchedOrTrue a t
     → ((x : Lit) → Contains (ground_lits t) x → Contains truths x) → AreAtRest a truths → All (IsAtRest truths) (clauses_of steps)
-quiet_of steps a t truths re settled grows rest k d h = go (clause_there (clauses_of steps) a.clauses k lits re.as_many is)
+quiet_of steps a t truths re covered grows rest k d h = go (clause_there (clauses_of steps) a.clauses k lits re.as_many is)
   where
     lits : List Lit
     lits = slice_index_or (clauses_of steps) k d
@@ -85,7 +85,7 @@ quiet_of steps a t truths re settled grows rest k d h = go (clause_there (clause
     is = slice_get-get_or (clauses_of steps) k d h
 
     go : (ys : List Lit) × (slice_get a.clauses k ≡ Some ys) → IsAtRest truths lits
-    go (ys, there) = at_rest_same truths ys lits (same_back lits ys (re.same k lits ys is there)) (by (settled k ys there))
+    go (ys, there) = at_rest_same truths ys lits (same_back lits ys (re.same k lits ys is there)) (by (covered k ys there))
       where
         by : IsWatched a k ⊎ HasTrue (ground_lits t) ys → IsAtRest truths ys
         by (inl w) = subst (IsAtRest truths) (same_get a.clauses k w.lits ys w.is_clause there) (rest k w)
@@ -96,7 +96,7 @@ pub quiet_below : (steps : List Step) (a : Arena) (t : Trail) → AreWatchers a 
     (clauses_of steps) a.clauses → CanGoOn a t → 0 < length t.starts
     → All (IsAtRest (lits_below t)) (clauses_of steps)
 quiet_below steps a t watchers are re goes_on deep =
-    quiet_of steps a t (lits_below t) re goes_on.settled (λ x c. ground_below t x are c)
+    quiet_of steps a t (lits_below t) re goes_on.covered (λ x c. ground_below t x are c)
     (rest_at_starts a t (length t.starts - 1) (entries_up_to t (length t.starts - 1)) watchers are goes_on.rule
     (slice_get-get_or t.starts (length t.starts - 1) (length t.entries) (omega (arith, deep))))
 
@@ -105,4 +105,4 @@ pub quiet_at_end : (steps : List Step) (a : Arena) (t : Trail) → AreReordered 
     → CanGoOn a t → AreAtRest a (lits_of t)
     → All (IsAtRest (lits_of t)) (clauses_of steps)
 quiet_at_end steps a t re goes_on rest =
-    quiet_of steps a t (lits_of t) re goes_on.settled (λ x c. from_front (entries_up_to t 0) (lits_of t) x c) rest
+    quiet_of steps a t (lits_of t) re goes_on.covered (λ x c. from_front (entries_up_to t 0) (lits_of t) x c) rest

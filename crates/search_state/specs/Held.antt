@@ -16,14 +16,14 @@ abbrev pub ground_lits : Trail → List Lit
 ground_lits t = take (entries_up_to t 0) (lits_of t)
 
 -- each clause is watched, or has a literal that is true where nothing is assumed
-abbrev pub AreSettled : Arena → Trail → Type 0
-AreSettled a t = (clause : ℕ) (lits : List Lit) → slice_get a.clauses clause ≡ Some lits → IsWatched a clause ⊎
+abbrev pub AreWatchedOrTrue : Arena → Trail → Type 0
+AreWatchedOrTrue a t = (clause : ℕ) (lits : List Lit) → slice_get a.clauses clause ≡ Some lits → IsWatched a clause ⊎
     HasTrue (ground_lits t) lits
 
 -- unit propagation over the watched clauses finds all that is implied
 pub record CanGoOn (a : Arena) (t : Trail) : Type 0 where
   pub rule : KeepsWatch a t
-  pub settled : AreSettled a t
+  pub covered : AreWatchedOrTrue a t
 
 -- the clause of that number is false while nothing is assumed
 pub record IsRefuted (a : Arena) (t : Trail) (clause : ℕ) : Type 0 where

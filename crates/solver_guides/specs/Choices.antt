@@ -31,9 +31,9 @@ abbrev pub first_free_as : List Bool → List (Option Bool) → Option Lit
 first_free_as truths values = option_map (as_in truths) (first_free values)
 
 -- what the ring makes of a guide's choice: a literal of a free variable stays, else the first free variable is negated
-abbrev pub settled : List (Option Bool) → Option Lit → Option Lit
-settled values None = first_free_as [] values
-settled values (Some lit) = if is_free values (var_of lit) then Some lit else first_free_as [] values
+abbrev pub free_choice : List (Option Bool) → Option Lit → Option Lit
+free_choice values None = first_free_as [] values
+free_choice values (Some lit) = if is_free values (var_of lit) then Some lit else first_free_as [] values
 
 -- ---- a choice from a number
 

@@ -1,6 +1,6 @@
 ghost use Rattle.std.specs.Prelude.{◌≡◌, ◌<◌, ◌≤◌, ℕ, Bool, List, Option, Some, None, [], true, length, slice_get, vec_len};
 ghost use Rattle.currency_base.specs.Literals.{var_of};
-ghost use Rattle.solver_guides.specs.Choices.{first_free_as, settled};
+ghost use Rattle.solver_guides.specs.Choices.{first_free_as, free_choice};
 ghost use Rattle.solver_guides.specs.Rings.{HaveRoom, choice_at, count_of, current_choice, guides_of, next_place, place_of};
 
 use crate::Guide;
@@ -89,13 +89,13 @@ impl Guides {
     pub fn pick(&mut self, values: &Values) -> Lit
         requires { (var : ℕ) × (slice_get values.now var ≡ Some None) }
         ensures free { slice_get values.now (var_of result) ≡ Some None }
-        ensures whose { Some result ≡ settled values.now (current_choice (λ guide. choice guide) self.old values.now) }
+        ensures whose { Some result ≡ free_choice values.now (current_choice (λ guide. choice guide) self.old values.now) }
         ensures count { count_of self.new ≡ count_of self.old }
         ensures place { place_of self.new ≡ place_of self.old }
     {
         self.asked = self.asked.saturating_add(1);
         let choice = ask_at(&mut self.guides, self.at, values);
-        settled(values, choice)
+        free_choice(values, choice)
     }
 
     /// A variable of a conflict: the guide is told whose turn it is.
@@ -195,10 +195,10 @@ fn next_place(count: usize, place: usize) -> usize
 }
 
 // A choice of a free variable stays, else the first free variable is negated.
-fn settled(values: &Values, choice: Option<Lit>) -> Lit
+fn free_choice(values: &Values, choice: Option<Lit>) -> Lit
     requires { (var : ℕ) × (slice_get values.now var ≡ Some None) }
     ensures free { slice_get values.now (var_of result) ≡ Some None }
-    ensures same { Some result ≡ settled values.now choice }
+    ensures same { Some result ≡ free_choice values.now choice }
 {
     if let Some(lit) = choice {
         if is_free(values, lit.var()) {

@@ -1,7 +1,7 @@
 -- What statements make one after another, where the shelf tells its documents.
 use Rattle.std.proofs.Common.{◌≡◌, ◌+◌, ◌<◌, ◌≤◌, ℕ, List, ◌∷◌, length, drop, get_or, Option, Some, None, Result, Ok, Err, IfSome, inl, inr, sym, subst, refl}
 use Rattle.std.proofs.lemmas.List.{at_drop_all}
-use Rattle.bind_faults.specs.Faults.{IsDue, IsSettled, IsReadFaultOf}
+use Rattle.bind_faults.specs.Faults.{IsDue, IsDetermined, IsReadFaultOf}
 use Rattle.bind_faults.specs.declared.fault.BindFault.{BindFault}
 use Rattle.spec_model.specs.Spec.{Spec}
 use Rattle.spec_syntax.specs.declared.trees.SpecTree.{SpecTree}
@@ -9,7 +9,7 @@ use Rattle.spec_syntax.specs.declared.trees.StatementTree.{StatementTree}
 use Rattle.relation_bind.proofs.Places.{drop_at}
 use Rattle.bound_spec.specs.Growth.{limited_at_last, nothing}
 use Rattle.spec_bind.specs.Bound.{IsStep, IsBound, IsSpecBound, ReadsTableOf, TableDue}
-use Rattle.spec_bind.proofs.Dues.{due_settled}
+use Rattle.spec_bind.proofs.Dues.{due_determined}
 
 -- the documents that a shelf tells
 abbrev pub Texts : Type 0
@@ -29,12 +29,12 @@ TablesSoFar texts done rest all = IfSome texts (λ told. (table : List ℕ) → 
 pub tree_refused : (texts now : Texts) (done : Spec) (tree : SpecTree) (items : List StatementTree) (i : ℕ)
     (s : StatementTree) (fault : BindFault)
     → now ≡ texts → i < length items → s ≡ get_or items i s → SoFar texts done (drop i items) tree.statements
-    → (IsSettled {A = Spec} (Err fault) → IfSome now (λ told. IsStep told done s (Err fault)))
-    → IsSettled {A = Spec} (Err fault) → IfSome texts (λ told. IsSpecBound told tree (Err fault))
-tree_refused None now done tree items i s fault same lt is so_far step settled = tt
-tree_refused (Some told) now done tree items i s fault same lt is so_far step settled =
+    → (IsDetermined {A = Spec} (Err fault) → IfSome now (λ told. IsStep told done s (Err fault)))
+    → IsDetermined {A = Spec} (Err fault) → IfSome texts (λ told. IsSpecBound told tree (Err fault))
+tree_refused None now done tree items i s fault same lt is so_far step determined = tt
+tree_refused (Some told) now done tree items i s fault same lt is so_far step determined =
     let here : IsStep told done s (Err fault) =
-    subst (λ (t : Texts). IfSome t (λ docs. IsStep docs done s (Err fault))) same (step settled) in
+    subst (λ (t : Texts). IfSome t (λ docs. IsStep docs done s (Err fault))) same (step determined) in
     let bound : IsBound told done (s ∷ drop (i + 1) items) (Err fault) = (Err fault, here, refl) in (
       Err fault,
       so_far (Err fault) (subst (λ (xs : List StatementTree). IsBound told done xs (Err fault))
@@ -75,9 +75,9 @@ tables_more (Some told) now done next all items i s same lt is step tables =
 pub tree_bound : (texts : Texts) (done : Spec) (tree : SpecTree) (items : List StatementTree) (i : ℕ)
     (result : Result Spec BindFault)
     → length items ≤ i → SoFar texts done (drop i items) tree.statements → IsDue (limited_at_last done) result
-    → IsSettled result → IfSome texts (λ told. IsSpecBound told tree result)
-tree_bound None done tree items i result le so_far due settled = tt
-tree_bound (Some told) done tree items i result le so_far due settled =
+    → IsDetermined result → IfSome texts (λ told. IsSpecBound told tree result)
+tree_bound None done tree items i result le so_far due determined = tt
+tree_bound (Some told) done tree items i result le so_far due determined =
     let bound : IsBound told done (drop i items) (Ok done) =
     subst (λ (xs : List StatementTree). IsBound told done xs (Ok done)) (sym (at_drop_all (λ xs. xs) items i le)) refl in
-    (Ok done, so_far (Ok done) bound, sym (due_settled (limited_at_last done) result due settled))
+    (Ok done, so_far (Ok done) bound, sym (due_determined (limited_at_last done) result due determined))

@@ -1,6 +1,6 @@
 -- What the step of a statement is that has one part, and perhaps a table, where the shelf tells its documents.
 use Rattle.std.proofs.Common.{◌≡◌, ℕ, List, Option, Some, None, Result, Ok, Err, IfSome, ap, sym, subst, refl}
-use Rattle.bind_faults.specs.Faults.{and_then, IsDue, IsSettled, IsReadFaultOf}
+use Rattle.bind_faults.specs.Faults.{and_then, IsDue, IsDetermined, IsReadFaultOf}
 use Rattle.bind_faults.specs.declared.fault.BindFault.{BindFault}
 use Rattle.spec_model.specs.Spec.{Spec}
 use Rattle.spec_model.specs.declared.relation.Relation.{Relation}
@@ -15,8 +15,8 @@ use Rattle.order_bind.specs.TableOrders.{IsOrdersMade}
 use Rattle.spec_limits.specs.Limits.{exceeded}
 use Rattle.spec_bind.specs.Bound.{IsLimited, IsStep, IsTableMade, with_relations}
 use Rattle.spec_bind.proofs.Given.{IsGivenMore, given_limited}
-use Rattle.bind_faults.proofs.Outcomes.{settled_fault, same_read_fault_of}
-use Rattle.spec_bind.proofs.Dues.{due_settled}
+use Rattle.bind_faults.proofs.Outcomes.{determined_fault, same_read_fault_of}
+use Rattle.spec_bind.proofs.Dues.{due_determined}
 
 -- the documents that a shelf tells
 abbrev pub Docs : Type 0
@@ -29,20 +29,20 @@ Becomes {A} gives next made = (given : Result A BindFault) × gives given × (ma
 -- a part that is refused
 pub part_refused : {A : Type 0} (texts : Option Docs) (gives : Docs → Result A BindFault → Type 0) (next : A → Spec)
     (fault : BindFault)
-    → (IsSettled {A = A} (Err fault) → IfSome texts (λ told. gives told (Err fault)))
-    → IsSettled {A = Spec} (Err fault) → IfSome texts (λ told. IsLimited (Becomes (gives told) next) (Err fault))
-part_refused None gives next fault is settled = tt
-part_refused {A} (Some told) gives next fault is settled =
-    (Err fault, (Err fault, is (settled_fault Spec A fault settled), refl), refl)
+    → (IsDetermined {A = A} (Err fault) → IfSome texts (λ told. gives told (Err fault)))
+    → IsDetermined {A = Spec} (Err fault) → IfSome texts (λ told. IsLimited (Becomes (gives told) next) (Err fault))
+part_refused None gives next fault is determined = tt
+part_refused {A} (Some told) gives next fault is determined =
+    (Err fault, (Err fault, is (determined_fault Spec A fault determined), refl), refl)
 
 -- a part that is added, or is above a limit
 pub part_step : {A : Type 0} (texts : Option Docs) (gives : Docs → Result A BindFault → Type 0) (next : A → Spec)
     (a : A) (result : Result Spec BindFault)
     → IfSome texts (λ told. gives told (Ok a)) → IsDue (limited (next a)) result
-    → IsSettled result → IfSome texts (λ told. IsLimited (Becomes (gives told) next) result)
-part_step None gives next a result is due settled = tt
-part_step (Some told) gives next a result is due settled =
-    (Ok (next a), (Ok a, is, refl), sym (due_settled (limited (next a)) result due settled))
+    → IsDetermined result → IfSome texts (λ told. IsLimited (Becomes (gives told) next) result)
+part_step None gives next a result is due determined = tt
+part_step (Some told) gives next a result is due determined =
+    (Ok (next a), (Ok a, is, refl), sym (due_determined (limited (next a)) result due determined))
 
 -- the names that a declaration is checked with are those of the relations
 pub declared_with : (texts : Option Docs) (done : Spec) (d : Declared) (taken : List (List ℕ))
@@ -74,14 +74,15 @@ part_table A due fault table named h = named table (same_read_fault_of Spec A fa
 
 -- ---- tables of given pairs
 
--- a settled refusal is what is made
-steps_settled : (new : List Relation) (made : Result (List Relation) BindFault) (fault : BindFault) → Steps new made (Err fault)
-    → IsSettled {A = Spec} (Err fault) → made ≡ Err fault
-steps_settled new made (Refused refusal) steps settled = steps
-steps_settled new made (CopyDiffers document line target source) steps settled = steps
-steps_settled new made (Limit k) steps settled = steps
-steps_settled new made (ReadFault name) steps settled = steps
-steps_settled new made NoMemory steps settled = absurd settled
+-- a determined refusal is what is made
+steps_determined : (new : List Relation) (made : Result (List Relation) BindFault) (fault : BindFault)
+    → Steps new made (Err fault)
+    → IsDetermined {A = Spec} (Err fault) → made ≡ Err fault
+steps_determined new made (Refused refusal) steps determined = steps
+steps_determined new made (CopyDiffers document line target source) steps determined = steps
+steps_determined new made (Limit k) steps determined = steps
+steps_determined new made (ReadFault name) steps determined = steps
+steps_determined new made NoMemory steps determined = absurd determined
 
 -- what a table makes of relations, as a step that leaves these
 abbrev pub TableSteps : Docs → Spec → Spec → Named → Named → Result (Unit {0}) BindFault → Type 0
@@ -90,12 +91,12 @@ TableSteps told old new relation doc result =
     new.relations made result
 
 pub table_refused : (texts : Option Docs) (old new : Spec) (relation doc : Named) (fault : BindFault)
-    → (IsSettled {A = Unit {0}} (Err fault) → IfSome texts (λ told. TableSteps told old new relation doc (Err fault)))
-    → IsSettled {A = Spec} (Err fault) → IfSome texts (λ told. IsLimited (IsTableMade told old relation doc) (Err fault))
-table_refused None old new relation doc fault is settled = tt
-table_refused (Some told) old new relation doc fault is settled =
-    let step = is (settled_fault Spec (Unit {0}) fault settled) in
-    let same : step.0 ≡ Err fault = steps_settled new.relations step.0 fault step.2 settled in
+    → (IsDetermined {A = Unit {0}} (Err fault) → IfSome texts (λ told. TableSteps told old new relation doc (Err fault)))
+    → IsDetermined {A = Spec} (Err fault) → IfSome texts (λ told. IsLimited (IsTableMade told old relation doc) (Err fault))
+table_refused None old new relation doc fault is determined = tt
+table_refused (Some told) old new relation doc fault is determined =
+    let step = is (determined_fault Spec (Unit {0}) fault determined) in
+    let same : step.0 ≡ Err fault = steps_determined new.relations step.0 fault step.2 determined in
     let made : with_relations old step.0 ≡ Err fault = ap (with_relations old) same in
     (Err fault, (step.0, step.1, sym made), refl)
 

@@ -1,6 +1,6 @@
 ghost use Rattle.std.specs.Prelude.{◌≡◌, ◌≤◌, ℕ, List, IfOk, IfSome};
 ghost use Rattle.currency_edge.specs.Fault.{Rose};
-ghost use Rattle.bind_faults.specs.Faults.{IsSettled, IsReadFault, IsReadFaultOf};
+ghost use Rattle.bind_faults.specs.Faults.{IsDetermined, IsReadFault, IsReadFaultOf};
 ghost use Rattle.bound_spec.specs.Growth.{IsWithinLimits, nothing};
 ghost use Rattle.spec_bind.specs.Bound.{IsSpecBound, TableDue};
 
@@ -22,7 +22,7 @@ pub fn bind_spec<S: Shelf>(
 ) -> Result<Specification, BindFault>
     ensures kept { S.texts shelf.new ≡ S.texts shelf.old }
     ensures later { S.faults shelf.old ≤ S.faults shelf.new }
-    ensures bound { IsSettled result
+    ensures bound { IsDetermined result
         → IfSome (S.texts shelf.old) (λ told. IsSpecBound told tree.now result) }
     ensures read_fault { IsReadFault result → Rose (S.faults shelf.old) (S.faults shelf.new) }
     ensures table_due { (name : List ℕ) → IsReadFaultOf result name

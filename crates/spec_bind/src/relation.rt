@@ -1,6 +1,6 @@
 ghost use Rattle.std.specs.Prelude.{◌≡◌, ◌≤◌, ℕ, List, IfSome};
 ghost use Rattle.currency_edge.specs.Fault.{Rose};
-ghost use Rattle.bind_faults.specs.Faults.{IsSettled, IsReadFault, IsReadFaultOf};
+ghost use Rattle.bind_faults.specs.Faults.{IsDetermined, IsReadFault, IsReadFaultOf};
 ghost use Rattle.relation_bind.specs.Relations.{IsTableOf};
 ghost use Rattle.bound_spec.specs.Growth.{relation_names};
 ghost use Rattle.spec_bind.specs.Bound.{IsRelationMade, IsLimited};
@@ -20,7 +20,7 @@ pub fn bind_declaration<S: Shelf>(
 ) -> Result<Bound, BindFault>
     ensures kept { S.texts shelf.new ≡ S.texts shelf.old }
     ensures later { S.faults shelf.old ≤ S.faults shelf.new }
-    ensures step { IsSettled result
+    ensures step { IsDetermined result
         → IfSome (S.texts shelf.old) (λ told. IsLimited (IsRelationMade told bound declaration.now) result) }
     ensures read_fault { IsReadFault result → Rose (S.faults shelf.old) (S.faults shelf.new) }
     ensures table { (name : List ℕ) → IsReadFaultOf result name

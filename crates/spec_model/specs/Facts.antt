@@ -13,7 +13,7 @@ use Rattle.currency_base.specs.declared.ids.RelId.{RelId}
 use Rattle.currency_base.specs.declared.ids.RowId.{RowId}
 use Rattle.currency_base.specs.declared.row.Row.{Row}
 use Rattle.currency_base.specs.declared.pair.Pair.{Pair}
-use Rattle.currency_base.specs.declared.value.Kind.{Kind}
+use Rattle.currency_base.specs.declared.value.ValueKind.{ValueKind}
 use Rattle.denial_rules.specs.Rules.{IsRuleOn}
 use Rattle.denial_rules.specs.declared.rule.Rule.{Rule}
 use Rattle.spec_model.specs.Spec.{Spec}
@@ -27,7 +27,7 @@ pub record IsGivenPair (r : Relation) (p : Pair) : Type 0 where
   pub one_entity : AreOfOneEntity r.rows p
 
 -- the kinds of a relation's attributes
-abbrev pub kinds_of : Relation → List Kind
+abbrev pub kinds_of : Relation → List ValueKind
 kinds_of r = map (λ a. a.kind) r.attrs
 
 -- a relation whose ids are numbers of 32 bits, whose rows stand for its entities, of which each has one, and have a value of
@@ -65,7 +65,7 @@ pub record AreRules (relations : List Relation) (rules : List Rule) : Type 0 whe
 
 -- a place of a copy function: an attribute of the target relation and one of the source relation, of one kind
 pub record IsPlaceBetween (target source : Relation) (place : Place) : Type 0 where
-  pub kind : Kind
+  pub kind : ValueKind
   pub in_target : slice_get (kinds_of target) place.target.0 ≡ Some kind
   pub in_source : slice_get (kinds_of source) place.source.0 ≡ Some kind
 

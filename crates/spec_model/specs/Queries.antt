@@ -1,8 +1,8 @@
 -- Queries that fit the relations of a specification.
 use Rattle.std.specs.Prelude.{◌≡◌, ◌+◌, ◌≤◌, ℕ, List, ◌∷◌, length, map, All, Option, Some, slice_get}
 use Rattle.currency_base.specs.Values.{kind_of}
-use Rattle.currency_base.specs.declared.value.Kind.{Kind}
-use Rattle.currency_base.specs.declared.value.Kind.TheVariants.{Text}
+use Rattle.currency_base.specs.declared.value.ValueKind.{ValueKind}
+use Rattle.currency_base.specs.declared.value.ValueKind.TheVariants.{Text}
 use Rattle.query_model.specs.Fitting.{IsQuery}
 use Rattle.query_model.specs.declared.query.Atom.{Atom}
 use Rattle.query_model.specs.declared.query.Disjunct.{Disjunct}
@@ -16,39 +16,39 @@ use Rattle.spec_model.specs.Facts.{kinds_of}
 use Rattle.spec_model.specs.declared.relation.Relation.{Relation}
 
 -- the kinds of an atom's places: the entity's name is text, and each further place is of the kind of an attribute
-abbrev pub place_kinds : Relation → List Kind
+abbrev pub place_kinds : Relation → List ValueKind
 place_kinds r = Text ∷ kinds_of r
 
 -- what stands at a place has the kind of the place, where the variables have these kinds
-abbrev pub IsTermOn : List Kind → Option Kind → Term → Type 0
+abbrev pub IsTermOn : List ValueKind → Option ValueKind → Term → Type 0
 IsTermOn kinds kind (term.Var v) = slice_get kinds v ≡ kind
 IsTermOn kinds kind term.Any = Unit {0}
 IsTermOn kinds kind (term.Constant c) = Some (kind_of c) ≡ kind
 
 -- an atom of one of the relations, with one place more than the relation has attributes, and each place of its kind
-pub record IsAtomOn (relations : List Relation) (kinds : List Kind) (atom : Atom) : Type 0 where
+pub record IsAtomOn (relations : List Relation) (kinds : List ValueKind) (atom : Atom) : Type 0 where
   pub relation : Relation
   pub is_relation : slice_get relations atom.relation.0 ≡ Some relation
   pub as_many : length atom.terms ≡ length relation.attrs + 1
   pub terms : (k : ℕ) (t : Term) → slice_get atom.terms k ≡ Some t → IsTermOn kinds (slice_get (place_kinds relation) k) t
 
 -- the kind of a side of a comparison
-abbrev pub side_kind : List Kind → TestTerm → Option Kind
+abbrev pub side_kind : List ValueKind → TestTerm → Option ValueKind
 side_kind kinds (test.Var v) = slice_get kinds v
 side_kind kinds (test.Constant c) = Some (kind_of c)
 
 -- the sides of a comparison have one kind
-pub record IsTestOn (kinds : List Kind) (t : Test) : Type 0 where
-  pub kind : Kind
+pub record IsTestOn (kinds : List ValueKind) (t : Test) : Type 0 where
+  pub kind : ValueKind
   pub left : side_kind kinds t.left ≡ Some kind
   pub right : side_kind kinds t.right ≡ Some kind
 
 -- a disjunct that is small enough, whose variables have one kind each; those of its head have these kinds
-pub record IsDisjunctOn (relations : List Relation) (heads : List Kind) (d : Disjunct) : Type 0 where
+pub record IsDisjunctOn (relations : List Relation) (heads : List ValueKind) (d : Disjunct) : Type 0 where
   pub few_atoms : length d.atoms ≤ 8
   pub few_tests : length d.tests ≤ 16
   pub few_vars : d.vars ≤ 32
-  pub kinds : List Kind
+  pub kinds : List ValueKind
   pub per_var : length kinds ≡ d.vars
   pub atoms : All (IsAtomOn relations kinds) d.atoms
   pub tests : All (IsTestOn kinds) d.tests
@@ -59,5 +59,5 @@ pub record IsDisjunctOn (relations : List Relation) (heads : List Kind) (d : Dis
 pub record IsQueryOn (relations : List Relation) (q : Query) : Type 0 where
   pub is_query : IsQuery q
   pub few : length q.disjuncts ≤ 256
-  pub heads : List Kind
+  pub heads : List ValueKind
   pub disjuncts : All (IsDisjunctOn relations heads) q.disjuncts

@@ -1,11 +1,11 @@
-use currency_base::{ItemList, Kind, Name, NameList, Rows};
+use currency_base::{ItemList, Name, NameList, Rows, ValueKind};
 use partial_orders::Pairs;
 
 /// An attribute of a relation: its name, and the kind of its values.
 #[derive(Drop)]
 pub struct Attr {
     pub name: Name,
-    pub kind: Kind,
+    pub kind: ValueKind,
 }
 
 /// The attributes of a relation, in the order of declaration.

@@ -15,7 +15,7 @@ use Rattle.rule_syntax.specs.Grammar.{SpellsRule}
 use Rattle.rule_syntax.proofs.Rules.{begins_rule, reads_rule}
 use Rattle.copy_syntax.specs.Grammar.{SpellsCopy}
 use Rattle.copy_syntax.proofs.Copies.{begins_copy, copy_ends, ends_copy, reads_copy}
-use Rattle.currency_base.specs.declared.value.Kind.TheVariants.{Text, Int}
+use Rattle.currency_base.specs.declared.value.ValueKind.TheVariants.{Text, Int}
 use Rattle.spec_syntax.specs.declared.trees.AttrTree.{AttrTree}
 use Rattle.spec_syntax.specs.declared.trees.OrderingTree.{OrderingTree}
 use Rattle.spec_syntax.specs.declared.trees.StatementTree.{StatementTree}

@@ -6,8 +6,8 @@ use Rattle.text_grammar.specs.Grammar.{Language, ◌⋅◌, Says, IsWord, IsSymb
 use Rattle.text_grammar.specs.declared.named.NamedPair.{NamedPair}
 use Rattle.rule_syntax.specs.Grammar.{SpellsRule}
 use Rattle.copy_syntax.specs.Grammar.{SpellsCopy}
-use Rattle.currency_base.specs.declared.value.Kind.{Kind}
-use Rattle.currency_base.specs.declared.value.Kind.TheVariants.{Text, Int}
+use Rattle.currency_base.specs.declared.value.ValueKind.{ValueKind}
+use Rattle.currency_base.specs.declared.value.ValueKind.TheVariants.{Text, Int}
 use Rattle.spec_syntax.specs.declared.trees.AttrTree.{AttrTree}
 use Rattle.spec_syntax.specs.declared.trees.OrderingTree.{OrderingTree}
 use Rattle.spec_syntax.specs.declared.trees.StatementTree.{StatementTree}
@@ -17,7 +17,7 @@ use Rattle.spec_syntax.specs.declared.trees.SpecTree.{SpecTree}
 -- ---- specifications
 
 -- the kind that a word names
-abbrev pub kind_named : Lexeme → Option Kind
+abbrev pub kind_named : Lexeme → Option ValueKind
 kind_named t = if is_word (codes "text") t then Some Text else (if is_word (codes "int") t then Some Int else None)
 
 -- attr = name ":" ( "text" | "int" )

@@ -4,7 +4,7 @@ ghost use Rattle.text_grammar.specs.Reading.{Gives, one};
 ghost use Rattle.spec_syntax.specs.Grammar.{kind_named};
 
 use crate::AttrTree;
-use currency_base::Kind;
+use currency_base::ValueKind;
 use std::alloc::Global;
 use text_grammar::{Refusal, Rule, is_fixed, name, symbol};
 use text_tokens::{Token, TokenKind};
@@ -32,7 +32,7 @@ impl Rule for AttrRule {
 }
 
 /// Takes the word of a kind from the front of the tokens.
-fn kind<'a>(tokens: &'a [Token<'a>]) -> Result<(Kind, &'a [Token<'a>]), Refusal<'a>>
+fn kind<'a>(tokens: &'a [Token<'a>]) -> Result<(ValueKind, &'a [Token<'a>]), Refusal<'a>>
     ensures { Gives (λ x. (x.0, map lexeme_of x.1.now)) result (one kind_named (map lexeme_of tokens.now)) }
 {
     match tokens {
@@ -45,13 +45,13 @@ fn kind<'a>(tokens: &'a [Token<'a>]) -> Result<(Kind, &'a [Token<'a>]), Refusal<
 }
 
 /// The kind that a word names.
-fn kind_in(token: &Token) -> Option<Kind>
+fn kind_in(token: &Token) -> Option<ValueKind>
     ensures { result ≡ kind_named (lexeme_of token.now) }
 {
     if is_fixed(TokenKind::Word, b"text", token) {
-        Some(Kind::Text)
+        Some(ValueKind::Text)
     } else if is_fixed(TokenKind::Word, b"int", token) {
-        Some(Kind::Int)
+        Some(ValueKind::Int)
     } else {
         None
     }

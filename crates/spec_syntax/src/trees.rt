@@ -1,5 +1,5 @@
 use copy_syntax::CopyTree;
-use currency_base::{ItemList, Kind};
+use currency_base::{ItemList, ValueKind};
 use rule_syntax::RuleTree;
 use text_grammar::{Named, NamedPairList};
 
@@ -41,7 +41,7 @@ pub type StatementTreeList = ItemList<StatementTree>;
 #[derive(Drop)]
 pub struct AttrTree {
     pub name: Named,
-    pub kind: Kind,
+    pub kind: ValueKind,
 }
 
 /// Attributes, in the order of the text.

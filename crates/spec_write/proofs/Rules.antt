@@ -3,7 +3,7 @@ use Rattle.std.proofs.Common.{◌≡◌, List, [], ◌∷◌, ◌++◌, map, ref
 use Rattle.std.specs.Prelude.{All}
 use Rattle.std.proofs.lemmas.List.Elements.{All-nil}
 use Rattle.currency_base.specs.declared.value.Cmp.{Cmp}
-use Rattle.currency_base.specs.declared.value.Kind.{Kind}
+use Rattle.currency_base.specs.declared.value.ValueKind.{ValueKind}
 use Rattle.text_tokens.specs.Lexeme.{Lexeme}
 use Rattle.text_grammar.specs.Grammar.{◌⋅◌, IsSymbol, IsWord, Language, Listed, SpellsName}
 use Rattle.text_grammar.specs.declared.named.Const.{Const}
@@ -71,9 +71,9 @@ in_parentheses r = rewritten_after opening (rewritten_before (rewritten_listed c
 rewritten_attr : Laws → IsRewritten SpellsAttr attr_pieces unlined_attr
 rewritten_attr laws = rewritten_made
     (rewritten_two (rewritten_name laws) (rewritten_after colon rewritten_kind))
-    (λ (x : Named × Kind). record { name = x.0; kind = x.1 }) (λ (a : AttrTree). (a.name, a.kind))
+    (λ (x : Named × ValueKind). record { name = x.0; kind = x.1 }) (λ (a : AttrTree). (a.name, a.kind))
     (λ a tokens h. h) (λ x tokens h. h) (λ a. refl)
-    (λ x a e. ap (λ (y : Named × Kind). record { name = y.0; kind = y.1 }) e)
+    (λ x a e. ap (λ (y : Named × ValueKind). record { name = y.0; kind = y.1 }) e)
 
 rewritten_row : Laws → IsRewritten (λ column. IsWord (codes "row") ⋅ SpellsName column) row_pieces unlined_name
 rewritten_row laws = rewritten_after (kept_word (codes "row")) (rewritten_name laws)

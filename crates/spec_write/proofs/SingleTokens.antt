@@ -11,8 +11,8 @@ use Rattle.std.proofs.lemmas.Str.{IsUtf8-from_is_utf8}
 use Rattle.currency_base.specs.Number.{int_of, is_numeral, negative_of, positive_of}
 use Rattle.currency_base.specs.declared.value.Cmp.{Cmp}
 use Rattle.currency_base.specs.declared.value.Cmp.TheVariants.{Eq, Ne, Lt, Le, Gt, Ge}
-use Rattle.currency_base.specs.declared.value.Kind.{Kind}
-use Rattle.currency_base.specs.declared.value.Kind.TheVariants as kind
+use Rattle.currency_base.specs.declared.value.ValueKind.{ValueKind}
+use Rattle.currency_base.specs.declared.value.ValueKind.TheVariants as kind
 use Rattle.currency_base.specs.declared.value.Value.{Value}
 use Rattle.text_tokens.specs.Lexeme.{Lexeme}
 use Rattle.text_tokens.specs.declared.token.TokenKind.{TokenKind}
@@ -278,7 +278,7 @@ rewritten_const laws = rewritten_says constant (λ c. value_piece c.value) unlin
 
 -- ---- kinds and comparisons
 
-kind_again : (k : Kind) (u : Lexeme) → piece_of u ≡ word_piece (kind_text k) → kind_named u ≡ Some k
+kind_again : (k : ValueKind) (u : Lexeme) → piece_of u ≡ word_piece (kind_text k) → kind_named u ≡ Some k
 kind_again kind.Text u e = ap (λ (p : Piece). kind_named (record { kind = p.kind; text = p.text; start = 0; line = 0 })) e
 kind_again kind.Int u e = ap (λ (p : Piece). kind_named (record { kind = p.kind; text = p.text; start = 0; line = 0 })) e
 
@@ -290,7 +290,7 @@ cmp_again Le u e = ap (λ (p : Piece). cmp_named (record { kind = p.kind; text =
 cmp_again Gt u e = ap (λ (p : Piece). cmp_named (record { kind = p.kind; text = p.text; start = 0; line = 0 })) e
 cmp_again Ge u e = ap (λ (p : Piece). cmp_named (record { kind = p.kind; text = p.text; start = 0; line = 0 })) e
 
-kind_whole : (k : Kind) → IsPiece (word_piece (kind_text k))
+kind_whole : (k : ValueKind) → IsPiece (word_piece (kind_text k))
 kind_whole kind.Text = record { whole = record { some = omega arith; each = refl } }
 kind_whole kind.Int = record { whole = record { some = omega arith; each = refl } }
 

@@ -2,8 +2,8 @@
 use Rattle.std.specs.Prelude.{ℕ, List, [], ◌∷◌, ◌++◌, Option, Some, None, codes}
 use Rattle.currency_base.specs.declared.value.Cmp.{Cmp}
 use Rattle.currency_base.specs.declared.value.Cmp.TheVariants.{Eq, Ne, Lt, Le, Gt, Ge}
-use Rattle.currency_base.specs.declared.value.Kind.{Kind}
-use Rattle.currency_base.specs.declared.value.Kind.TheVariants.{Text, Int}
+use Rattle.currency_base.specs.declared.value.ValueKind.{ValueKind}
+use Rattle.currency_base.specs.declared.value.ValueKind.TheVariants.{Text, Int}
 use Rattle.text_grammar.specs.declared.named.Const.{Const}
 use Rattle.text_grammar.specs.declared.named.Named.{Named}
 use Rattle.text_grammar.specs.declared.named.NamedPair.{NamedPair}
@@ -55,12 +55,12 @@ abbrev pub const_pieces : Const → List Piece
 const_pieces c = value_piece c.value ∷ []
 
 -- the word that names a kind
-abbrev pub kind_text : Kind → List ℕ
+abbrev pub kind_text : ValueKind → List ℕ
 kind_text Text = codes "text"
 kind_text Int = codes "int"
 
 -- a kind, by its word
-abbrev pub kind_pieces : Kind → List Piece
+abbrev pub kind_pieces : ValueKind → List Piece
 kind_pieces kind = word (kind_text kind)
 
 -- the symbol that names a comparison

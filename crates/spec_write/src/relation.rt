@@ -3,7 +3,7 @@ ghost use Rattle.text_write.specs.Spacing.{writes_all};
 ghost use Rattle.spec_write.specs.Pieces.{attrs_pieces, kind_pieces, maybe_pieces, row_pieces};
 
 use crate::listed::{Separator, Written, write_listed};
-use currency_base::{Kind, NoMemory};
+use currency_base::{NoMemory, ValueKind};
 use spec_syntax::{AttrTree, AttrTreeList, Named};
 use text_write::TextWriter;
 
@@ -48,11 +48,11 @@ impl Written for AttrText {
 }
 
 /// Writes the word of a kind.
-fn write_kind(into: &mut TextWriter, kind: Kind) -> Result<(), NoMemory>
+fn write_kind(into: &mut TextWriter, kind: ValueKind) -> Result<(), NoMemory>
     ensures { OnOk result (into.new ≡ writes_all into.old (kind_pieces kind)) }
 {
     match kind {
-        Kind::Text => into.word("text"),
-        Kind::Int => into.word("int"),
+        ValueKind::Text => into.word("text"),
+        ValueKind::Int => into.word("int"),
     }
 }

@@ -6,7 +6,7 @@ use Rattle.currency_csv.specs.declared.table.Column.{Column}
 use Rattle.currency_csv.specs.declared.table.Table.{Table}
 use Rattle.currency_csv.specs.declared.table.TableFault.{TableFault}
 use Rattle.currency_csv.specs.declared.table.TableFault.TheVariants as csv
-use Rattle.bind_faults.specs.Faults.{IsSettled, IsReadFault, IsReadFaultOf}
+use Rattle.bind_faults.specs.Faults.{IsDetermined, IsReadFault, IsReadFaultOf}
 use Rattle.bind_faults.proofs.Outcomes.{read_fault_of}
 use Rattle.bind_faults.specs.declared.fault.BindFault.{BindFault}
 use Rattle.bind_faults.specs.declared.fault.BindFault.TheVariants.{Refused, CopyDiffers, Limit, ReadFault, NoMemory}
@@ -40,10 +40,11 @@ of_fault name columns bytes fault refusal (inr (records, are, e)) (inr is) = inr
 -- what the bytes of the document give is what the table gives
 read_whole : (told : List (List ℕ × List ℕ)) (name : List ℕ) (columns : List Column) (bytes : List ℕ)
     (result : Result (List (List Value)) BindFault)
-    → Reads told name (Ok bytes) → ReadsTuples name columns bytes result → IsSettled result → AreTuples told name columns result
+    → Reads told name (Ok bytes) → ReadsTuples name columns bytes result → IsDetermined result
+    → AreTuples told name columns result
 unfolding AreTuples ReadsTuples
-read_whole told name columns bytes result (is, within) (inl memory) settled = absurd (subst IsSettled memory settled)
-read_whole told name columns bytes result (is, within) (inr (records, are, due)) settled =
+read_whole told name columns bytes result (is, within) (inl memory) determined = absurd (subst IsDetermined memory determined)
+read_whole told name columns bytes result (is, within) (inr (records, are, due)) determined =
     inr (
       subst (λ (bs : List ℕ). length bs ≤ table_bound) is within,
       records,
@@ -53,13 +54,13 @@ read_whole told name columns bytes result (is, within) (inr (records, are, due))
 
 -- a document that is too long
 read_long : (told : List (List ℕ × List ℕ)) (name : List ℕ) (columns : List Column) (fault : BindFault)
-    → Reads told name (Err fault) → IsSettled {A = List (List Value)} (Err fault) → AreTuples told name columns (Err fault)
+    → Reads told name (Err fault) → IsDetermined {A = List (List Value)} (Err fault) → AreTuples told name columns (Err fault)
 unfolding AreTuples
-read_long told name columns (Refused refusal) reads settled = absurd reads
-read_long told name columns (CopyDiffers document line target source) reads settled = absurd reads
-read_long told name columns (Limit k) (is, longer) settled = inl (longer, ap (λ n. Err (Limit n)) is)
-read_long told name columns (ReadFault table) reads settled = absurd settled
-read_long told name columns NoMemory reads settled = absurd settled
+read_long told name columns (Refused refusal) reads determined = absurd reads
+read_long told name columns (CopyDiffers document line target source) reads determined = absurd reads
+read_long told name columns (Limit k) (is, longer) determined = inl (longer, ap (λ n. Err (Limit n)) is)
+read_long told name columns (ReadFault table) reads determined = absurd determined
+read_long told name columns NoMemory reads determined = absurd determined
 
 -- reading records makes no read fault
 tuples_reads : (name : List ℕ) (t : Result Table TableFault) → IsReadFault (tuples_read name t) → ⊥
@@ -81,18 +82,18 @@ no_read_fault name columns bytes result (inr (records, are, due)) fault = tuples
 pub table_read : (texts : Option (List (List ℕ × List ℕ))) (name : List ℕ) (columns : List Column) (bytes : List ℕ)
     (result : Result (List (List Value)) BindFault)
     → IfSome texts (λ told. Reads told name (Ok bytes)) → ReadsTuples name columns bytes result
-    → IsSettled result → IfSome texts (λ told. AreTuples told name columns result)
-table_read None name columns bytes result reads tuples settled = tt
-table_read (Some told) name columns bytes result reads tuples settled = read_whole told name columns bytes result
-    reads tuples settled
+    → IsDetermined result → IfSome texts (λ told. AreTuples told name columns result)
+table_read None name columns bytes result reads tuples determined = tt
+table_read (Some told) name columns bytes result reads tuples determined = read_whole told name columns bytes result
+    reads tuples determined
 
 pub table_not_read : (texts : Option (List (List ℕ × List ℕ))) (name : List ℕ) (columns : List Column)
     (fault : BindFault) (result : Result (List (List Value)) BindFault)
     → IfSome texts (λ told. Reads told name (Err fault)) → result ≡ Err fault
-    → IsSettled result → IfSome texts (λ told. AreTuples told name columns result)
-table_not_read None name columns fault result reads e settled = tt
-table_not_read (Some told) name columns fault result reads e settled =
-    rw e (read_long told name columns fault reads (subst (IsSettled {A = List (List Value)}) e settled))
+    → IsDetermined result → IfSome texts (λ told. AreTuples told name columns result)
+table_not_read None name columns fault result reads e determined = tt
+table_not_read (Some told) name columns fault result reads e determined =
+    rw e (read_long told name columns fault reads (subst (IsDetermined {A = List (List Value)}) e determined))
 
 -- reading records tells of no table that could not be read
 pub no_table_fault : (name : List ℕ) (columns : List Column) (bytes : List ℕ) (result : Result (List (List Value)) BindFault)

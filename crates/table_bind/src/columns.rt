@@ -1,7 +1,7 @@
 ghost use Rattle.std.specs.Prelude.{◌≡◌, map, IfOk};
 ghost use Rattle.table_bind.specs.Columns.{column_of, text_column};
 
-use currency_base::{ItemList, Kind, Name, NoMemory};
+use currency_base::{ItemList, Name, NoMemory, ValueKind};
 use currency_csv::Column;
 use std::alloc::Global;
 
@@ -9,7 +9,7 @@ use std::alloc::Global;
 pub type ColumnList = ItemList<Column>;
 
 /// The column of that name, copied, with values of that kind.
-pub fn column(alloc: Global, name: &Name, kind: Kind) -> Result<Column, NoMemory>
+pub fn column(alloc: Global, name: &Name, kind: ValueKind) -> Result<Column, NoMemory>
     ensures { IfOk result (λ column. column ≡ column_of kind name.now) }
 {
     Ok(Column {
@@ -35,6 +35,6 @@ fn text_column(alloc: Global, name: &str) -> Result<Column, NoMemory>
 {
     Ok(Column {
         name: Name::from_bytes(alloc, name.as_bytes())?,
-        kind: Kind::Text,
+        kind: ValueKind::Text,
     })
 }

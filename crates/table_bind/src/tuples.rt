@@ -1,7 +1,7 @@
 ghost use Rattle.std.specs.Prelude.{◌≡◌, ◌≤◌, ℕ, List, map, All, IfOk, IfSome};
 ghost use Rattle.currency_base.specs.Values.{kind_of};
 ghost use Rattle.currency_edge.specs.Fault.{Rose};
-ghost use Rattle.bind_faults.specs.Faults.{IsSettled, IsReadFault, IsReadFaultOf};
+ghost use Rattle.bind_faults.specs.Faults.{IsDetermined, IsReadFault, IsReadFaultOf};
 ghost use Rattle.table_bind.specs.Tuples.{AreTuples};
 ghost use Rattle.table_bind.specs.Steps.{Reads, ReadsTuples};
 
@@ -28,7 +28,7 @@ pub fn read_tuples<S: Shelf>(
 ) -> Result<TupleList, BindFault>
     ensures kept { S.texts shelf.new ≡ S.texts shelf.old }
     ensures later { S.faults shelf.old ≤ S.faults shelf.new }
-    ensures tuples { IsSettled result
+    ensures tuples { IsDetermined result
         → IfSome (S.texts shelf.old) (λ told. AreTuples told name.now columns.now result) }
     ensures kinds { IfOk result (All (λ tuple. map kind_of tuple ≡ map (λ c. c.kind) columns.now)) }
     ensures read_fault { IsReadFault result → Rose (S.faults shelf.old) (S.faults shelf.new) }

@@ -70,17 +70,17 @@ first_repeat place so_far (name ∷ names) =
     if list_any (bytes_eq name) so_far then Some place else first_repeat (place + 1) (so_far ++ name ∷ []) names
 
 -- what a table holds where no row name stands twice; otherwise the number of the first record whose row name does
-abbrev pub told_rows : Bool → List (List Value) → Option ℕ → Result TableRows RowFault
-told_rows named tuples None = Ok record {
+abbrev pub rows_or_repeat : Bool → List (List Value) → Option ℕ → Result TableRows RowFault
+rows_or_repeat named tuples None = Ok record {
   rows = rows_of named tuples;
   names = row_names_of named tuples;
   entities = entities_of named tuples;
 }
-told_rows named tuples (Some place) = Err (Repeated (min (place + 2) 4294967295))
+rows_or_repeat named tuples (Some place) = Err (Repeated (min (place + 2) 4294967295))
 
 -- the rows and entities of a table, or its first record whose row name is taken; the header is record 1
 unfoldable pub rows_from : Bool → List (List Value) → Result TableRows RowFault
-rows_from named tuples = told_rows named tuples (first_repeat 0 [] (row_names_of named tuples))
+rows_from named tuples = rows_or_repeat named tuples (first_repeat 0 [] (row_names_of named tuples))
 
 -- rows with a name each, which stand for entities with a name each; each entity has a row
 pub record AreRows (r : TableRows) : Type 0 where

@@ -12,8 +12,8 @@ use Rattle.command_stages.specs.declared.trouble.Trouble.TheVariants as trouble
 use Rattle.spec_model.specs.Spec.{Spec}
 use Rattle.spec_model.specs.declared.question.Question.{Question}
 use Rattle.spec_model.specs.declared.relation.Relation.{Relation}
-use Rattle.told_answers.proofs.Spent.{short}
-use Rattle.trial_command.specs.Trial.{AreQuestionsRead, AreTried, IsTrialDueOver, IsTrialSpent, IsTrialTold, trial_budget}
+use Rattle.answer_texts.proofs.Spent.{short}
+use Rattle.trial_command.specs.Trial.{AreQuestionsRead, AreTried, IsTrialDueOver, IsTrialPrinted, IsTrialSpent, trial_budget}
 use Rattle.trial_documents.specs.Documents.{documents}
 
 abbrev OneSpec : Type 0
@@ -58,67 +58,67 @@ trial_like one_spec one_question told size =
 -- ---- what is told, by the status
 
 -- a text and how it ends, as one
-abbrev told_as : List ℕ → Ending → Done
-told_as text e = record { text = text; ending = e }
+abbrev printed_as : List ℕ → Ending → Done
+printed_as text e = record { text = text; ending = e }
 
-of_told : (size : ℕ) (P : Spec → Type 0) (text : List ℕ) (e : Ending) → IsTrialTold size text e
+of_printed : (size : ℕ) (P : Spec → Type 0) (text : List ℕ) (e : Ending) → IsTrialPrinted size text e
     → ((s : Spec) → IsSpecRead (documents size) (codes "spec") (Ok s) → (questions : List Question)
-    → AreTried size s questions (Ok (told_as text e)) → P s)
+    → AreTried size s questions (Ok (printed_as text e)) → P s)
     → (s : Spec) × IsSpecRead (documents size) (codes "spec") (Ok s) × P s
-of_told size P text e told by = of_spec told.0 told.1 told.2
+of_printed size P text e told by = of_spec told.0 told.1 told.2
   where
     of_questions : (s : Spec) → IsSpecRead (documents size) (codes "spec") (Ok s) → (r : Result (List Question) Trouble)
-        → MatchResult r (λ qs. AreTried size s qs (Ok (told_as text e)))
-        (λ t. ◌≡◌ {A = Result Done Trouble} (Ok (told_as text e)) (Err t)) → P s
+        → MatchResult r (λ qs. AreTried size s qs (Ok (printed_as text e)))
+        (λ t. ◌≡◌ {A = Result Done Trouble} (Ok (printed_as text e)) (Err t)) → P s
     of_questions s read (Ok qs) h = by s read qs h
-    of_questions s read (Err t) h = absurd (done_apart (told_as text e) t h)
+    of_questions s read (Err t) h = absurd (done_apart (printed_as text e) t h)
 
     of_spec : (r : Result Spec Trouble) → IsSpecRead (documents size) (codes "spec") r
-        → MatchResult r (λ s. Then (AreQuestionsRead (documents size) s.relations) (AreTried size s) (Ok (told_as text e)))
-        (λ t. ◌≡◌ {A = Result Done Trouble} (Ok (told_as text e)) (Err t))
+        → MatchResult r (λ s. Then (AreQuestionsRead (documents size) s.relations) (AreTried size s) (Ok (printed_as text e)))
+        (λ t. ◌≡◌ {A = Result Done Trouble} (Ok (printed_as text e)) (Err t))
         → (s : Spec) × IsSpecRead (documents size) (codes "spec") (Ok s) × P s
     of_spec (Ok s) read h = (s, read, of_questions s read h.0 h.2)
-    of_spec (Err t) read h = absurd (done_apart (told_as text e) t h)
+    of_spec (Err t) read h = absurd (done_apart (printed_as text e) t h)
 
-same_text : (a b : List ℕ) (d e : Ending) → ◌≡◌ {A = Result Done Trouble} (Ok (told_as a d)) (Ok (told_as b e)) → a ≡ b
-same_text a b d e same = ap (λ (x : Done). x.text) (same_done (told_as a d) (told_as b e) same)
+same_text : (a b : List ℕ) (d e : Ending) → ◌≡◌ {A = Result Done Trouble} (Ok (printed_as a d)) (Ok (printed_as b e)) → a ≡ b
+same_text a b d e same = ap (λ (x : Done). x.text) (same_done (printed_as a d) (printed_as b e) same)
 
-same_end : (a b : List ℕ) (d e : Ending) → ◌≡◌ {A = Result Done Trouble} (Ok (told_as a d)) (Ok (told_as b e)) → d ≡ e
-same_end a b d e same = ap (λ (x : Done). x.ending) (same_done (told_as a d) (told_as b e) same)
+same_end : (a b : List ℕ) (d e : Ending) → ◌≡◌ {A = Result Done Trouble} (Ok (printed_as a d)) (Ok (printed_as b e)) → d ≡ e
+same_end a b d e same = ap (λ (x : Done). x.ending) (same_done (printed_as a d) (printed_as b e) same)
 
 not_both : ending.Undecided ≡ ending.Decided → ⊥
 not_both e = cc
 
 -- it ends as a question
 ends_as_question : (size : ℕ) (text : List ℕ) (e : Ending) (s : Spec) (questions : List Question)
-    → AreTried size s questions (Ok (told_as text e)) → IsOfQuestion e
+    → AreTried size s questions (Ok (printed_as text e)) → IsOfQuestion e
 ends_as_question size text e s questions (inl h) =
     subst IsOfQuestion (sym (same_end text _ e ending.Decided h.is_text)) tt
 ends_as_question size text e s questions (inr (inl h)) =
     subst IsOfQuestion (sym (same_end text _ e ending.Undecided h.is_text)) tt
-ends_as_question size text e s questions (inr (inr h)) = absurd (done_apart (told_as text e) (trouble.Limit 3) h.is_limit)
+ends_as_question size text e s questions (inr (inr h)) = absurd (done_apart (printed_as text e) (trouble.Limit 3) h.is_limit)
 
-pub of_question : (size : ℕ) (text : List ℕ) (e : Ending) → IsTrialTold size text e → IsOfQuestion e
+pub of_question : (size : ℕ) (text : List ℕ) (e : Ending) → IsTrialPrinted size text e → IsOfQuestion e
 of_question size text e h =
-    (of_told size (λ s. IsOfQuestion e) text e h
+    (of_printed size (λ s. IsOfQuestion e) text e h
     (λ s read questions tried. ends_as_question size text e s questions tried)).2
 
-pub decided_told : (size : ℕ) (text : List ℕ) (e : Ending) → ending_status e ≡ 0 → IsTrialTold size text e
-    → IsTrialTold size text ending.Decided
-decided_told size text ending.Told zero h = absurd (of_question size text ending.Told h)
-decided_told size text ending.Tabled zero h = absurd (of_question size text ending.Tabled h)
-decided_told size text ending.Inconsistent zero h = absurd (of_question size text ending.Inconsistent h)
-decided_told size text ending.Open zero h = absurd (of_question size text ending.Open h)
-decided_told size text ending.Decided zero h = h
-decided_told size text ending.Denied zero h = absurd (of_question size text ending.Denied h)
-decided_told size text ending.Undecided zero h = absurd (omega (arith, zero))
+pub decided_printed : (size : ℕ) (text : List ℕ) (e : Ending) → ending_status e ≡ 0 → IsTrialPrinted size text e
+    → IsTrialPrinted size text ending.Decided
+decided_printed size text ending.Printed zero h = absurd (of_question size text ending.Printed h)
+decided_printed size text ending.Tabled zero h = absurd (of_question size text ending.Tabled h)
+decided_printed size text ending.Inconsistent zero h = absurd (of_question size text ending.Inconsistent h)
+decided_printed size text ending.Open zero h = absurd (of_question size text ending.Open h)
+decided_printed size text ending.Decided zero h = h
+decided_printed size text ending.Denied zero h = absurd (of_question size text ending.Denied h)
+decided_printed size text ending.Undecided zero h = absurd (omega (arith, zero))
 
-spent_of : (size : ℕ) (text : List ℕ) (s : Spec) (questions : List Question) → IsTrialTold size text ending.Undecided
+spent_of : (size : ℕ) (text : List ℕ) (s : Spec) (questions : List Question) → IsTrialPrinted size text ending.Undecided
     → IsSpecRead (documents size) (codes "spec") (Ok s) → AreTried size s questions
-    (Ok (told_as text ending.Undecided)) → IsTrialSpent size text
+    (Ok (printed_as text ending.Undecided)) → IsTrialSpent size text
 spent_of size text s questions told read (inl h) = absurd (not_both (same_end text _ ending.Undecided ending.Decided h.is_text))
 spent_of size text s questions told read (inr (inl h)) = record {
-  told = told;
+  printed = told;
   spec = s;
   question = h.question;
   report = h.report;
@@ -127,16 +127,17 @@ spent_of size text s questions told read (inr (inl h)) = record {
   is_text = same_text text _ ending.Undecided ending.Undecided h.is_text;
   short = short s h.question trial_budget h.report h.answer h.undecided;
 }
-spent_of size text s questions told read (inr (inr h)) = absurd (done_apart (told_as text ending.Undecided)
+spent_of size text s questions told read (inr (inr h)) = absurd (done_apart (printed_as text ending.Undecided)
     (trouble.Limit 3) h.is_limit)
 
-pub spent_told : (size : ℕ) (text : List ℕ) (e : Ending) → ending_status e ≡ 3 → IsTrialTold size text e → IsTrialSpent size text
-spent_told size text ending.Told three h = absurd (of_question size text ending.Told h)
-spent_told size text ending.Tabled three h = absurd (of_question size text ending.Tabled h)
-spent_told size text ending.Inconsistent three h = absurd (of_question size text ending.Inconsistent h)
-spent_told size text ending.Open three h = absurd (of_question size text ending.Open h)
-spent_told size text ending.Decided three h = absurd (omega (arith, three))
-spent_told size text ending.Denied three h = absurd (of_question size text ending.Denied h)
-spent_told size text ending.Undecided three h =
-    (of_told size (λ s. IsTrialSpent size text) text ending.Undecided h
+pub spent_printed : (size : ℕ) (text : List ℕ) (e : Ending) → ending_status e ≡ 3 → IsTrialPrinted size text e
+    → IsTrialSpent size text
+spent_printed size text ending.Printed three h = absurd (of_question size text ending.Printed h)
+spent_printed size text ending.Tabled three h = absurd (of_question size text ending.Tabled h)
+spent_printed size text ending.Inconsistent three h = absurd (of_question size text ending.Inconsistent h)
+spent_printed size text ending.Open three h = absurd (of_question size text ending.Open h)
+spent_printed size text ending.Decided three h = absurd (omega (arith, three))
+spent_printed size text ending.Denied three h = absurd (of_question size text ending.Denied h)
+spent_printed size text ending.Undecided three h =
+    (of_printed size (λ s. IsTrialSpent size text) text ending.Undecided h
     (λ s read questions tried. spent_of size text s questions h read tried)).2

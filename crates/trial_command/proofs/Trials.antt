@@ -13,10 +13,10 @@ use Rattle.spec_model.specs.Spec.{Spec}
 use Rattle.spec_model.specs.declared.question.Question.{Question}
 use Rattle.spec_model.specs.declared.relation.Relation.{Relation}
 use Rattle.text_write.specs.Pieces.{text_of}
-use Rattle.command_stages.specs.Named.{IsDetermined, IsSettled}
+use Rattle.command_stages.specs.Named.{IsDetermined, IsDeterminedTrouble}
 use Rattle.command_stages.specs.Stages.{IsQuestionRead, IsSpecRead}
 use Rattle.command_stages.specs.Endings.{ending_of}
-use Rattle.told_answers.specs.Answers.{IsAnswer, answer_done, answer_text}
+use Rattle.answer_texts.specs.Answers.{IsAnswer, answer_done, answer_text}
 use Rattle.command_stages.specs.declared.done.Ending.TheVariants as ending
 use Rattle.trial_command.specs.Trial.{AreDecided, AreQuestionsRead, AreTried, IsDecided, IsTrialDueOver, head_text, report_line, report_lines, summary_text, trial_budget}
 use Rattle.command_stages.specs.declared.done.Done.{Done}
@@ -110,21 +110,21 @@ not_decided s r decided d undecided is =
           ending_of b;
     } in made) undecided)
 
-pub spent_told : (size : ℕ) (s : Spec) (questions : List Question) (place : ℕ) (summary : List ℕ) (q : Question)
+pub spent_printed : (size : ℕ) (s : Spec) (questions : List Question) (place : ℕ) (summary : List ℕ) (q : Question)
     (r : Report) (outcome : Result Done Trouble)
     → AreSoFar size s questions place summary → slice_get questions place ≡ Some q → IsAnswer s q trial_budget r
     → is_decided (kind_of r.verdict) ≡ false
     → IfOk outcome (λ d. d ≡ answer_done s.relations false r) → IfErr outcome (λ e. e ≡ trouble.NoMemory)
-    → IsSettled outcome → AreTried size s questions outcome
-spent_told size s questions place summary q r (Ok d) so_far asked answer undecided told memory settled =
+    → IsDetermined outcome → AreTried size s questions outcome
+spent_printed size s questions place summary q r (Ok d) so_far asked answer undecided told memory determined =
     spent_at size s questions place summary q r (Ok d) so_far asked answer undecided
     (not_decided s r (is_decided (kind_of r.verdict)) d undecided told)
-spent_told size s questions place summary q r (Err e) so_far asked answer undecided told memory settled =
-    absurd (subst IsDetermined memory settled)
+spent_printed size s questions place summary q r (Err e) so_far asked answer undecided told memory determined =
+    absurd (subst IsDeterminedTrouble memory determined)
 
 pub past_limit : (size : ℕ) (s : Spec) (questions : List Question) (place : ℕ) (q : Question) (e : Trouble)
     → slice_get questions place ≡ Some q
-    → (IsDetermined e → (c : Rankings) × HasTooMany s q c × (e ≡ trouble.Limit 3)) → IsDetermined e
+    → (IsDeterminedTrouble e → (c : Rankings) × HasTooMany s q c × (e ≡ trouble.Limit 3)) → IsDeterminedTrouble e
     → AreTried size s questions (Err e)
 past_limit size s questions place q e asked told determined =
     let h : (c : Rankings) × HasTooMany s q c × (e ≡ trouble.Limit 3) = told determined in

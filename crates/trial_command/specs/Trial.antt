@@ -15,7 +15,7 @@ use Rattle.spec_model.specs.declared.relation.Relation.{Relation}
 use Rattle.text_write.specs.Pieces.{text_of}
 use Rattle.trial_documents.specs.Documents.{documents}
 use Rattle.command_stages.specs.Stages.{Then, IsQuestionRead, IsSpecRead}
-use Rattle.told_answers.specs.Answers.{IsAnswer, IsShort}
+use Rattle.answer_texts.specs.Answers.{IsAnswer, IsShort}
 use Rattle.command_stages.specs.declared.done.Ending.{Ending}
 use Rattle.command_stages.specs.declared.done.Ending.TheVariants.{Decided, Undecided}
 use Rattle.command_stages.specs.declared.done.Done.{Done}
@@ -122,12 +122,12 @@ IsTrialDue size = IsTrialDueOver (documents size) size
 -- the generated documents are read as a specification and four questions, by the same stages as those of `ask`, and
 -- this is told of the reports that answer them: the summary of four right verdicts; or the whole report for the first
 -- question that the budget was spent on
-abbrev pub IsTrialTold : ℕ → List ℕ → Ending → Type 0
-IsTrialTold size text ending = IsTrialDue size (Ok (record { text = text; ending = ending }))
+abbrev pub IsTrialPrinted : ℕ → List ℕ → Ending → Type 0
+IsTrialPrinted size text ending = IsTrialDue size (Ok (record { text = text; ending = ending }))
 
 -- the documents of `trial` have a question that the budget was spent on, and this is the text of a report that says so
 pub record IsTrialSpent (size : ℕ) (text : List ℕ) : Type 0 where
-  pub told : IsTrialTold size text Undecided
+  pub printed : IsTrialPrinted size text Undecided
   pub spec : Spec
   pub question : Question
   pub report : Report

@@ -1,18 +1,18 @@
 ghost use Rattle.std.specs.Prelude.{◌≡◌, ◌≢◌, ◌≤◌, ◌++◌, ◌∷◌, [], All, IfErr, IfOk, OnOk, string_bytes};
 ghost use Rattle.bound_spec.specs.Growth.{IsWithinLimits};
 ghost use Rattle.spec_model.specs.Questions.{IsQuestionOn};
-ghost use Rattle.command_stages.specs.Named.{IsReadFault, IsSettled};
+ghost use Rattle.command_stages.specs.Named.{IsDetermined, IsReadFault};
 ghost use Rattle.trial_command.specs.Trial.{AreQuestionsRead, AreTried, IsTrialDue, IsTrialDueOver, head_text, number_line, report_line, verdict_line};
 ghost use Rattle.report_model.specs.Verdicts.{kind_text};
 
+use answer_texts::{printed_report, report_on};
 use command_stages::{Done, Ending, Trouble, bytes_of, read_specification, read_the_question};
 use currency_base::{ItemList, NoMemory};
 use currency_edge::SteadyShelf;
-use report_model::{Kind, Report, Verdict};
+use report_model::{Report, Verdict, VerdictKind};
 use solver_guides::Guides;
 use spec_model::{Question, Specification};
 use std::alloc::{AllocError, Global};
-use told_answers::{report_on, told_report};
 use trial_documents::{rows_of, trial_documents};
 
 // How many clauses may be learned for each question.
@@ -41,7 +41,7 @@ fn head(alloc: Global, size: u32) -> Result<String, AllocError>
 }
 
 // The line of a verdict of which nothing is counted.
-fn kind_line(alloc: Global, kind: Kind) -> Result<String, AllocError>
+fn kind_line(alloc: Global, kind: VerdictKind) -> Result<String, AllocError>
     ensures { IfOk result (λ text. string_bytes text ≡ kind_text kind ++ 10 ∷ []) }
 {
     let kind = kind.text();
@@ -53,14 +53,14 @@ fn verdict_line(alloc: Global, verdict: &Verdict) -> Result<String, AllocError>
     ensures { IfOk result (λ text. string_bytes text ≡ verdict_line verdict.now) }
 {
     match verdict {
-        Verdict::Inconsistent => kind_line(alloc, Kind::Inconsistent),
-        Verdict::Consistent => kind_line(alloc, Kind::Consistent),
-        Verdict::Certain => kind_line(alloc, Kind::Certain),
-        Verdict::NotCertain(_) => kind_line(alloc, Kind::NotCertain),
-        Verdict::Same(_) => kind_line(alloc, Kind::Same),
-        Verdict::NotSame { .. } => kind_line(alloc, Kind::NotSame),
+        Verdict::Inconsistent => kind_line(alloc, VerdictKind::Inconsistent),
+        Verdict::Consistent => kind_line(alloc, VerdictKind::Consistent),
+        Verdict::Certain => kind_line(alloc, VerdictKind::Certain),
+        Verdict::NotCertain(_) => kind_line(alloc, VerdictKind::NotCertain),
+        Verdict::Same(_) => kind_line(alloc, VerdictKind::Same),
+        Verdict::NotSame { .. } => kind_line(alloc, VerdictKind::NotSame),
         Verdict::Answers(tuples) => number_line(alloc, "answers ", tuples.len() as u64),
-        Verdict::Undecided(_) => kind_line(alloc, Kind::Undecided),
+        Verdict::Undecided(_) => kind_line(alloc, VerdictKind::Undecided),
     }
 }
 
@@ -84,7 +84,7 @@ fn tried(
     requires limit { size ≤ 1000 }
     requires within { IsWithinLimits spec.now }
     requires questions { All (IsQuestionOn spec.now.relations) questions.now }
-    ensures job { IsSettled result → AreTried size spec.now questions.now result }
+    ensures job { IsDetermined result → AreTried size spec.now questions.now result }
     ensures inside { IsReadFault result → ⊥ }
     ensures not_words { IfErr result (λ e. e ≢ Trouble.Words) }
 {
@@ -97,7 +97,7 @@ fn tried(
             Err(trouble) => return Err(trouble),
         };
         if !report.verdict.kind().is_decided() {
-            return told_report(alloc, spec, false, &report);
+            return printed_report(alloc, spec, false, &report);
         }
         let Ok(()) = note(alloc, &mut summary, &report) else {
             return Err(Trouble::NoMemory);
@@ -133,7 +133,7 @@ fn read_questions(
     shelf: &mut SteadyShelf,
     spec: &Specification,
 ) -> Result<ItemList<Question>, Trouble>
-    ensures read { IsSettled result → AreQuestionsRead shelf.old spec.now.relations result }
+    ensures read { IsDetermined result → AreQuestionsRead shelf.old spec.now.relations result }
     ensures fit { IfOk result (All (IsQuestionOn spec.now.relations)) }
     ensures inside { IsReadFault result → ⊥ }
     ensures not_words { IfErr result (λ e. e ≢ Trouble.Words) }
@@ -169,7 +169,7 @@ fn tried_over(
 ) -> Result<Done, Trouble>
     requires some { 1 ≤ size }
     requires limit { size ≤ 1000 }
-    ensures due { IsSettled result → IsTrialDueOver shelf.old size result }
+    ensures due { IsDetermined result → IsTrialDueOver shelf.old size result }
     ensures inside { IsReadFault result → ⊥ }
     ensures not_words { IfErr result (λ e. e ≢ Trouble.Words) }
 {
@@ -188,7 +188,7 @@ fn tried_over(
 pub fn try_generated(alloc: Global, size: u64, guides: &mut Guides) -> Result<Done, Trouble>
     requires some { 1 ≤ size }
     requires limit { size ≤ 1000 }
-    ensures due { IsSettled result → IsTrialDue size result }
+    ensures due { IsDetermined result → IsTrialDue size result }
     ensures inside { IsReadFault result → ⊥ }
     ensures not_words { IfErr result (λ e. e ≢ Trouble.Words) }
 {

@@ -7,7 +7,7 @@ use Rattle.std.proofs.lemmas.Option.{same_Some, slice_get_within}
 use Rattle.currency_base.specs.Values.{kind_of}
 use Rattle.currency_base.specs.declared.ids.AttrId.{AttrId}
 use Rattle.currency_base.specs.declared.ids.RelId.{RelId}
-use Rattle.currency_base.specs.declared.value.Kind.{Kind}
+use Rattle.currency_base.specs.declared.value.ValueKind.{ValueKind}
 use Rattle.currency_base.specs.declared.value.Value.{Value}
 use Rattle.currency_base.specs.declared.value.Value.TheVariants.{Text}
 use Rattle.query_model.specs.Fitting.{IsDisjunct, IsTermOf, IsTestTermOf, StandsIn}
@@ -42,7 +42,7 @@ value_term_of k attr value = ⊎_elim
     (λ (apart : k ≡ attr → ⊥). subst (IsTermOf 0) (sym (term_other k attr value apart)) tt)
     (cases_eq k attr)
 
-value_term_on : (o : Option Kind) (k attr : ℕ) (value : Value) → (k ≡ attr → o ≡ Some (kind_of value))
+value_term_on : (o : Option ValueKind) (k attr : ℕ) (value : Value) → (k ≡ attr → o ≡ Some (kind_of value))
     → IsTermOn [] o (value_term k attr value)
 value_term_on o k attr value is = ⊎_elim
     (λ (same : k ≡ attr). subst (IsTermOn [] o) (sym (term_here k attr value same)) (sym (is same)))
@@ -189,14 +189,15 @@ given_is tuple d is =
     }
 
 -- the given values have the kinds of the variables
-abbrev HaveKinds : (ℕ → Option Value) → List Kind → Type 0
+abbrev HaveKinds : (ℕ → Option Value) → List ValueKind → Type 0
 HaveKinds g kinds = (v : ℕ) (x : Value) → g v ≡ Some x → slice_get kinds v ≡ Some (kind_of x)
 
-kept_kind : (g : ℕ → Option Value) (kinds : List Kind) (v : ℕ) → g v ≡ None
+kept_kind : (g : ℕ → Option Value) (kinds : List ValueKind) (v : ℕ) → g v ≡ None
     → slice_get (kept g kinds) (left_number g v) ≡ slice_get kinds v
 kept_kind g kinds v none = ap (slice_get (kept g kinds)) (number_is g v) ∙ get_kept g kinds v none
 
-given_term_on : (g : ℕ → Option Value) (kinds : List Kind) → HaveKinds g kinds → (o : Option Kind) (t : Term) → IsTermOn kinds o t
+given_term_on : (g : ℕ → Option Value) (kinds : List ValueKind) → HaveKinds g kinds → (o : Option ValueKind) (t : Term)
+    → IsTermOn kinds o t
     → IsTermOn (kept g kinds) o (given_term g t)
 given_term_on g kinds have o (term.Var v) is = go (g v) refl
   where
@@ -207,7 +208,7 @@ given_term_on g kinds have o (term.Var v) is = go (g v) refl
 given_term_on g kinds have o term.Any is = tt
 given_term_on g kinds have o (term.Constant c) is = is
 
-given_side_on : (g : ℕ → Option Value) (kinds : List Kind) → HaveKinds g kinds → (s : TestTerm)
+given_side_on : (g : ℕ → Option Value) (kinds : List ValueKind) → HaveKinds g kinds → (s : TestTerm)
     → side_kind (kept g kinds) (given_side g s) ≡ side_kind kinds s
 given_side_on g kinds have (test.Var v) = go (g v) refl
   where
@@ -217,7 +218,7 @@ given_side_on g kinds have (test.Var v) = go (g v) refl
     go None none = kept_kind g kinds v none
 given_side_on g kinds have (test.Constant c) = refl
 
-given_atom_on : (relations : List Relation) (g : ℕ → Option Value) (kinds : List Kind) → HaveKinds g kinds → (atom : Atom)
+given_atom_on : (relations : List Relation) (g : ℕ → Option Value) (kinds : List ValueKind) → HaveKinds g kinds → (atom : Atom)
     → IsAtomOn relations kinds atom → IsAtomOn relations (kept g kinds) (given_atom g atom)
 given_atom_on relations g kinds have atom on =
     record {
@@ -234,7 +235,7 @@ map_twice : {A B : Type 0} (f : A → B) (xs : List A) → map (λ y. Some y) (m
 map_twice f [] = refl
 map_twice f (x ∷ xs) = ap (λ l. Some (f x) ∷ l) (map_twice f xs)
 
-given_on : (relations : List Relation) (heads : List Kind) (tuple : List Value) → heads ≡ map kind_of tuple → (d : Disjunct)
+given_on : (relations : List Relation) (heads : List ValueKind) (tuple : List Value) → heads ≡ map kind_of tuple → (d : Disjunct)
     → IsDisjunctOn relations heads d → IsDisjunctOn relations [] (given_disjunct tuple d)
 given_on relations heads tuple are d on =
     let g = given_value d.head tuple in

@@ -7,7 +7,7 @@ use Rattle.answer_laws.specs.Answered.{IsAnswerIn}
 use Rattle.currency_base.specs.Values.{kind_of}
 use Rattle.currency_base.specs.declared.ids.RowId.{RowId}
 use Rattle.currency_base.specs.declared.row.Row.{Row}
-use Rattle.currency_base.specs.declared.value.Kind.{Kind}
+use Rattle.currency_base.specs.declared.value.ValueKind.{ValueKind}
 use Rattle.currency_base.specs.declared.value.Value.{Value}
 use Rattle.currency_base.specs.declared.value.Value.TheVariants.{Text}
 use Rattle.denial_rules.specs.Instances.{field_value, value_in}
@@ -89,7 +89,7 @@ tuple_kinds c rel r is ent tuple current k x at = go k (ap (λ l. slice_get l k)
 
 -- a value of a variable has the variable's kind: the variable stands in an atom
 value_kind : (relations : List Relation) → AreRelations relations → (c : Rankings) (instance : List (List (List Value)))
-    → IsCurrentInstance relations c instance → (heads : List Kind) (d : Disjunct) → IsDisjunct d
+    → IsCurrentInstance relations c instance → (heads : List ValueKind) (d : Disjunct) → IsDisjunct d
     → (on : IsDisjunctOn relations heads d) → (values : List Value) → Meets instance d values → (v : ℕ) (x : Value) → v < d.vars
     → slice_get values v ≡ Some x
     → slice_get on.kinds v ≡ Some (kind_of x)
@@ -112,9 +112,9 @@ value_kind relations are c instance current heads d is on values meets v x below
     ∙ tuple_kinds c atom.relation.0 r is_r ent.0 holds.tuple tuple here.0 y.0 y.1
     ∙ ap (λ z. Some (kind_of z)) (sym same)
 
-heads_from : (values : List Value) (kinds : List Kind) (n : ℕ)
+heads_from : (values : List Value) (kinds : List ValueKind) (n : ℕ)
     → ((v : ℕ) (x : Value) → v < n → slice_get values v ≡ Some x → slice_get kinds v ≡ Some (kind_of x))
-    → (head : List ℕ) (tuple : List Value) (heads : List Kind) → ((k v : ℕ) → slice_get head k ≡ Some v → v < n)
+    → (head : List ℕ) (tuple : List Value) (heads : List ValueKind) → ((k v : ℕ) → slice_get head k ≡ Some v → v < n)
     → IsHead values head tuple → map (slice_get kinds) head ≡ map (λ kind. Some kind) heads → heads ≡ map kind_of tuple
 heads_from values kinds n each [] [] [] within is on = refl
 heads_from values kinds n each [] [] (h ∷ heads) within is on = absurd (none_more (Some h) (map (λ kind. Some kind) heads) on)

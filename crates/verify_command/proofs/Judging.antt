@@ -5,7 +5,7 @@ use Rattle.command_stages.specs.declared.done.Done.{Done}
 use Rattle.command_stages.specs.declared.trouble.Trouble.{Trouble}
 use Rattle.currency_report.specs.declared.report.ReadReport.{ReadReport}
 use Rattle.program_words.specs.Words.{VerifySaid}
-use Rattle.report_model.specs.declared.verdict.Kind.{Kind}
+use Rattle.report_model.specs.declared.verdict.VerdictKind.{VerdictKind}
 use Rattle.spec_model.specs.Spec.{Spec}
 use Rattle.spec_model.specs.declared.question.Question.{Question}
 use Rattle.spec_model.specs.declared.relation.Relation.{Relation}
@@ -26,7 +26,7 @@ OneReport = (told : List (List ℕ × List ℕ)) (relations : List Relation) (na
 
 judged_due : OneSpec → OneQuestion → OneReport → (told : List (List ℕ × List ℕ)) (v : VerifySaid) (s : Spec)
     (q : Question) (r : ReadReport)
-    (judged : Result Kind Trouble) → IsSpecRead told v.spec (Ok s) → IsQuestionRead told s.relations v.question (Ok q)
+    (judged : Result VerdictKind Trouble) → IsSpecRead told v.spec (Ok s) → IsQuestionRead told s.relations v.question (Ok q)
     → IsReportRead told s.relations v.report (Ok r) → IsJudgedDue told v judged → IsJudged s q v.report r judged
 judged_due one_spec one_question one_report told v s q r judged spec question report h =
     of_report (of_question (of_spec h))
@@ -55,7 +55,7 @@ judged_due one_spec one_question one_report told v s q r judged spec question re
 pub verify_judged : OneSpec → OneQuestion → OneReport → (told : List (List ℕ × List ℕ)) (v : VerifySaid) (s : Spec)
     (q : Question) (r : ReadReport)
     (got : Result Done Trouble) → IsSpecRead told v.spec (Ok s) → IsQuestionRead told s.relations v.question (Ok q)
-    → IsReportRead told s.relations v.report (Ok r) → IsVerifyDue told v got → (judged : Result Kind Trouble) ×
+    → IsReportRead told s.relations v.report (Ok r) → IsVerifyDue told v got → (judged : Result VerdictKind Trouble) ×
     IsJudged s q v.report r judged × (got ≡ accepted judged)
 verify_judged one_spec one_question one_report told v s q r got spec question report h =
     (h.0, judged_due one_spec one_question one_report told v s q r h.0 spec question report h.1, h.2)

@@ -1,14 +1,14 @@
 ghost use Rattle.std.specs.Prelude.{◌≢◌, ℕ, List, IfErr, ◌≤◌, IfOk, IfSome};
-ghost use Rattle.command_stages.specs.Named.{IsSettled, IsReadFault, IsReadFaultOf};
+ghost use Rattle.command_stages.specs.Named.{IsDetermined, IsReadFault, IsReadFaultOf};
 ghost use Rattle.currency_edge.specs.Fault.{Rose};
 ghost use Rattle.verify_command.specs.Judged.{IsJudgedDue, IsVerifyDue, IsVerifyDocumentDue, verify_said};
-ghost use Rattle.verify_command.specs.Shown.{IsShownRight, IsVerifyTold};
+ghost use Rattle.verify_command.specs.Shown.{IsShownRight, IsVerifyPrinted};
 
 use crate::text::accepted;
 use command_stages::{Done, Trouble, read_specification, read_the_question};
 use currency_edge::Shelf;
 use program_words::Verify;
-use report_model::Kind;
+use report_model::VerdictKind;
 use report_stages::judge_document;
 use std::alloc::Global;
 
@@ -17,9 +17,9 @@ fn verify_documents<S: Shelf>(
     alloc: Global,
     shelf: &mut S,
     asked: Verify<'_>,
-) -> Result<Kind, Trouble>
+) -> Result<VerdictKind, Trouble>
     ensures later { S.faults shelf.old ≤ S.faults shelf.new }
-    ensures due { IsSettled result → IfSome (S.texts shelf.old) (λ told. IsJudgedDue told (verify_said asked.entry) result) }
+    ensures due { IsDetermined result → IfSome (S.texts shelf.old) (λ told. IsJudgedDue told (verify_said asked.entry) result) }
     ensures right { IfOk result (λ kind. IfSome (S.texts shelf.old) (λ told. IsShownRight told (verify_said asked.entry) kind)) }
     ensures read_fault { IsReadFault result → Rose (S.faults shelf.old) (S.faults shelf.new) }
     ensures unread { (n : List ℕ) → IsReadFaultOf result n
@@ -40,8 +40,8 @@ fn verify_documents<S: Shelf>(
 /// All stages of `verify`, and the line that tells what the report shows.
 pub fn verified<S: Shelf>(alloc: Global, shelf: &mut S, asked: Verify<'_>) -> Result<Done, Trouble>
     ensures later { S.faults shelf.old ≤ S.faults shelf.new }
-    ensures due { IsSettled result → IfSome (S.texts shelf.old) (λ told. IsVerifyDue told (verify_said asked.entry) result) }
-    ensures told { IfOk result (λ done. IfSome (S.texts shelf.old) (λ told. IsVerifyTold told (verify_said asked.entry) done)) }
+    ensures due { IsDetermined result → IfSome (S.texts shelf.old) (λ told. IsVerifyDue told (verify_said asked.entry) result) }
+    ensures printed { IfOk result (λ done. IfSome (S.texts shelf.old) (λ told. IsVerifyPrinted told (verify_said asked.entry) done)) }
     ensures read_fault { IsReadFault result → Rose (S.faults shelf.old) (S.faults shelf.new) }
     ensures unread { (n : List ℕ) → IsReadFaultOf result n
         → IfSome (S.texts shelf.old) (λ told. IsVerifyDocumentDue told (verify_said asked.entry) n) }

@@ -49,12 +49,12 @@ clause_vars a vars clause lits are fits is k x at =
     var_within x vars (omega (arith, within, fits))
 
 -- what a test of a truth tells
-pub told : (o : Option Bool) (b : Bool) → option_eq beq o (Some b) ≡ true → o ≡ Some b
-told None b e = absurd (false≢true e)
-told (Some true) true e = refl
-told (Some true) false e = absurd (false≢true e)
-told (Some false) true e = absurd (false≢true e)
-told (Some false) false e = refl
+pub truth_tested : (o : Option Bool) (b : Bool) → option_eq beq o (Some b) ≡ true → o ≡ Some b
+truth_tested None b e = absurd (false≢true e)
+truth_tested (Some true) true e = refl
+truth_tested (Some true) false e = absurd (false≢true e)
+truth_tested (Some false) true e = absurd (false≢true e)
+truth_tested (Some false) false e = refl
 
 -- ---- outcomes
 

@@ -83,7 +83,7 @@ impl Solver {
 
     /// Goes back to where nothing is assumed, and makes true there what unit propagation finds. Steps stay, and no memory
     /// is taken.
-    pub fn settle(&mut self, guides: &mut Guides)
+    pub fn propagate_at_root(&mut self, guides: &mut Guides)
         ensures frame { self.new.frame ≡ self.old.frame }
         ensures steps { self.new.steps ≡ self.old.steps }
         ensures failed { self.new.failed ≡ self.old.failed }

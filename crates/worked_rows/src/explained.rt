@@ -239,7 +239,7 @@ ranking Emp.salary of mary: s2 < s1 < s3;
 ranking Emp.address of mary: s2 < s1 < s3;
 end;
 
-== of two causes one is told
+== of two causes one is wrong_ends
 -- s
 relation R from "r.csv" row id entity eid (a: int, b: int);
 order R.a: r1 < r2;

@@ -69,8 +69,6 @@ mod steered_rows;
 #[cfg(test)]
 mod tables;
 #[cfg(test)]
-mod told;
-#[cfg(test)]
 mod trials;
 #[cfg(test)]
 mod unread;
@@ -80,5 +78,7 @@ mod values;
 mod verdicts;
 #[cfg(test)]
 mod verify;
+#[cfg(test)]
+mod wrong_ends;
 #[cfg(test)]
 mod wrong_guides;

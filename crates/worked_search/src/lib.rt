@@ -10,6 +10,6 @@ mod rows;
 #[cfg(test)]
 mod tables;
 #[cfg(test)]
-mod told;
-#[cfg(test)]
 mod turns;
+#[cfg(test)]
+mod wrong_picks;

@@ -3,10 +3,10 @@ ghost use Rattle.currency_edge.specs.Fault.{Rose};
 ghost use Rattle.spec_model.specs.Facts.{IsRelation, IsGivenPair};
 ghost use Rattle.spec_model.specs.declared.relation.Relation.{Relation};
 ghost use Rattle.spec_names.specs.Names.{names_of, all_names_of};
-ghost use Rattle.bind_faults.specs.Faults.{IsDue, IsSettled, IsReadFault, IsReadFaultOf};
+ghost use Rattle.bind_faults.specs.Faults.{IsDue, IsDetermined, IsReadFault, IsReadFaultOf};
 ghost use Rattle.bind_faults.specs.declared.fault.BindFault.{BindFault};
 ghost use Rattle.order_bind.specs.Orders.{Steps};
-ghost use Rattle.order_bind.specs.TableOrders.{orders_at, pairs_told, IsGivenMore, IsOrdersMade, IsOrdersTable};
+ghost use Rattle.order_bind.specs.TableOrders.{orders_at, pairs_of_tuples, IsGivenMore, IsOrdersMade, IsOrdersTable};
 
 use crate::add_all;
 use crate::tables::pairs::{checked, pairs_of};
@@ -35,7 +35,7 @@ pub fn bind_orders<S: Shelf>(
     requires { names.now ≡ all_names_of spec.old }
     ensures kept { S.texts shelf.new ≡ S.texts shelf.old }
     ensures later { S.faults shelf.old ≤ S.faults shelf.new }
-    ensures step { IsSettled result → IfSome (S.texts shelf.old) (λ told. (made : Result (List Relation) BindFault)
+    ensures step { IsDetermined result → IfSome (S.texts shelf.old) (λ told. (made : Result (List Relation) BindFault)
         × IsOrdersMade told spec.old.relations relation.now document.now made × Steps spec.new.relations made result) }
     ensures rules { spec.new.rules ≡ spec.old.rules }
     ensures copies { spec.new.copies ≡ spec.old.copies }
@@ -69,7 +69,7 @@ fn give_pairs(
     ensures reads { IsReadFault result → ⊥ }
 {
     let relation = &spec.relations()[rel];
-    let pairs = told_pairs(alloc, names.relation(rel), relation, table, tuples)?;
+    let pairs = table_pairs(alloc, names.relation(rel), relation, table, tuples)?;
     match add_all(spec, RelId(rel as u32), pairs.as_slice()) {
         Ok(()) => Ok(()),
         Err(_) => Err(BindFault::NoMemory),
@@ -77,7 +77,7 @@ fn give_pairs(
 }
 
 /// The pairs that tuples say of a relation, or the first fault.
-fn told_pairs(
+fn table_pairs(
     alloc: Global,
     names: &RelationNames,
     relation: &Relation,
@@ -86,7 +86,7 @@ fn told_pairs(
 ) -> Result<PairList, BindFault>
     requires names { names.now ≡ names_of relation.now }
     requires facts { IsRelation relation.now }
-    ensures due { IsDue (pairs_told relation.now table.now tuples) result }
+    ensures due { IsDue (pairs_of_tuples relation.now table.now tuples) result }
     ensures given { IfOk result (All (IsGivenPair relation.now)) }
 {
     let records = records_of(alloc, table, &names.attrs, tuples)?;

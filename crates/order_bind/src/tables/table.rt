@@ -2,7 +2,7 @@
 
 ghost use Rattle.std.specs.Prelude.{◌≡◌, ◌≤◌, ℕ, List, IfOk, IfSome};
 ghost use Rattle.currency_edge.specs.Fault.{Rose};
-ghost use Rattle.bind_faults.specs.Faults.{IsSettled, IsReadFault, IsReadFaultOf};
+ghost use Rattle.bind_faults.specs.Faults.{IsDetermined, IsReadFault, IsReadFaultOf};
 ghost use Rattle.table_bind.specs.Tuples.{AreTuples};
 ghost use Rattle.order_bind.specs.TableOrders.{order_columns};
 
@@ -20,7 +20,7 @@ pub fn read_orders<S: Shelf>(
 ) -> Result<TupleList, BindFault>
     ensures kept { S.texts shelf.new ≡ S.texts shelf.old }
     ensures later { S.faults shelf.old ≤ S.faults shelf.new }
-    ensures tuples { IsSettled result
+    ensures tuples { IsDetermined result
         → IfSome (S.texts shelf.old) (λ told. AreTuples told name.now order_columns result) }
     ensures read_fault { IsReadFault result → Rose (S.faults shelf.old) (S.faults shelf.new) }
     ensures names_it { (table : List ℕ) → IsReadFaultOf result table → name.now ≡ table }

@@ -4,9 +4,9 @@ use Rattle.ask_command.proofs.asking.reply.Goals as goal
 
 pub returns-in-Ok-clause-job : goal.returns-in-Ok-clause-job
 returns-in-Ok-clause-job g c =
-    answered c.args.spec.now (ask_said c.args.asked) c.args.question.now c.in-Ok.report c.told_as_asked.result
+    answered c.args.spec.now (ask_said c.args.asked) c.args.question.now c.in-Ok.report c.printed_as_asked.result
     c.in-Ok.ensures.answer
-    c.told_as_asked.ensures.told c.told_as_asked.ensures.memory
+    c.printed_as_asked.ensures.printed c.printed_as_asked.ensures.memory
 
 pub returns-in-Err-clause-job : goal.returns-in-Err-clause-job
 returns-in-Err-clause-job g c =

@@ -2,10 +2,10 @@ use Rattle.command_stages.proofs.StageLemmas.{question_refused, question_table_u
 use Rattle.command_stages.proofs.stages.question_said.Goals as goal
 
 pub returns-in-Err-clause-said : goal.returns-in-Err-clause-said
-returns-in-Err-clause-said g c settled =
+returns-in-Err-clause-said g c determined =
     question_refused (g.S.Shelf.texts c.args.shelf.now) c.args.spec.now.relations c.args.name.now c.args.bytes.now
     c.in-Err.trouble
-    (c.in-Err.ensures.tree settled)
+    (c.in-Err.ensures.tree determined)
 
 pub returns-in-Err-bind_question-clause-unread : goal.returns-in-Err-bind_question-clause-unread
 returns-in-Err-bind_question-clause-unread g c =

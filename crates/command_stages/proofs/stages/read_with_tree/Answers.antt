@@ -5,12 +5,12 @@ use Rattle.command_stages.proofs.WholeTexts.{of_document, of_whole_tree}
 use Rattle.command_stages.proofs.stages.read_with_tree.Goals as goal
 
 pub returns-clause-stage : goal.returns-clause-stage
-returns-clause-stage g c settled =
+returns-clause-stage g c determined =
     of_document (g.S.Shelf.texts c.args.shelf.now) c.args.name.now c.in_ok-bytes.bytes.items text_bound
     (λ t b. IsSpecSaid t c.args.name.now b) (spec_result c.spec_said.result)
     c.in_ok-bytes.ensures.whole
     (omega (arith, c.in_ok-bytes.ensures.within, c.as_slice.ensures.len, ap length c.as_slice.ensures.value))
-    (rw c.as_slice.ensures.value at (rw c.in_ok-bytes.ensures.kept at (c.spec_said.ensures.said settled)))
+    (rw c.as_slice.ensures.value at (rw c.in_ok-bytes.ensures.kept at (c.spec_said.ensures.said determined)))
 
 pub returns-clause-tree : goal.returns-clause-tree
 returns-clause-tree g c =

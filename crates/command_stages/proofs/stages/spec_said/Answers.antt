@@ -2,9 +2,9 @@ use Rattle.command_stages.proofs.StageLemmas.{tree_refused, table_unread}
 use Rattle.command_stages.proofs.stages.spec_said.Goals as goal
 
 pub returns-in-Err-clause-said : goal.returns-in-Err-clause-said
-returns-in-Err-clause-said g c settled =
+returns-in-Err-clause-said g c determined =
     tree_refused (g.S.Shelf.texts c.args.shelf.now) c.args.name.now c.args.bytes.now c.in-Err.trouble
-    (c.in-Err.ensures.tree settled)
+    (c.in-Err.ensures.tree determined)
 
 pub returns-in-Err-bind_spec-clause-unread : goal.returns-in-Err-bind_spec-clause-unread
 returns-in-Err-bind_spec-clause-unread g c =

@@ -21,7 +21,7 @@ tuples_at-requires c = left_within c.args.candidates (length c.args.candidates.t
 pub steps_at-requires : goal.steps_at-requires
 steps_at-requires c =
     left_within c.args.candidates (length c.args.steps.now) c.in-Ok.left (c.requires.candidates.per_tuple
-    ∙ sym c.requires.settled.as_many) c.in-Ok.ensures
+    ∙ sym c.requires.decided.as_many) c.in-Ok.ensures
 
 pub derived-requires-clause-goals : goal.derived-requires-clause-goals
 derived-requires-clause-goals c =
@@ -30,7 +30,7 @@ derived-requires-clause-goals c =
       spec = c.requires.search.spec;
       posed = c.requires.posed;
       candidates = c.requires.candidates;
-      settled = c.requires.settled;
+      decided = c.requires.decided;
     } in
     subst (All (IsGoalOn c.args.search.spec c.args.search.wanted))
     (sym (c.in-Ok-goals_of.ensures ∙ ap (map Answer) c.in-Ok.ensures))
@@ -43,7 +43,7 @@ derived-requires-clause-proved c =
       spec = c.requires.search.spec;
       posed = c.requires.posed;
       candidates = c.requires.candidates;
-      settled = c.requires.settled;
+      decided = c.requires.decided;
     } in
     subst (λ (gs : List Goal). AreProved c.args.search gs c.in-Ok-steps_at.units)
     (sym (c.in-Ok-goals_of.ensures ∙ ap (map Answer) c.in-Ok.ensures))
@@ -58,7 +58,7 @@ derived-requires-clause-writable c =
       spec = c.requires.search.spec;
       posed = c.requires.posed;
       candidates = c.requires.candidates;
-      settled = c.requires.settled;
+      decided = c.requires.decided;
     } in
     subst (λ (ts : List (List Value)). IsWritableVerdict c.args.search.spec.relations (verdict.Answers ts))
     (sym (c.in-Ok-tuples_at.ensures ∙ ap (tuples_at c.args.candidates.tuples) c.in-Ok.ensures))
@@ -75,7 +75,7 @@ returns c = λ budget.
       spec = c.requires.search.spec;
       posed = c.requires.posed;
       candidates = c.requires.candidates;
-      settled = c.requires.settled;
+      decided = c.requires.decided;
     } in
     let goals : c.in-Ok-goals_of.goals ≡ map Answer (left_of standing.gone) = c.in-Ok-goals_of.ensures
     ∙ ap (map Answer) c.in-Ok.ensures in

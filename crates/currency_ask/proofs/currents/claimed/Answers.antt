@@ -1,4 +1,4 @@
-use Rattle.currency_ask.proofs.Settling.{values_asked}
+use Rattle.currency_ask.proofs.GoalFacts.{values_asked}
 use Rattle.currency_ask.proofs.currents.claimed.Goals as goal
 
 pub decide_all-requires-clause-goals : goal.decide_all-requires-clause-goals

@@ -6,14 +6,14 @@ use Rattle.report_verify.specs.Asked.{AreItemsOf}
 use Rattle.report_verify.specs.Supported.{needs_of}
 use Rattle.currency_ask.specs.Goals.{AreClaims}
 use Rattle.currency_ask.specs.Reported.{IsListedFor, IsReported}
-use Rattle.currency_ask.proofs.Settling.{differing_value, list_goals, values_asked, values_claimed}
+use Rattle.currency_ask.proofs.GoalFacts.{differing_value, list_goals, values_asked, values_claimed}
 use Rattle.currency_ask.proofs.currents.reported.Goals as goal
 
 pub differ-requires-clause-differ : goal.differ-requires-clause-differ
 differ-requires-clause-differ c =
     differing_value c.args.search c.args.spec.now c.args.rels.now c.args.first c.in-Fails.completion c.args.values
-    c.in-Fails.place c.requires.told.left c.args.decided
-    c.get.result.now c.place_of-at.result c.in-Fails.is c.requires.spec c.requires.told.told c.requires.values
+    c.in-Fails.place c.requires.outcome.left c.args.decided
+    c.get.result.now c.place_of-at.result c.in-Fails.is c.requires.spec c.requires.outcome.comes_to c.requires.values
     c.get.ensures c.place_of-at.ensures
 
 pub proved-requires-clause-goals : goal.proved-requires-clause-goals

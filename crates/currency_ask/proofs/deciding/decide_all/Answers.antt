@@ -1,4 +1,4 @@
-use Rattle.currency_ask.proofs.Countered.{decided_more, failed_after, told_proved}
+use Rattle.currency_ask.proofs.Countered.{decided_more, decided_proved, failed_after}
 use Rattle.currency_ask.proofs.deciding.decide_all.Goals as goal
 
 pub loop-place-preserved : goal.loop-place-preserved
@@ -7,13 +7,13 @@ loop-place-preserved g c =
     c.loop-place.steps c.push.new.self c.get.result.now
     c.in-Ok-Proved.step c.loop-place.units c.decide.new.units _ c.loop-place.invariant c.in-Ok-Proved.ensures.gone
     c.in-Ok-Proved.ensures.units
-    (told_proved c.decide.new.search c.get.result.now c.decide.new.units c.in-Ok-Proved.field-0 c.in-Ok-Proved.step
+    (decided_proved c.decide.new.search c.get.result.now c.decide.new.units c.in-Ok-Proved.field-0 c.in-Ok-Proved.step
     c.in-Ok-Proved.field-0-is
-    c.in-Ok-Proved.ensures.told) c.get.ensures c.in-Ok-push.ensures.ok
+    c.in-Ok-Proved.ensures.outcome) c.get.ensures c.in-Ok-push.ensures.ok
 
-pub returns-in-Ok-Model-clause-told : goal.returns-in-Ok-Model-clause-told
-returns-in-Ok-Model-clause-told g c =
+pub returns-in-Ok-Model-clause-outcome : goal.returns-in-Ok-Model-clause-outcome
+returns-in-Ok-Model-clause-outcome g c =
     failed_after c.loop-place.search c.decide.new.search c.args.goals.now c.loop-place.place c.loop-place.steps
     c.get.result.now c.decide.new.units c.in-Ok-Model.field-0 _
     c.in-Ok-Model.completion c.in-Ok-Model.ensures.gone c.loop-place.invariant.2 c.get.ensures
-    c.in-Ok-Model.field-0-is c.in-Ok-Model.ensures.told
+    c.in-Ok-Model.field-0-is c.in-Ok-Model.ensures.outcome

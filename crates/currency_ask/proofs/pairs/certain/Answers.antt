@@ -1,4 +1,4 @@
-use Rattle.currency_ask.proofs.Settling.{pairs_asked}
+use Rattle.currency_ask.proofs.GoalFacts.{pairs_asked}
 use Rattle.currency_ask.proofs.pairs.certain.Goals as goal
 
 pub decide_all-requires-clause-goals : goal.decide_all-requires-clause-goals

@@ -12,7 +12,7 @@ pub returns-in-Ok-clause-done : goal.returns-in-Ok-clause-done
 returns-in-Ok-clause-done g c status =
     is_done (g.S.Shelf.texts c.args.shelf.now) _ (map (λ w. string_bytes w) c.args.words.now) _ _ _ _ c.in-Ok.done
     c.hand_out.result
-    c.in-Ok.ensures.told c.hand_out.ensures status
+    c.in-Ok.ensures.printed c.hand_out.ensures status
 
 pub returns-in-Err-clause-done : goal.returns-in-Err-clause-done
 returns-in-Err-clause-done g c status = absurd (refusal_not_zero _ _ _ _ c.in-Err.trouble c.refuse.result c.refuse.ensures status)
@@ -21,7 +21,7 @@ pub returns-in-Ok-clause-denied : goal.returns-in-Ok-clause-denied
 returns-in-Ok-clause-denied g c status =
     is_denied (g.S.Shelf.texts c.args.shelf.now) _ (map (λ w. string_bytes w) c.args.words.now) _ _ _ _ c.in-Ok.done
     c.hand_out.result
-    c.in-Ok.ensures.told c.hand_out.ensures status
+    c.in-Ok.ensures.printed c.hand_out.ensures status
 
 pub returns-in-Err-clause-denied : goal.returns-in-Err-clause-denied
 returns-in-Err-clause-denied g c status = absurd (refusal_not_one _ _ _ _ c.in-Err.trouble c.refuse.result c.refuse.ensures status)
@@ -30,7 +30,7 @@ pub returns-in-Ok-clause-undecided : goal.returns-in-Ok-clause-undecided
 returns-in-Ok-clause-undecided g c status =
     is_undecided (g.S.Shelf.texts c.args.shelf.now) _ (map (λ w. string_bytes w) c.args.words.now) _ _ _ _
     c.in-Ok.done c.hand_out.result
-    c.in-Ok.ensures.told c.hand_out.ensures status
+    c.in-Ok.ensures.printed c.hand_out.ensures status
 
 pub returns-in-Err-clause-undecided : goal.returns-in-Err-clause-undecided
 returns-in-Err-clause-undecided g c status = absurd (refusal_not_three _ _ _ _ c.in-Err.trouble c.refuse.result
@@ -174,7 +174,7 @@ pub returns-in-Ok-clause-inconsistent : goal.returns-in-Ok-clause-inconsistent
 returns-in-Ok-clause-inconsistent g c status =
     is_inconsistent (g.S.Shelf.texts c.args.shelf.now) _ (map (λ w. string_bytes w) c.args.words.now) _ _ _ _
     c.in-Ok.done c.hand_out.result
-    c.in-Ok.ensures.told c.hand_out.ensures status
+    c.in-Ok.ensures.printed c.hand_out.ensures status
 
 pub returns-in-Err-clause-inconsistent : goal.returns-in-Err-clause-inconsistent
 returns-in-Err-clause-inconsistent g c status = absurd (refusal_not_ten _ _ _ _ c.in-Err.trouble c.refuse.result

@@ -14,7 +14,7 @@ returns-in_default c =
     ∙ c.in-Ok.ensures column.name) in
     let missing = source_missing header c.loop-number.number column
     (sym (no_item c.flatten.result c.in_default.not-Some) ∙ place) in
-    inr (rw c.told-place.ensures (so_far_fault (source_of header) 0 c.args.columns.now c.loop-number.number
+    inr (rw c.capped-place.ensures (so_far_fault (source_of header) 0 c.args.columns.now c.loop-number.number
     c.loop-number.number c.loop-number.sources.items column column
     c.loop-number-test.true (omega arith) c.index-columns-number.is c.loop-number.invariant _ missing))
 

@@ -1,6 +1,6 @@
 use Rattle.std.proofs.Common.{◌+◌, ◌∙◌, Err, ⊎_elim, ap, inl, inr, sym}
 use Rattle.currency_csv.specs.Table.{table_with}
-use Rattle.currency_csv.proofs.Steps.{told_number}
+use Rattle.currency_csv.proofs.Steps.{capped_number}
 use Rattle.currency_csv.proofs.Whole.{same_fault, table_empty, table_missing, table_ragged, table_read, text_below}
 use Rattle.currency_csv.proofs.read.table_below.Goals as goal
 
@@ -10,8 +10,8 @@ returns-in_default c = inr (sym (table_empty c.args.columns.now c.args.records.n
 pub returns-in-Some-first_ragged : goal.returns-in-Some-first_ragged
 returns-in-Some-first_ragged c =
     let place = c.in-Some-first_ragged.place in
-    let number = told_number (place + 1) c.saturating_add.result c.told-number.result c.saturating_add.ensures
-    c.told-number.ensures in
+    let number = capped_number (place + 1) c.saturating_add.result c.capped-number.result c.saturating_add.ensures
+    c.capped-number.ensures in
     let found = sym c.first_ragged.ensures ∙ c.in-Some-first_ragged.is in
     inr (rw number (sym (table_ragged c.args.columns.now c.args.records.now c.in-Some.header.now c.in-Some.rows.now
     c.in-Some.ensures.cases.0 place found)))

@@ -1,6 +1,6 @@
 use Rattle.std.proofs.Common.{get_or, inr, sym, refl, ◌∙◌, ap, arith}
 use Rattle.csv.specs.Records.{fields_of}
-use Rattle.currency_base.specs.declared.value.Kind.TheVariants as kind
+use Rattle.currency_base.specs.declared.value.ValueKind.TheVariants as kind
 use Rattle.currency_csv.specs.Sources.{read_tuple, read_value}
 use Rattle.currency_csv.specs.Table.{value_of}
 use Rattle.currency_csv.proofs.AllOk.{so_far_all, so_far_fault, so_far_more}
@@ -18,7 +18,7 @@ returns-in-Ok-None c =
     let fields = fields_of c.args.row.now in
     let none = sym c.in-Ok-None.field-0-is ∙ c.in-Ok-None.ensures ∙ ap (value_of source.kind) c.field.ensures in
     let bad = value_missing c.args.number c.loop-place.place fields source none in
-    inr (rw c.told-place.ensures (so_far_fault (read_value c.args.number fields) 0 c.args.sources.now
+    inr (rw c.capped-place.ensures (so_far_fault (read_value c.args.number fields) 0 c.args.sources.now
     c.loop-place.place c.loop-place.place c.loop-place.tuple source _
     c.loop-place-test.true (omega arith) refl c.loop-place.invariant _ bad))
 

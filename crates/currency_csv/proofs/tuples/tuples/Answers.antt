@@ -2,7 +2,7 @@ use Rattle.std.proofs.Common.{◌+◌, Err, inl, inr, sym, ◌∙◌, refl, ap, 
 use Rattle.csv.specs.Records.{fields_of}
 use Rattle.currency_csv.specs.Sources.{read_row, read_tuple, read_tuples}
 use Rattle.currency_csv.proofs.AllOk.{so_far_all, so_far_fault}
-use Rattle.currency_csv.proofs.Steps.{told_number}
+use Rattle.currency_csv.proofs.Steps.{capped_number}
 use Rattle.currency_csv.proofs.Whole.{same_fault}
 use Rattle.currency_csv.proofs.tuples.tuples.Goals as goal
 
@@ -10,8 +10,8 @@ pub returns-in-Err : goal.returns-in-Err
 unfolding read_tuples
 returns-in-Err c =
     let row = c.index-rows-place.result in
-    let number = told_number (2 + c.loop-place.place) c.saturating_add.result c.told-number.result (omega arith)
-    c.told-number.ensures in
+    let number = capped_number (2 + c.loop-place.place) c.saturating_add.result c.capped-number.result (omega arith)
+    c.capped-number.ensures in
     ⊎_elim
     (λ e. inl (ap Err (same_fault c.tuple.result _ _ c.in-Err.is e)))
     (λ e.

@@ -1,6 +1,6 @@
 use Rattle.std.proofs.Common.{◌≡◌, ◌+◌, length, subst, sym, arith}
 use Rattle.spec_model.specs.declared.relation.Relation.{Relation}
-use Rattle.current_claims.specs.Told.{AreValuesOf}
+use Rattle.current_claims.specs.Listed.{AreValuesOf}
 use Rattle.current_claims.proofs.OfEntity.{values_more}
 use Rattle.current_claims.proofs.ReadRelations.{few_attrs, read_of}
 use Rattle.current_claims.proofs.claims.entity_values.Goals as goal

@@ -1,6 +1,6 @@
 use Rattle.std.proofs.Common.{◌≡◌, length, subst, arith}
 use Rattle.spec_model.specs.declared.relation.Relation.{Relation}
-use Rattle.current_claims.specs.Told.{AddsLastOf}
+use Rattle.current_claims.specs.Listed.{AddsLastOf}
 use Rattle.current_claims.proofs.OfEntity.{adds_more}
 use Rattle.current_claims.proofs.ReadRelations.{read_of}
 use Rattle.current_claims.proofs.claims.push_last_rows.Goals as goal

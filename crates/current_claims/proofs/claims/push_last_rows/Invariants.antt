@@ -1,6 +1,6 @@
 use Rattle.std.proofs.Common.{◌≡◌, Some, slice_get}
 use Rattle.spec_model.specs.declared.relation.Relation.{Relation}
-use Rattle.current_claims.specs.Told.{AddsLastOf}
+use Rattle.current_claims.specs.Listed.{AddsLastOf}
 use Rattle.current_claims.proofs.claims.push_last_rows.Given as goal
 
 abbrev pub invariant-loop-attr : goal.invariant-loop-attr

@@ -3,7 +3,7 @@ use Rattle.spec_model.specs.Spec.{Spec}
 use Rattle.horn_closure.specs.Least.{Horn, IsHorn, AreLeast, cells_of}
 use Rattle.horn_closure.specs.declared.derived.Derived.{Derived}
 use Rattle.order_squares.specs.Squares.{Layout}
-use Rattle.forced_closure.specs.Kept.{AreTellable, AreTold, IsTable, HasLoopIn, IsClosure}
+use Rattle.forced_closure.specs.Kept.{AreTellable, ArePairsOfCells, IsTable, HasLoopIn, IsClosure}
 use Rattle.forced_closure.specs.declared.forced.Forced.{Forced}
 use Rattle.forced_closure.specs.declared.origin.Origin.{Origin}
 use Rattle.forced_closure.proofs.Agree.{horn_of, IsCase}
@@ -93,16 +93,16 @@ invariant_of-result c =
     let pairs = c.in_ok-pairs.pairs.items in
     let table = c.in_ok-table.table.items in
     let loops = c.has_loop-loops.result in
-    let are_told : AreTold m t.origins derived pairs (length derived) =
-    subst (λ (ds : List Derived). AreTold m t.origins ds pairs (length ds)) c.deref.ensures.value
-    (subst (λ (os : List Origin). AreTold m os c.deref.result.now pairs (length c.deref.result.now))
+    let are_told : ArePairsOfCells m t.origins derived pairs (length derived) =
+    subst (λ (ds : List Derived). ArePairsOfCells m t.origins ds pairs (length ds)) c.deref.ensures.value
+    (subst (λ (os : List Origin). ArePairsOfCells m os c.deref.result.now pairs (length c.deref.result.now))
     c.origins.ensures c.in_ok-pairs.ensures) in
     let tabled : IsTable (cells_of m.layout.sizes) derived table =
     subst (λ (n : ℕ). IsTable n derived table) cells (subst (λ (ds : List Derived). IsTable c.cells.result ds table)
     c.deref-2.ensures.value c.in_ok-table.ensures) in
     let looped : (loops ≡ true) ↔ HasLoopIn pairs = subst (λ (fs : List Forced). (loops ≡ true) ↔ HasLoopIn fs)
     c.deref-3.ensures.value c.has_loop-loops.ensures in
-    let done : IsDone m facts t derived pairs = record { is = is; least = least; sound = sound; told = are_told } in
+    let done : IsDone m facts t derived pairs = record { is = is; least = least; sound = sound; pairs_are = are_told } in
     let closure = is_closure m facts t derived pairs table loops done tabled looped in
     subst (λ (s : Spec). IsClosure (record { spec = s; pairs = pairs }) c.into_squares.result table loops) c.requires.spec
     (subst (λ (l : Layout). IsClosure (record { spec = m.spec; pairs = pairs }) l table loops)

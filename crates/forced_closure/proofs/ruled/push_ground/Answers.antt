@@ -4,7 +4,7 @@ use Rattle.std.proofs.lemmas.Result.{on_ok_weaker}
 use Rattle.currency_base.specs.declared.ids.RowId.{RowId}
 use Rattle.currency_base.specs.declared.pair.Pair.{Pair}
 use Rattle.denial_rules.specs.Instances.{instance_of}
-use Rattle.forced_closure.specs.Clauses.{Told, Adds, AreSlots}
+use Rattle.forced_closure.specs.Clauses.{HornClauses, Adds, AreSlots}
 use Rattle.forced_closure.specs.declared.origin.Origin.TheVariants as origin
 use Rattle.forced_closure.proofs.Adding.{adds_one}
 use Rattle.forced_closure.proofs.Standing.{StandsIn, ground_of, ground_premises, concluded_atom, ground_conclusion, rule_clause}
@@ -78,6 +78,6 @@ returns c =
     c.slot-conclusion.result g c.rule-constraint.ensures c.grounds_of.ensures
     c.get-rows.ensures c.relation.ensures e concludes at_a at_b here c.slot-conclusion.ensures in
     on_ok_weaker c.push.result
-    (λ pushed. subst (λ (t : Told). Adds m c.args.gathered.now t (λ o. o ≡ origin.Rule c.args.rule c.args.ground)) (sym pushed)
+    (λ pushed. subst (λ (t : HornClauses). Adds m c.args.gathered.now t (λ o. o ≡ origin.Rule c.args.rule c.args.ground)) (sym pushed)
     (adds_one m c.args.gathered.now (origin.Rule c.args.rule c.args.ground) c.deref.result.now c.slot-conclusion.result clause))
     c.push.ensures

@@ -1,12 +1,12 @@
 use Rattle.std.proofs.Common.{List, arith, subst}
 use Rattle.posed_facts.specs.declared.fact.Fact.{Fact}
-use Rattle.settled_facts.specs.Settled.{IsOpenAt}
+use Rattle.decided_facts.specs.Decided.{IsOpenAt}
 use Rattle.golden_values.proofs.Known.{known_posable}
 use Rattle.golden_values.proofs.Left.{is_open, open_posable, open_spent, open_within}
 use Rattle.golden_values.proofs.finding.of_facts.Goals as goal
 
 pub returns-in-Ok-All : goal.returns-in-Ok-All
-returns-in-Ok-All g c = c.told.ensures c.args.budget
+returns-in-Ok-All g c = c.golden_of.ensures c.args.budget
 
 pub remove-requires : goal.remove-requires
 remove-requires g c =

@@ -2,7 +2,8 @@ use Rattle.std.proofs.Common.{ap, length, arith, false, true, slice_set, subst}
 use Rattle.spec_items.specs.Items.{items_of}
 use Rattle.minimal_items.specs.Among.{marked_items}
 use Rattle.minimal_items.specs.Trials.{IsTrialWith}
-use Rattle.minimal_items.proofs.Settled.{left_out, read_item, read_mark, settled_as, some_item, spent_with, taken_back, unmarked}
+use Rattle.minimal_items.proofs.Reductions.{left_out, read_item, read_mark, reduced_as, some_item, spent_with, taken_back}
+use Rattle.minimal_items.proofs.Reductions.{unmarked}
 use Rattle.minimal_items.proofs.leaving.leave_out.Goals as goal
 
 pub returns-then-not-marks-place : goal.returns-then-not-marks-place
@@ -35,7 +36,7 @@ returns-in_ok-take_back-in-Ok-Fails g c =
     (omega (arith, c.requires.place, many)) c.if-not-marks-place.false in
     let items = marked_items (items_of s) (slice_set marks c.args.place false) in
     let at = read_item c.args.items.now (items_of s) c.args.place _ c.requires.items c.requires.place in
-    settled_as s c.args.question.now _ _ c.take_back.new.marks _ c.take_back.new.needed
+    reduced_as s c.args.question.now _ _ c.take_back.new.marks _ c.take_back.new.needed
     c.in_ok-take_back-in-Ok-Fails.ensures.marks c.in_ok-take_back-in-Ok-Fails.ensures.needed
     (taken_back s c.args.question.now marks c.args.place c.args.needed.now _ c.requires.earlier at c.fewer_items.ensures mark
     c.in-Ok-Fails.without

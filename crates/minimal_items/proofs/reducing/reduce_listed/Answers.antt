@@ -1,4 +1,4 @@
-use Rattle.minimal_items.proofs.Settled.{spent_with}
+use Rattle.minimal_items.proofs.Reductions.{spent_with}
 use Rattle.minimal_items.proofs.reducing.reduce_listed.Goals as goal
 
 pub returns-in_ok-spent_on-in-Ok-Open : goal.returns-in_ok-spent_on-in-Ok-Open

@@ -3,7 +3,7 @@ use Rattle.currency_base.specs.declared.ids.RelId.{RelId}
 use Rattle.copy_functions.specs.Copies.{source_at}
 use Rattle.copy_functions.specs.declared.place.Place.{Place}
 use Rattle.order_literals.specs.Said.{Says, before, not_before}
-use Rattle.order_clauses.specs.Subject.{told, IsPairIn}
+use Rattle.order_clauses.specs.Subject.{variables, IsPairIn}
 use Rattle.order_clauses.proofs.CopyClauses.{copied_as, first_mapped, second_mapped, sources_in, targets_in, copy_clause}
 use Rattle.order_clauses.proofs.copied.push_copy.Goals as goal
 
@@ -54,10 +54,10 @@ push_axiom-requires c =
     ap (λ places. slice_get places c.args.place) (sym c.places.ensures.value) ∙ c.get-at.ensures in
     let first : source_at copy c.args.pair.first ≡ Some c.in-Some.first = cc in
     let second : source_at copy c.args.pair.second ≡ Some c.in-Some-source_of.second = cc in
-    let supposed = subst (λ (rel : RelId). Says (told s) c.not_before-supposed.result
+    let supposed = subst (λ (rel : RelId). Says (variables s) c.not_before-supposed.result
     (not_before rel at.source c.in-Some.first c.in-Some-source_of.second)) c.source.ensures
     c.not_before-supposed.ensures in
-    let concluded = subst (λ (rel : RelId). Says (told s) c.before-concluded.result
+    let concluded = subst (λ (rel : RelId). Says (variables s) c.before-concluded.result
     (before rel at.target c.args.pair.first c.args.pair.second)) c.target.ensures
     c.before-concluded.ensures in
     copy_clause s c.args.copy c.args.place c.args.pair copy at c.in-Some.first c.in-Some-source_of.second

@@ -5,14 +5,14 @@ use Rattle.entity_lists.proofs.Facts.{rows_once}
 use Rattle.std.proofs.Common.{List, []}
 use Rattle.order_clauses.specs.Added.{Tells}
 use Rattle.order_clauses.specs.Listing.{top_clause}
-use Rattle.order_clauses.specs.Subject.{told}
+use Rattle.order_clauses.specs.Subject.{variables}
 use Rattle.order_clauses.proofs.WantedClauses.{top_is_clause, top_once}
 use Rattle.order_clauses.proofs.wanted.push_top.Goals as goal
 
 pub push_distinct-requires-clause-clause : goal.push_distinct-requires-clause-clause
 push_distinct-requires-clause-clause c =
     let p = c.args.column.now in
-    let tells = subst (λ (l : List Lit). Tells (told p.subject) (top_clause p c.args.ent.0 c.args.row) [] l)
+    let tells = subst (λ (l : List Lit). Tells (variables p.subject) (top_clause p c.args.ent.0 c.args.row) [] l)
     (sym c.as_slice.ensures.value) c.in_ok-top_lits.ensures in
     rw (c.sayings.ensures, c.rel.ensures, c.attr.ensures)
     (top_is_clause p c.args.ent.0 c.args.row c.as_slice.result.now c.facts.ensures c.requires.of_entity tells)
@@ -20,7 +20,7 @@ push_distinct-requires-clause-clause c =
 pub push_distinct-requires-clause-once : goal.push_distinct-requires-clause-once
 push_distinct-requires-clause-once c =
     let p = c.args.column.now in
-    let tells = subst (λ (l : List Lit). Tells (told p.subject) (top_clause p c.args.ent.0 c.args.row) [] l)
+    let tells = subst (λ (l : List Lit). Tells (variables p.subject) (top_clause p c.args.ent.0 c.args.row) [] l)
     (sym c.as_slice.ensures.value) c.in_ok-top_lits.ensures in
     top_once c.one_literal.ensures.said p c.args.ent.0 c.args.row c.as_slice.result.now
     (rows_once (entities_of p.relation.rows) c.args.ent.0) tells

@@ -1,7 +1,7 @@
 use Rattle.std.proofs.lemmas.Option.{slice_get-get_or}
 use Rattle.order_literals.specs.Said.{top}
 use Rattle.order_clauses.specs.Listing.{other_said, top_clause, members_of}
-use Rattle.order_clauses.specs.Subject.{told}
+use Rattle.order_clauses.specs.Subject.{variables}
 use Rattle.order_clauses.proofs.WantedClauses.{member_of, tells_more, tells_all}
 use Rattle.order_clauses.proofs.wanted.top_lits.Goals as goal
 
@@ -14,7 +14,7 @@ put_other-requires-clause-other c =
 pub loop-other-preserved : goal.loop-other-preserved
 loop-other-preserved c =
     let p = c.args.column.now in
-    tells_more (told p.subject) (top p.rel p.attr c.args.row) (other_said p c.args.row)
+    tells_more (variables p.subject) (top p.rel p.attr c.args.row) (other_said p c.args.row)
     c.members-other-items.result.now c.loop-other.other-index _ _ _ _
     (slice_get-get_or c.members-other-items.result.now c.loop-other.other-index _ c.loop-other-test.true)
     c.loop-other.invariant c.in_ok-put_other.ensures
@@ -23,6 +23,6 @@ pub returns : goal.returns
 unfolding top_clause
 returns c =
     let p = c.args.column.now in
-    tells_all (told p.subject) (top p.rel p.attr c.args.row) (other_said p c.args.row)
+    tells_all (variables p.subject) (top p.rel p.attr c.args.row) (other_said p c.args.row)
     c.members-other-items.result.now (members_of p.relation c.args.ent.0) c.loop-other.other-index _ _
     c.loop-other-test.false c.members-other-items.ensures c.loop-other.invariant

@@ -8,4 +8,4 @@ pub start-requires : goal.start-requires
 start-requires g c =
     ap length c.values.ensures ∙ as_many_values c.trail.result.now ∙ ap (λ (t : Trail). t.vars) c.trail.ensures
     ∙ c.is_solver.ensures.vars
-    ∙ ap (λ (f : Frame). length f.statements) c.settle.ensures.frame ∙ ap length c.requires
+    ∙ ap (λ (f : Frame). length f.statements) c.propagate_at_root.ensures.frame ∙ ap length c.requires

@@ -1,5 +1,5 @@
 use Rattle.std.proofs.Common.{◌≡◌, ◌∙◌, ◌++◌, ℕ, List, OnOk, subst}
-use Rattle.possible_command.specs.Told.{finding_pieces}
+use Rattle.possible_command.specs.Findings.{finding_pieces}
 use Rattle.possible_command.proofs.Written.{text_is}
 use Rattle.possible_command.proofs.writing.add_line.Goals as goal
 

@@ -1,14 +1,14 @@
 use Rattle.std.proofs.Common.{◌∙◌, List, ap, arith, get_or, subst, sym}
 use Rattle.posed_facts.specs.declared.fact.Fact.{Fact}
-use Rattle.settled_facts.specs.Settled.{AreShown, IsOpenAt}
-use Rattle.settled_facts.specs.Steps.{AreMarked}
+use Rattle.decided_facts.specs.Decided.{AreShown, IsOpenAt}
+use Rattle.decided_facts.specs.Steps.{AreMarked}
 use Rattle.possible_values.proofs.Findings.{are_findings}
 use Rattle.possible_values.proofs.Listed.{are_candidates}
-use Rattle.possible_values.proofs.Settling.{are_shown, is_open, open_read, open_within}
+use Rattle.possible_values.proofs.Outcomes.{are_shown, is_open, open_read, open_within}
 use Rattle.possible_values.proofs.finding.of_facts.Goals as goal
 
-pub settle-requires-clause-holds : goal.settle-requires-clause-holds
-settle-requires-clause-holds g c =
+pub decide_facts-requires-clause-holds : goal.decide_facts-requires-clause-holds
+decide_facts-requires-clause-holds g c =
     subst (λ (l : List Fact). AreMarked c.args.spec.now l c.in_ok-holds.holds.items)
     (c.as_slice.ensures ∙ sym c.as_slice-2.ensures)
     (c.in_ok-holds.ensures c.args.spec.now)

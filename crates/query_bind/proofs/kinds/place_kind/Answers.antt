@@ -1,5 +1,5 @@
 -- A place past the first is of the kind of an attribute.
-use Rattle.currency_base.specs.declared.value.Kind.TheVariants.{Text}
+use Rattle.currency_base.specs.declared.value.ValueKind.TheVariants.{Text}
 use Rattle.spec_model.specs.Facts.{kinds_of}
 use Rattle.query_bind.proofs.Walk.{past_first}
 use Rattle.query_bind.proofs.kinds.place_kind.Goals as goal

@@ -3,7 +3,7 @@ use Rattle.question_bind.proofs.GroupSteps.{certain_bound, certain_fits, certain
 use Rattle.question_bind.proofs.certain.bind_certain.Goals as goal
 
 pub returns-in-Ok-clause-bound : goal.returns-in-Ok-clause-bound
-returns-in-Ok-clause-bound g c = λ settled.
+returns-in-Ok-clause-bound g c = λ determined.
     certain_bound (g.S.Shelf.texts c.args.shelf.now) c.args.spec.now.relations c.args.line c.args.trees.now
     c.in-Ok.pairs c.certain_of.result (c.in-Ok.ensures.asked tt) c.certain_of.ensures
 

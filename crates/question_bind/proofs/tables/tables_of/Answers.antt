@@ -24,5 +24,5 @@ loop-tree-preserved g c = record {
 
 pub returns-clause-read : goal.returns-clause-read
 returns-clause-read g c =
-    λ settled. tables_all (g.S.Shelf.texts c.args.shelf.now) c.args.trees.now c.loop-tree.tree-index
+    λ determined. tables_all (g.S.Shelf.texts c.args.shelf.now) c.args.trees.now c.loop-tree.tree-index
     c.loop-tree.tables c.loop-tree-test.false c.loop-tree.invariant.so_far

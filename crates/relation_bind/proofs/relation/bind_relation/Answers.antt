@@ -9,20 +9,20 @@ use Rattle.relation_bind.proofs.relation.bind_relation.Goals as goal
 pub returns-in_err-names-clause-declared : goal.returns-in_err-names-clause-declared
 returns-in_err-names-clause-declared g c =
     let p = err_from_is_err_and c.from_residual.result c.from_residual.ensures.1 in
-    λ settled. head_refused (g.S.Shelf.texts c.args.shelf.now) c.args.taken.now c.args.declaration.now
+    λ determined. head_refused (g.S.Shelf.texts c.args.shelf.now) c.args.taken.now c.args.declaration.now
     c.in_err-names.field-0.0 c.from_residual.result
-    c.in_err-names.ensures (p.1 ∙ ap Err p.2) settled
+    c.in_err-names.ensures (p.1 ∙ ap Err p.2) determined
 
 pub returns-in_err-rows-clause-declared : goal.returns-in_err-rows-clause-declared
 returns-in_err-rows-clause-declared g c =
     let p = err_from_is_err_and c.from_residual-in_err-rows.result c.from_residual-in_err-rows.ensures.1 in
-    λ settled. table_refused (g.S.Shelf.texts c.args.shelf.now) c.args.taken.now c.args.declaration.now
+    λ determined. table_refused (g.S.Shelf.texts c.args.shelf.now) c.args.taken.now c.args.declaration.now
     c.in_ok-names.names c.in_err-rows.field-0.0 c.from_residual-in_err-rows.result
-    c.in_ok-names.ensures c.in_err-rows.ensures.table (p.1 ∙ ap Err p.2) settled
+    c.in_ok-names.ensures c.in_err-rows.ensures.table (p.1 ∙ ap Err p.2) determined
 
 pub returns-in-Ok-clause-declared : goal.returns-in-Ok-clause-declared
 returns-in-Ok-clause-declared g c =
-    λ settled. relation_read (g.S.Shelf.texts c.args.shelf.now) c.args.taken.now c.args.declaration.now
+    λ determined. relation_read (g.S.Shelf.texts c.args.shelf.now) c.args.taken.now c.args.declaration.now
     c.in_ok-names.names c.in_ok-rows.rows c.in-Ok.relation
     c.in_ok-names.ensures (c.in_ok-rows.ensures.table tt) c.in-Ok.ensures
 

@@ -14,17 +14,17 @@ returns-in_err-tuples-clause-table g c =
     let d = c.args.declaration.now in
     let columns : c.as_slice.result.now ≡ columns_of d = c.as_slice.ensures ∙ c.in_ok-columns.ensures in
     let p = err_from_is_err_and c.from_residual-in_err-tuples.result c.from_residual-in_err-tuples.ensures.1 in
-    λ settled. table_not_read (g.S.Shelf.texts c.args.shelf.now) d c.declaration.inside.document.now.name
+    λ determined. table_not_read (g.S.Shelf.texts c.args.shelf.now) d c.declaration.inside.document.now.name
     c.as_slice.result.now c.in_err-tuples.field-0.0 c.from_residual-in_err-tuples.result
-    (ap (λ x. x.document.name) c.declaration.view_is) columns c.in_err-tuples.ensures.tuples (p.1 ∙ ap Err p.2) settled
+    (ap (λ x. x.document.name) c.declaration.view_is) columns c.in_err-tuples.ensures.tuples (p.1 ∙ ap Err p.2) determined
 
 pub returns-clause-table : goal.returns-clause-table
 returns-clause-table g c =
     let d = c.args.declaration.now in
     let columns : c.as_slice.result.now ≡ columns_of d = c.as_slice.ensures ∙ c.in_ok-columns.ensures in
-    λ settled. table_read (g.S.Shelf.texts c.args.shelf.now) d c.declaration.inside.document.now.name
+    λ determined. table_read (g.S.Shelf.texts c.args.shelf.now) d c.declaration.inside.document.now.name
     c.as_slice.result.now c.in_ok-tuples.tuples c.rows_of.result
-    (ap (λ x. x.document.name) c.declaration.view_is) columns (c.in_ok-tuples.ensures.tuples tt) c.rows_of.ensures.exact settled
+    (ap (λ x. x.document.name) c.declaration.view_is) columns (c.in_ok-tuples.ensures.tuples tt) c.rows_of.ensures.exact determined
 
 pub returns-clause-read_fault : goal.returns-clause-read_fault
 returns-clause-read_fault g c = λ fault. absurd (no_read_fault c.args.declaration.now c.in_ok-tuples.tuples

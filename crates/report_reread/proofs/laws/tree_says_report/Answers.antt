@@ -1,4 +1,4 @@
-use Rattle.report_reread.proofs.Told.{says}
+use Rattle.report_reread.proofs.Saying.{says}
 use Rattle.report_reread.proofs.laws.tree_says_report.Goals as goal
 
 pub returns : goal.returns

@@ -4,11 +4,11 @@ use Rattle.spec_bind.proofs.bind.bind_spec.Goals as goal
 
 pub returns-in-Err-clause-bound : goal.returns-in-Err-clause-bound
 returns-in-Err-clause-bound g c =
-    λ settled. tree_refused (g.S.Shelf.texts c.args.shelf.now) (g.S.Shelf.texts c.loop-statement.shelf)
+    λ determined. tree_refused (g.S.Shelf.texts c.args.shelf.now) (g.S.Shelf.texts c.loop-statement.shelf)
     c.loop-statement.bound c.args.tree.now
     c.as_slice-statement-items.result.now c.loop-statement.statement-index c.statement-item.result c.in-Err.fault
     c.loop-statement.invariant.kept
-    c.loop-statement-test.true c.statement-item.is c.loop-statement.invariant.so_far c.in-Err.ensures.step settled
+    c.loop-statement-test.true c.statement-item.is c.loop-statement.invariant.so_far c.in-Err.ensures.step determined
 
 pub returns-in-Err-clause-table_due : goal.returns-in-Err-clause-table_due
 returns-in-Err-clause-table_due g c =
@@ -36,8 +36,8 @@ loop-statement-preserved g c = record {
 
 pub returns-clause-bound : goal.returns-clause-bound
 returns-clause-bound g c =
-    λ settled. tree_bound (g.S.Shelf.texts c.args.shelf.now) c.loop-statement.bound c.args.tree.now
+    λ determined. tree_bound (g.S.Shelf.texts c.args.shelf.now) c.loop-statement.bound c.args.tree.now
     c.as_slice-statement-items.result.now
     c.loop-statement.statement-index c.within_limits.result (omega (arith, c.loop-statement-test.false))
     c.loop-statement.invariant.so_far
-    c.within_limits.ensures.due settled
+    c.within_limits.ensures.due determined

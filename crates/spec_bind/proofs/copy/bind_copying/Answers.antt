@@ -24,8 +24,8 @@ returns-in-Err-clause-step g c =
     let tree = c.args.tree.now in
     part_refused texts (λ (told : Docs) (r : Result CopyFunction BindFault). IsCopyMade told c.args.bound tree r)
     (with_copy c.args.bound) c.in-Err.fault
-    (λ settled. subst (λ (s : Spec). IfSome texts (λ told. IsCopyMade told s tree (Err c.in-Err.fault)))
-    c.bound.view_is (c.in-Err.ensures.made settled))
+    (λ determined. subst (λ (s : Spec). IfSome texts (λ told. IsCopyMade told s tree (Err c.in-Err.fault)))
+    c.bound.view_is (c.in-Err.ensures.made determined))
 
 pub returns-in-Err-clause-table : goal.returns-in-Err-clause-table
 returns-in-Err-clause-table g c =

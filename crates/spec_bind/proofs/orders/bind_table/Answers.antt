@@ -16,7 +16,7 @@ invariant_of-result g c =
 pub returns-in-Ok-clause-step : goal.returns-in-Ok-clause-step
 returns-in-Ok-clause-step g c =
     let texts = g.S.Shelf.texts c.args.shelf.now in
-    λ settled. subst (λ (s : Spec). IfSome texts
+    λ determined. subst (λ (s : Spec). IfSome texts
     (λ told. IsLimited (IsTableMade told s c.args.relation.now c.args.document.now) (Ok c.bind_orders.new.spec)))
     c.bound.view_is
     (table_step texts c.bound.inside.spec c.bind_orders.new.spec c.args.relation.now c.args.document.now (c.in-Ok.ensures.step tt)
@@ -26,10 +26,10 @@ returns-in-Ok-clause-step g c =
 pub returns-in-Err-clause-step : goal.returns-in-Err-clause-step
 returns-in-Err-clause-step g c =
     let texts = g.S.Shelf.texts c.args.shelf.now in
-    λ settled. subst (λ (s : Spec). IfSome texts
+    λ determined. subst (λ (s : Spec). IfSome texts
     (λ told. IsLimited (IsTableMade told s c.args.relation.now c.args.document.now) (Err c.in-Err.fault))) c.bound.view_is
     (table_refused texts c.bound.inside.spec c.bind_orders.new.spec c.args.relation.now c.args.document.now
-    c.in-Err.fault c.in-Err.ensures.step settled)
+    c.in-Err.fault c.in-Err.ensures.step determined)
 
 pub returns-in-Err-clause-table : goal.returns-in-Err-clause-table
 returns-in-Err-clause-table g c =

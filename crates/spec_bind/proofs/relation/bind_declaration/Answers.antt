@@ -27,8 +27,8 @@ returns-in-Err-clause-step g c =
     c.relations.ensures ∙ ap (λ n. n.relations) c.bound.invariant.names_are ∙ ap (λ s. relation_names s) c.bound.view_is in
     part_refused texts (λ (told : Docs) (r : Result Relation BindFault). IsDeclared told
     (relation_names c.args.bound) d r) (with_relation c.args.bound) c.in-Err.fault
-    (λ settled. declared_with texts c.args.bound d c.relations.result.now (Err c.in-Err.fault) names
-    (c.in-Err.ensures.declared settled))
+    (λ determined. declared_with texts c.args.bound d c.relations.result.now (Err c.in-Err.fault) names
+    (c.in-Err.ensures.declared determined))
 
 pub returns-in-Err-clause-table : goal.returns-in-Err-clause-table
 returns-in-Err-clause-table g c =

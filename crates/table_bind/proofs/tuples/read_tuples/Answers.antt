@@ -7,17 +7,17 @@ use Rattle.table_bind.proofs.tuples.read_tuples.Goals as goal
 pub returns-in_err-bytes-clause-tuples : goal.returns-in_err-bytes-clause-tuples
 returns-in_err-bytes-clause-tuples g c =
     let p = err_from_is_err_and c.from_residual.result c.from_residual.ensures.1 in
-    λ settled. table_not_read (g.S.Shelf.texts c.args.shelf.now) c.args.name.now c.args.columns.now
+    λ determined. table_not_read (g.S.Shelf.texts c.args.shelf.now) c.args.name.now c.args.columns.now
     c.in_err-bytes.field-0.0 c.from_residual.result
-    c.in_err-bytes.ensures.reads (p.1 ∙ ap Err p.2) settled
+    c.in_err-bytes.ensures.reads (p.1 ∙ ap Err p.2) determined
 
 pub returns-clause-tuples : goal.returns-clause-tuples
 returns-clause-tuples g c =
     let tuples = subst (λ (bs : List ℕ). ReadsTuples c.args.name.now c.args.columns.now bs c.tuples_in.result)
     c.as_slice.ensures c.tuples_in.ensures.reads in
-    λ settled. table_read (g.S.Shelf.texts c.args.shelf.now) c.args.name.now c.args.columns.now c.in_ok-bytes.bytes
+    λ determined. table_read (g.S.Shelf.texts c.args.shelf.now) c.args.name.now c.args.columns.now c.in_ok-bytes.bytes
     c.tuples_in.result
-    c.in_ok-bytes.ensures.reads tuples settled
+    c.in_ok-bytes.ensures.reads tuples determined
 
 pub returns-clause-read_fault : goal.returns-clause-read_fault
 returns-clause-read_fault g c = λ fault. absurd (no_read_fault c.args.name.now c.args.columns.now

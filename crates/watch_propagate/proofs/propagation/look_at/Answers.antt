@@ -2,7 +2,8 @@ use Rattle.std.proofs.Common.{◌∙◌, refl, sym, inl, inr}
 use Rattle.search_trail.specs.Trails.{implied}
 use Rattle.watch_propagate.proofs.WalkGoes.{goes_same, implied_rule, implies_more, implies_same, rewatched_same, seen_grows, implied_grows, implied_has}
 use Rattle.watch_propagate.proofs.WalkLits.{never_both}
-use Rattle.watch_propagate.proofs.WalkLooks.{looked_within, looked_long, looked_side, clause_vars, looked_true, looked_reason, looked_conflict, looked_moved, told}
+use Rattle.watch_propagate.proofs.WalkLooks.{looked_within, looked_long, looked_side, clause_vars, looked_true, looked_reason}
+use Rattle.watch_propagate.proofs.WalkLooks.{looked_conflict, looked_moved, truth_tested}
 use Rattle.watch_propagate.proofs.WalkMoves.{facing, moved_rewatched, moved_rule, moved_others, moved_watchers}
 use Rattle.watch_propagate.proofs.propagation.look_at.Goals as goal
 
@@ -36,7 +37,7 @@ returns-then-eq-clause-sees_to c =
     λ e. inl (
       refl,
       looked_true _ c.args.trail.now _ _ _ _ _ f
-          (c.truth-known.ensures.holds (told _ _ (sym c.eq.ensures ∙ c.if-eq.true))),
+          (c.truth-known.ensures.holds (truth_tested _ _ (sym c.eq.ensures ∙ c.if-eq.true))),
     )
 
 -- the watch moves
@@ -81,7 +82,7 @@ returns-then-eq-2-clause-conflict c =
     let f = facing _ _ _ _ _ _ c.are_watchers.ensures c.requires.stands c.lits-lits.ensures
     c.side_of-from.ensures.low c.side_of-from.ensures.here c.other_than-other.ensures in
     λ e. looked_conflict _ c.args.trail.now _ _ _ _ _ f c.requires.is_false c.in_default.ensures.none
-    (c.truth-known.ensures.fails (told _ _ (sym c.eq-2.ensures ∙ c.if-eq-2.true)))
+    (c.truth-known.ensures.fails (truth_tested _ _ (sym c.eq-2.ensures ∙ c.if-eq-2.true)))
 
 -- the other watched literal is implied
 pub imply-requires-clause-within : goal.imply-requires-clause-within

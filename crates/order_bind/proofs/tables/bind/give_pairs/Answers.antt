@@ -4,12 +4,12 @@ use Rattle.std.proofs.lemmas.Result.{err_from_is_err_and}
 use Rattle.bind_faults.proofs.Outcomes.{due_reads}
 use Rattle.order_bind.specs.Orders.{giving_pairs}
 use Rattle.order_bind.proofs.OrderPairs.{steps_through, parts_of, fits_there, given_all}
-use Rattle.order_bind.specs.TableOrders.{pairs_told}
-use Rattle.order_bind.proofs.Made.{relation_there, due_there, told_reads}
+use Rattle.order_bind.specs.TableOrders.{pairs_of_tuples}
+use Rattle.order_bind.proofs.Made.{relation_there, due_there, tuples_read}
 use Rattle.order_bind.proofs.tables.bind.give_pairs.Goals as goal
 
-pub told_pairs-requires-clause-names : goal.told_pairs-requires-clause-names
-told_pairs-requires-clause-names c =
+pub table_pairs-requires-clause-names : goal.table_pairs-requires-clause-names
+table_pairs-requires-clause-names c =
     let here = relation_there c.args.spec.now c.args.rel c.relations.result.now c.index-relations-rel.result
     c.requires.within c.relations.ensures.value c.index-relations-rel.is in
     parts_of c.args.names.now c.args.spec.now c.args.rel c.index-relations-rel.result c.relation.result.now
@@ -21,7 +21,7 @@ returns-in_err-pairs-clause-step c =
     let r = c.index-relations-rel.result in
     let here = relation_there c.args.spec.now c.args.rel c.relations.result.now r c.requires.within
     c.relations.ensures.value c.index-relations-rel.is in
-    rw (p.1, p.2) (steps_through c.args.spec.now.relations (pairs_told r c.args.table.now c.args.tuples) _
+    rw (p.1, p.2) (steps_through c.args.spec.now.relations (pairs_of_tuples r c.args.table.now c.args.tuples) _
     c.in_err-pairs.field-0.0 c.in_err-pairs.ensures.due
     (λ is. due_there c.args.spec.now.relations c.args.rel c.args.table.now c.args.tuples r here
     ∙ ap (giving_pairs c.args.spec.now.relations c.args.rel r) is))
@@ -30,8 +30,8 @@ pub returns-in_err-pairs-clause-reads : goal.returns-in_err-pairs-clause-reads
 returns-in_err-pairs-clause-reads c =
     let p = err_from_is_err_and c.from_residual.result c.from_residual.ensures.1 in
     let r = c.index-relations-rel.result in
-    rw (p.1, p.2) (due_reads (Unit {0}) (pairs_told r c.args.table.now c.args.tuples) c.in_err-pairs.field-0.0
-    (told_reads r c.args.table.now c.args.tuples) c.in_err-pairs.ensures.due)
+    rw (p.1, p.2) (due_reads (Unit {0}) (pairs_of_tuples r c.args.table.now c.args.tuples) c.in_err-pairs.field-0.0
+    (tuples_read r c.args.table.now c.args.tuples) c.in_err-pairs.ensures.due)
 
 pub add_all-requires-clause-given : goal.add_all-requires-clause-given
 add_all-requires-clause-given c =
@@ -47,7 +47,7 @@ returns-in-Ok-clause-step c =
     c.relations.ensures.value c.index-relations-rel.is in
     due_there c.args.spec.now.relations c.args.rel c.args.table.now c.args.tuples r here
     ∙ given_all c.args.spec.now.relations c.add_all.new.spec.relations c.args.rel r
-    (pairs_told r c.args.table.now c.args.tuples) c.in_ok-pairs.pairs c.as_slice.result.now
+    (pairs_of_tuples r c.args.table.now c.args.tuples) c.in_ok-pairs.pairs c.as_slice.result.now
     c.in_ok-pairs.ensures.due c.as_slice.ensures (c.in-Ok.ensures.ok r here)
 
 pub returns-in-Ok-clause-given : goal.returns-in-Ok-clause-given

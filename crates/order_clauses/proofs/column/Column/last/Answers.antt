@@ -1,7 +1,7 @@
 use Rattle.std.proofs.Common.{◌≡◌, sym, subst}
 use Rattle.value_names.specs.Names.{name_of}
 use Rattle.order_literals.specs.Said.{Says, last}
-use Rattle.order_clauses.specs.Subject.{told, Attribute, IsWantedRow}
+use Rattle.order_clauses.specs.Subject.{variables, Attribute, IsWantedRow}
 use Rattle.order_clauses.proofs.Columns.{row_in, named_of}
 use Rattle.order_clauses.proofs.Reading.{says_of}
 use Rattle.order_clauses.proofs.column.Column.last.Goals as goal
@@ -46,5 +46,5 @@ returns c =
       attr = c.self.inside.attr;
     } in
     let n = c.numbering.result.now in
-    subst (λ (p : Attribute). Says (told p.subject) c.last.result (last p.rel p.attr c.args.row)) c.self.view_is
+    subst (λ (p : Attribute). Says (variables p.subject) c.last.result (last p.rel p.attr c.args.row)) c.self.view_is
     (says_of q.subject n c.last.result (last q.rel q.attr c.args.row) c.numbering.ensures c.last.ensures)

@@ -1,6 +1,6 @@
 use Rattle.std.proofs.Common.{sym, subst}
 use Rattle.order_literals.specs.Said.{Says, top}
-use Rattle.order_clauses.specs.Subject.{told, Attribute, IsWantedRow}
+use Rattle.order_clauses.specs.Subject.{variables, Attribute, IsWantedRow}
 use Rattle.order_clauses.proofs.Columns.{row_in}
 use Rattle.order_clauses.proofs.Reading.{says_of}
 use Rattle.order_clauses.proofs.column.Column.top.Goals as goal
@@ -28,5 +28,5 @@ returns c =
       attr = c.self.inside.attr;
     } in
     let n = c.numbering.result.now in
-    subst (λ (p : Attribute). Says (told p.subject) c.top.result (top p.rel p.attr c.args.row)) c.self.view_is
+    subst (λ (p : Attribute). Says (variables p.subject) c.top.result (top p.rel p.attr c.args.row)) c.self.view_is
     (says_of q.subject n c.top.result (top q.rel q.attr c.args.row) c.numbering.ensures c.top.ensures)

@@ -1,0 +1,24 @@
+use Rattle.std.proofs.Common.{◌∙◌, ◌<◌, Some, ℕ, length, ap}
+use Rattle.std.proofs.lemmas.List.Elements.{All-pop}
+use Rattle.conflict_analysis.proofs.Minimizing.{minimizes_end, minimizes_more}
+use Rattle.conflict_analysis.proofs.resolving.minimize.Goals as goal
+
+pub loop-place-preserved : goal.loop-place-preserved
+loop-place-preserved c =
+    let i = c.loop-place.invariant in
+    let t = c.args.trail.now in
+    let p = c.in-Some.ensures in
+    record {
+      long = c.minimize_at.ensures.long ∙ ap length p.seen ∙ i.long;
+      kept = rw c.in-Ok.ensures.kept (All-pop (λ (place : ℕ). place < length t.entries) c.loop-place.found.kept
+          c.pop_kept.new.self.kept (Some c.in-Some.place) p.kept i.kept).0;
+      minimizes = minimizes_more c.args.arena.now t.entries c.args.bounds.base c.args.bounds.level c.args.found.now
+          c.loop-place.found c.minimize_at.new.found i.minimizes (c.in-Ok.ensures.ok c.loop-place.found p);
+    }
+
+pub returns-clause-ok : goal.returns-clause-ok
+returns-clause-ok c =
+    minimizes_more c.args.arena.now c.args.trail.now.entries c.args.bounds.base c.args.bounds.level c.args.found.now
+    c.loop-place.found c.pop_kept.new.self c.loop-place.invariant.minimizes
+    (minimizes_end c.args.arena.now c.args.trail.now.entries c.args.bounds.base c.args.bounds.level c.loop-place.found
+    c.pop_kept.new.self c.in_default.ensures)

@@ -1,8 +1,0 @@
-use Rattle.settled_facts.specs.Steps.{AreFound, IsCertain}
-use Rattle.settled_facts.proofs.each.settle_each.Given as goal
-
-abbrev pub invariant-loop-key : goal.invariant-loop-key
-invariant-loop-key g l = record {
-  certain : IsCertain l.site.task.now.spec.now l.round.claim l.round.certain;
-  found : AreFound l.site.task.now.spec.now l.site.task.now.facts.now l.found.completions.items l.found.holds.items;
-}

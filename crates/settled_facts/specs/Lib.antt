@@ -1,3 +1,0 @@
-pub mod Claims
-pub mod Settled
-pub mod Steps

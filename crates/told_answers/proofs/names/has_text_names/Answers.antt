@@ -1,6 +1,0 @@
-use Rattle.std.proofs.Common.{All, subst}
-use Rattle.report_write.specs.Writable.{HasTextNames}
-use Rattle.told_answers.proofs.names.has_text_names.Goals as goal
-
-pub returns : goal.returns
-returns c = subst (All HasTextNames) c.relations.ensures.value c.relations_have_text.ensures

@@ -1,6 +1,0 @@
-use Rattle.std.proofs.Common.{All, take}
-use Rattle.report_write.specs.Writable.{HasTextNames}
-use Rattle.told_answers.proofs.names.relations_have_text.Given as goal
-
-abbrev pub invariant-loop-place : goal.invariant-loop-place
-invariant-loop-place l = record { texts : All HasTextNames (take l.place l.relations) }

@@ -1,7 +1,0 @@
-//! Reports that answer questions, as texts.
-#![tactic(auto)]
-
-mod answers;
-mod names;
-
-pub use answers::{ending_of, report_on, told_report};
