@@ -1,15 +1,15 @@
 #!/usr/bin/env python3
 """Looks at the pages that `currency page` makes: of the examples, and of thirty generated specifications.
 
-The generated ones have names and values with quotes, tags, line ends and the like, entities of 64 rows, two relations with
-copies, and given pairs that contradict each other. Each page is read as XML, so each tag is closed and each text escaped. What
-stands on it is compared with what the program says here once more, read by this script's own means: each certain value of
-`golden` stands in the cell of its entity and attribute, and each other cell has the values that are possible; the items of
-`explain`, and what may be without each; the pairs of rows, of which none follows from the others, and which give those of
-`forced` by transitivity and no more; the conflicts, with their circles. Pages of documents that are refused name the line at
-fault. No page asks for anything but itself.
+The generated ones have names and values with quotes, tags, line ends and the like, entities of 64 rows, 120 entities, two
+relations with copies, and given pairs that contradict each other. Each page is read as XML, so each tag is closed and each
+text escaped. What stands on it is compared with what the program says here once more, read by this script's own means: each
+certain value of `golden` stands in the cell of its entity and attribute, and each other cell has the values that are possible;
+the items of `explain`, and what may be without each; the pairs of rows, of which none follows from the others, and which give
+those of `forced` by transitivity and no more; the conflicts, with their circles. Pages of documents that are refused name the
+line at fault. No page asks for anything but itself.
 
-With `--browser` headless Chromium opens four pages, at two widths, light and dark: nothing is logged to its console, the
+With `--browser` headless Chromium opens five pages, at two widths, light and dark: nothing is logged to its console, the
 filter leaves the rows that it should, nothing is wider than the page, and one of 10,000 entities is there within two seconds.
 `--pictures FOLDER` keeps what it looks like. With `--broken` each line of BROKEN below is changed in a copy of the tools, one
 at a time, and the pages of that copy have to be found wrong.
@@ -105,6 +105,7 @@ pieces.html: #line-{{ at.line }} -> #line-0
 pieces.html: it.row in diagram.current -> it.row in diagram.rows
 pieces.html: where.line }} -> where.line + 1 }}
 page.html: {{ value(place["values"][0]) }}</td> -> {{ value(place["values"][0] ~ " ") }}</td>
+page.html: in it.entities | batch(ROWS) -> in [it.entities[:ROWS]]
 page.html: {{ chips(place["values"]) }}</td> -> {{ chips(place["values"][1:]) }}</td>
 page.html: counted(counts.certain, -> counted(counts.record,
 page.html: <th scope="row"> -> <th>
@@ -265,7 +266,7 @@ def made(number, folder, chance):
         it.rule("follow", "R", FOLLOWS.format("city", "since"))
         it.copies("kept", "S", "R")
     else:
-        it.relation("R", [2] * 60)
+        it.relation("R", [2] * 120)
         it.rule("up", "R", RISING.format("since"))
     return it.case(f"made {number}")
 
@@ -823,7 +824,7 @@ def main():
             place.mkdir()
             cases[at] = example(at, place) if at in EXAMPLES else made(at % 30, place, chance)
         if words.broken:
-            return 0 if look_at_broken(folder, [cases[it] for it in ("copies", "guide", "merged", 0, 17)]) else 1
+            return 0 if look_at_broken(folder, [cases[it] for it in ("copies", "guide", "merged", 0, 29, 17)]) else 1
         checks = Checks(tools(folder / "whole"))
         for case in cases.values():
             look_at(checks, case)
@@ -832,7 +833,8 @@ def main():
             look_at_files(checks, cases[at])
         look_at_refusals(checks, folder)
         if words.browser:
-            look_in_browser(checks, folder, [cases[it] for it in ("staff", "copies", "merged", "guide")], words.pictures)
+            opened = [cases[it] for it in ("staff", "copies", "merged", "guide", 29) if it in cases]
+            look_in_browser(checks, folder, opened, words.pictures)
             look_at_many(checks, folder, chance)
     print(", ".join(f"{count} {kind}" for kind, count in checks.seen.items()))
     drawn = "" if shutil.which("dot") else "; no drawings were looked at: there is no command dot (Debian's graphviz)"

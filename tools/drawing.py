@@ -78,7 +78,7 @@ class Picture:
 
 def extent(text):
     """How many letters wide a text is, those of East Asia being two."""
-    return sum(2 if unicodedata.east_asian_width(it) in "WF" else 1 for it in text)
+    return len(text) if text.isascii() else sum(2 if unicodedata.east_asian_width(it) in "WF" else 1 for it in text)
 
 
 def shortened(text, most=26):

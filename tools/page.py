@@ -34,7 +34,7 @@ except ImportError:
 import faults  # noqa: E402 (stands beside this file, and leaves nothing there)
 import hints  # noqa: E402
 from diagnose import TOKEN, Fault, quoted  # noqa: E402
-from drawing import Diagram, draw, shortened  # noqa: E402
+from drawing import Diagram, draw, extent, shortened  # noqa: E402
 from faults import constant as in_quotes  # noqa: E402
 from hints import plain_name as spelled  # noqa: E402
 from show import cut  # noqa: E402
@@ -49,6 +49,8 @@ LEARNED = "1000"
 IN_ONE, IN_EACH = 10_000, 5_000
 # how many lines of the specification are shown, and how many possible values of a place before the others are folded
 LINES, CHIPS = 1000, 6
+# how many rows of a long table a browser lays out together, and how wide a column of it is at least, in rem
+ROWS, NARROWEST = 100, 4.4
 
 # an attribute of an entity of a relation: it has a current value, and its rows have an order
 Cell = collections.namedtuple("Cell", "relation attribute entity")
@@ -421,6 +423,16 @@ class Page:
         lines = self.spec.text.text.removesuffix("\n").split("\n") if self.spec else []
         return lines if len(lines) <= LINES else []
 
+    @functools.cache
+    def widths(self, name):
+        """How wide the columns of a relation's table are at most, in rem, where its rows are not laid out together: what the
+        longest text of each takes in a wide font, the names being bold."""
+        columns = [[self.spec.relations[name].entity, *self.spec.relations[name].attrs, "Open"]]
+        columns += [[it.name, *(in_a_row(place.values) for place in it.places), ""] for it in self.entities[name]]
+        longest = [max(map(extent, it)) for it in zip(*columns)]
+        wide = [1.7 + 0.67 * longest[0], *(1.7 + 0.6 * it for it in longest[1:-1]), NARROWEST]
+        return [min(24, max(NARROWEST, it)) for it in wide]
+
     def look(self):
         """Asks the program, and puts together what it says."""
         text = self.program.forced()
@@ -518,6 +530,12 @@ def shown(value):
     return re.sub("[\x00-\x08\x0b-\x1f]", lambda it: chr(0x2400 + ord(it[0])), re.sub("[\x7f-\x9f\ufffe\uffff]", "\ufffd", value))
 
 
+def in_a_row(values):
+    """About as much text as is shown of the values of a place."""
+    many = [f" or one of {len(values) - CHIPS} more"] if values[CHIPS:] else []
+    return " or ".join(f"{it}  " for it in values[:CHIPS]) + "".join(many) if values[1:] else values[0]
+
+
 def counted(number, one, many=None):
     return f"{number:,} {one if number == 1 else many or one + 's'}"
 
@@ -527,6 +545,7 @@ def write(page, out, size):
     how = {"autoescape": True, "trim_blocks": True, "lstrip_blocks": True, "undefined": jinja2.StrictUndefined, "finalize": shown}
     environment = jinja2.Environment(loader=jinja2.FileSystemLoader(HERE / "page"), **how)
     environment.globals.update(counted=counted, shortened=shortened, cut=cut, CHIPS=CHIPS, EXPLAINED=EXPLAINED, DRAWN=DRAWN)
+    environment.globals.update(ROWS=ROWS, NARROWEST=NARROWEST)
     template, parts = environment.get_template("page.html"), page.parts(size)
     names = [out.name, *(f"{out.stem}-{number}{out.suffix}" for number in range(2, len(parts) + 1))]
     for number, (name, part) in enumerate(zip(names, parts), 1):

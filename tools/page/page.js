@@ -22,11 +22,18 @@ window.addEventListener("resize", settle);
   function apply() {
     words = words || rows.map((row) => row.textContent.toLowerCase());
     const wanted = text.value.trim().toLowerCase();
+    const left = new Map();
     let count = 0;
     rows.forEach((row, at) => {
       const fits = words[at].includes(wanted) ? !open.checked || row.dataset.open !== "0" : false;
       row.hidden = !fits;
       count += fits ? 1 : 0;
+      left.set(row.parentNode, (left.get(row.parentNode) || 0) + (fits ? 1 : 0));
+    });
+    // (a block of rows that was not seen yet is taken to be as high as so many)
+    left.forEach((many, block) => {
+      block.hidden = many === 0;
+      block.style.setProperty("--rows", many);
     });
     said.textContent = count.toLocaleString("en") + " of " + rows.length.toLocaleString("en") + " here";
   }
