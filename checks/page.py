@@ -711,7 +711,8 @@ def look_in_browser(checks, folder, cases, pictures):
     browser = Browser(folder)
     for case in cases:
         page = case.folder / "page.html"
-        rows = xml.etree.ElementTree.parse(page).getroot().findall(".//tr[@data-open]")
+        (tree,) = read_page(checks, case)
+        rows = tree.findall(".//tr[@data-open]")
         wanted = text_of(rows[0][1])[:3].lower() if rows else ""
         fits = [at for at, row in enumerate(rows) if wanted.strip() in text_of(row).lower()]
         opened = [at for at, row in enumerate(rows) if row.get("data-open") != "0"]
