@@ -1,13 +1,13 @@
 -- Slots whose clauses do not stay are taken off the lists.
-use Rattle.std.proofs.Common.{◌≡◌, ◌==◌, ◌⊎◌, ◌<◌, ◌≤◌, ◌+◌, ◌*◌, ◌∙◌, ℕ, Bool, true, false, not, cond, List, [], ◌∷◌, Option, Some, None, IfSome, All, length, map, slice_get, slice_set, refl, sym, ap, subst, inl, inr, arith}
+use Rattle.std.proofs.Common.{◌≡◌, ◌==◌, ◌⊎◌, ◌<◌, ◌≤◌, ◌+◌, ◌*◌, ◌∙◌, ℕ, Bool, true, false, not, cond, List, [], ◌∷◌, Option, Some, None, All, length, map, slice_get, slice_set, refl, sym, ap, subst, inl, inr, arith}
 use Rattle.std.specs.List.{filter}
 use Rattle.std.proofs.lemmas.List.{length-map, length-set, set-set, set-get_or, get_or-set_same, get_or-set_other, ext_get_or}
 use Rattle.std.proofs.lemmas.Option.{get_or_from_slice_get}
 use Rattle.std.proofs.lemmas.Bool.{cases_eq}
 use Rattle.std.proofs.lemmas.Bool.Decides.{eqb_tells}
 use Rattle.currency_base.specs.declared.lit.Lit.{Lit}
-use Rattle.watch_links.specs.Links.{IsIn, HasNoneTwice, head_of, following, without, rest_from, list_of, lists_without}
-use Rattle.watch_links.proofs.SlotLists.{Tells, head_in, following_in, following_stays, in_without, not_in_without, rest_at_head, rest_at_end, rest_is, rest_without}
+use Rattle.watch_links.specs.Links.{IsIn, HasNoneTwice, coming_after, head_of, following, without, rest_from, list_of, lists_without}
+use Rattle.watch_links.proofs.SlotLists.{Tells, coming_in, cut_follows, in_without, not_in_without, rest_at_head, rest_at_end, rest_is, rest_without}
 use Rattle.clause_arena.specs.Arenas.{is_satisfied, place_of}
 use Rattle.clause_arena.specs.Slots.{AreSlots, IsLinked, IsSide, clause_of, stays}
 use Rattle.clause_arena.proofs.Halves.{list_map, in_filter, stays_in_filter}
@@ -78,9 +78,9 @@ filter_all p (x ∷ xs) all =
     let here : p x ≡ true = all x (inl refl) in
     rw here (ap (λ (ys : List ℕ). x ∷ ys) (filter_all p xs (λ y i. all y (inr i))))
 
--- a walk over an owner's list takes off what fails the test: it is at a slot, or at the end
-pub record IsDropping (p : ℕ → Bool) (at : Option ℕ) (owner : ℕ) (now was : List (List ℕ)) : Type 0 where
-  pub stands : IfSome at (λ slot. IsIn slot (list_of now owner))
+-- a walk over an owner's list takes off what fails the test: it is at a slot, or at the end, and knows the slot before
+pub record IsDropping (p : ℕ → Bool) (before at : Option ℕ) (owner : ℕ) (now was : List (List ℕ)) : Type 0 where
+  pub comes : coming_after before (list_of now owner) ≡ at
   pub others : now ≡ slice_set was owner (list_of now owner)
   pub same : filter p (list_of now owner) ≡ filter p (list_of was owner)
   pub passed : (y : ℕ) → IsIn y (list_of now owner) → IsIn y (rest_from at (list_of now owner)) ⊎ (p y ≡ true)
@@ -91,35 +91,41 @@ set_itself lists owner = set-get_or lists owner []
 
 pub drop_begins : (p : ℕ → Bool) (at : Option ℕ) (owner : ℕ) (lists : List (List ℕ)) → owner < length lists
     → at ≡ head_of (list_of lists owner)
-    → IsDropping p at owner lists lists
+    → IsDropping p None at owner lists lists
 drop_begins p at owner lists within first =
     rw first (record {
-      stands = head_in (list_of lists owner);
+      comes = refl;
       others = sym (set_itself lists owner);
       same = refl;
       passed = λ y i. inl (rw (rest_at_head (list_of lists owner)) i);
       owners = within;
     })
 
-pub drop_stands : (p : ℕ → Bool) (at : Option ℕ) (owner : ℕ) (now was : List (List ℕ)) (slot : ℕ)
-    → IsDropping p at owner now was → at ≡ Some slot
-    → IsIn slot (list_of now owner)
-drop_stands p at owner now was slot d is = subst (λ (o : Option ℕ). IfSome o (λ x. IsIn x (list_of now owner))) is d.stands
+pub drop_comes : (p : ℕ → Bool) (before at : Option ℕ) (owner : ℕ) (now was : List (List ℕ)) (slot : ℕ)
+    → IsDropping p before at owner now was → at ≡ Some slot
+    → coming_after before (list_of now owner) ≡ Some slot
+drop_comes p before at owner now was slot d is = d.comes ∙ is
 
-rest_now : (p : ℕ → Bool) (at : Option ℕ) (owner : ℕ) (now was : List (List ℕ)) (slot : ℕ) → IsDropping p at owner
-    now was → at ≡ Some slot → HasNoneTwice (list_of now owner)
+pub drop_stands : (p : ℕ → Bool) (before at : Option ℕ) (owner : ℕ) (now was : List (List ℕ)) (slot : ℕ)
+    → IsDropping p before at owner now was → at ≡ Some slot
+    → IsIn slot (list_of now owner)
+drop_stands p before at owner now was slot d is = coming_in before slot (list_of now owner) (d.comes ∙ is)
+
+rest_now : (p : ℕ → Bool) (before at : Option ℕ) (owner : ℕ) (now was : List (List ℕ)) (slot : ℕ)
+    → IsDropping p before at owner now was → at ≡ Some slot → HasNoneTwice (list_of now owner)
     → rest_from at (list_of now owner) ≡ slot ∷ rest_from (following slot (list_of now owner)) (list_of now owner)
-rest_now p at owner now was slot d is once =
+rest_now p before at owner now was slot d is once =
     ap (λ (o : Option ℕ). rest_from o (list_of now owner)) is ∙ rest_is slot (list_of now owner) once
-    (drop_stands p at owner now was slot d is)
+    (drop_stands p before at owner now was slot d is)
 
 -- the slot where the walk is passes, and stays
-drop_keeps : (p : ℕ → Bool) (at : Option ℕ) (owner : ℕ) (now was : List (List ℕ)) (slot : ℕ) → IsDropping p at owner
-    now was → at ≡ Some slot
-    → HasNoneTwice (list_of now owner) → p slot ≡ true → IsDropping p (following slot (list_of now owner)) owner now was
-drop_keeps p at owner now was slot d is once passes =
+drop_keeps : (p : ℕ → Bool) (before at : Option ℕ) (owner : ℕ) (now was : List (List ℕ)) (slot : ℕ)
+    → IsDropping p before at owner now was → at ≡ Some slot
+    → HasNoneTwice (list_of now owner) → p slot ≡ true
+    → IsDropping p (Some slot) (following slot (list_of now owner)) owner now was
+drop_keeps p before at owner now was slot d is once passes =
     record {
-      stands = following_in slot (list_of now owner);
+      comes = refl;
       others = d.others;
       same = d.same;
       passed = λ y i. go y (d.passed y i);
@@ -133,18 +139,18 @@ drop_keeps p at owner now was slot d is once passes =
 
     go : (y : ℕ) → IsIn y (rest_from at (list_of now owner)) ⊎ (p y ≡ true)
         → IsIn y (rest_from (following slot (list_of now owner)) (list_of now owner)) ⊎ (p y ≡ true)
-    go y (inl i) = later y (subst (IsIn y) (rest_now p at owner now was slot d is once) i)
+    go y (inl i) = later y (subst (IsIn y) (rest_now p before at owner now was slot d is once) i)
     go y (inr h) = inr h
 
 -- it fails, and is taken off
-drop_takes : (p : ℕ → Bool) (at : Option ℕ) (owner : ℕ) (now was : List (List ℕ)) (slot : ℕ) → IsDropping p at owner
-    now was → at ≡ Some slot
+drop_takes : (p : ℕ → Bool) (before at : Option ℕ) (owner : ℕ) (now was : List (List ℕ)) (slot : ℕ)
+    → IsDropping p before at owner now was → at ≡ Some slot
     → HasNoneTwice (list_of now owner) → p slot ≡ false
     → (left : List (List ℕ)) → left ≡ lists_without now owner slot → list_of left owner ≡ without slot (list_of now owner)
-    → IsDropping p (following slot (list_of now owner)) owner left was
-drop_takes p at owner now was slot d is once fails left is_left there =
+    → IsDropping p before (following slot (list_of now owner)) owner left was
+drop_takes p before at owner now was slot d is once fails left is_left there =
     record {
-      stands = rw there (following_stays slot (list_of now owner));
+      comes = rw there (cut_follows before slot (list_of now owner) once (d.comes ∙ is));
       others = others;
       same = ap (filter p) there ∙ filter_without p slot (list_of now owner) fails ∙ d.same;
       passed = λ y i. passed y (subst (IsIn y) there i);
@@ -165,7 +171,7 @@ drop_takes p at owner now was slot d is once fails left is_left there =
 
     go : (y : ℕ) → IsIn y (without slot (list_of now owner)) → IsIn y (rest_from at (list_of now owner)) ⊎ (p y ≡ true)
         → IsIn y (rest_from (following slot (list_of now owner)) (list_of left owner)) ⊎ (p y ≡ true)
-    go y i (inl r) = later y i (subst (IsIn y) (rest_now p at owner now was slot d is once) r)
+    go y i (inl r) = later y i (subst (IsIn y) (rest_now p before at owner now was slot d is once) r)
     go y i (inr h) = inr h
 
     passed : (y : ℕ) → IsIn y (without slot (list_of now owner))
@@ -177,30 +183,31 @@ left_there : (owner : ℕ) (now others : List (List ℕ)) (slot : ℕ) → owner
 left_there owner now others slot within is_left =
     ap (λ (ls : List (List ℕ)). list_of ls owner) is_left ∙ get_or-set_same now owner (without slot (list_of now owner)) [] within
 
--- so it goes on to the slot that follows
-pub drop_goes_on : (p : ℕ → Bool) (at next : Option ℕ) (owner : ℕ) (now left was : List (List ℕ)) (slot : ℕ)
-    → IsDropping p at owner now was → at ≡ Some slot
+-- so it goes on to the slot that follows, behind the slot where it was, if that one stays
+pub drop_goes_on : (p : ℕ → Bool) (before at next : Option ℕ) (owner : ℕ) (now left was : List (List ℕ)) (slot : ℕ)
+    → IsDropping p before at owner now was → at ≡ Some slot
     → HasNoneTwice (list_of now owner) → next ≡ following slot (list_of now owner) → left ≡ cond (p slot) now
-    (lists_without now owner slot)
-    → IsDropping p next owner left was
-drop_goes_on p at next owner now left was slot d is once on changed = go (p slot) refl changed
+    (lists_without now owner slot) → (stays : Bool) → stays ≡ p slot
+    → IsDropping p (cond stays (Some slot) before) next owner left was
+drop_goes_on p before at next owner now left was slot d is once on changed stays same = go stays same (rw same changed)
   where
-    go : (b : Bool) → p slot ≡ b → left ≡ cond b now (lists_without now owner slot) → IsDropping p next owner left was
-    go true passes same = rw (on, same) (drop_keeps p at owner now was slot d is once passes)
-    go false fails taken = rw on (drop_takes p at owner now was slot d is once fails left taken
+    go : (b : Bool) → b ≡ p slot → left ≡ cond b now (lists_without now owner slot)
+        → IsDropping p (cond b (Some slot) before) next owner left was
+    go true passes same = rw (on, same) (drop_keeps p before at owner now was slot d is once (sym passes))
+    go false fails taken = rw on (drop_takes p before at owner now was slot d is once (sym fails) left taken
         (left_there owner now left slot d.owners taken))
 
 -- and what is before it grows shorter
-pub drop_falls : (p : ℕ → Bool) (at next : Option ℕ) (owner : ℕ) (now left was : List (List ℕ)) (slot : ℕ)
-    → IsDropping p at owner now was → at ≡ Some slot
+pub drop_falls : (p : ℕ → Bool) (before at next : Option ℕ) (owner : ℕ) (now left was : List (List ℕ)) (slot : ℕ)
+    → IsDropping p before at owner now was → at ≡ Some slot
     → HasNoneTwice (list_of now owner) → next ≡ following slot (list_of now owner) → left ≡ cond (p slot) now
     (lists_without now owner slot)
     → length (rest_from next (list_of left owner)) < length (rest_from at (list_of now owner))
-drop_falls p at next owner now left was slot d is once on changed = go (p slot) changed
+drop_falls p before at next owner now left was slot d is once on changed = go (p slot) changed
   where
     shorter : length (rest_from (following slot (list_of now owner)) (list_of now owner)) < length
         (rest_from at (list_of now owner))
-    shorter = rw (rest_now p at owner now was slot d is once) (omega arith)
+    shorter = rw (rest_now p before at owner now was slot d is once) (omega arith)
 
     go : (b : Bool) → left ≡ cond b now (lists_without now owner slot) → length (rest_from next (list_of left owner))
         < length (rest_from at (list_of now owner))
@@ -208,9 +215,10 @@ drop_falls p at next owner now left was slot d is once on changed = go (p slot) 
     go false taken = rw (on, left_there owner now left slot d.owners taken, rest_without slot (list_of now owner) once) shorter
 
 -- at its end the list is that of what passes
-pub drop_ends : (p : ℕ → Bool) (at : Option ℕ) (owner : ℕ) (now was : List (List ℕ)) → IsDropping p at owner now was → at ≡ None
+pub drop_ends : (p : ℕ → Bool) (before at : Option ℕ) (owner : ℕ) (now was : List (List ℕ)) → IsDropping p before at owner now was
+    → at ≡ None
     → now ≡ slice_set was owner (filter p (list_of was owner))
-drop_ends p at owner now was d is =
+drop_ends p before at owner now was d is =
     d.others ∙ ap (slice_set was owner) (sym (filter_all p (list_of now owner) (λ y i. all y (d.passed y i))) ∙ d.same)
   where
     rest : rest_from at (list_of now owner) ≡ []

@@ -1,11 +1,11 @@
 -- Lists of slots, and the lists of what a function makes of them, as the clauses of slots.
-use Rattle.std.proofs.Common.{◌≡◌, ◌==◌, ◌∙◌, ℕ, zero, suc, Bool, true, false, cond, List, [], ◌∷◌, map, replicate, slice_set, refl, sym, ap, subst, inl, inr}
+use Rattle.std.proofs.Common.{◌≡◌, ◌==◌, ◌∙◌, ℕ, zero, suc, Bool, true, false, cond, List, [], ◌∷◌, Option, Some, None, IfSome, map, replicate, slice_set, refl, sym, ap, subst, inl, inr}
 use Rattle.std.specs.Prelude.{option_map}
 use Rattle.std.specs.List.{filter}
 use Rattle.std.proofs.lemmas.Bool.Decides.{eqb_tells}
 use Rattle.std.proofs.lemmas.Bool.{eq-eqb, ne_eqb}
 use Rattle.std.proofs.lemmas.List.{map-set}
-use Rattle.watch_links.specs.Links.{IsIn, HasNoneTwice, head_of, following, without, list_of, lists_with, lists_without}
+use Rattle.watch_links.specs.Links.{IsIn, HasNoneTwice, coming_after, head_of, following, without, list_of, lists_with, lists_without}
 use Rattle.watch_links.proofs.SlotLists.{Tells}
 
 -- the list of an owner, where all lists are changed in one way, which leaves an empty one empty
@@ -49,6 +49,12 @@ following_map f slot (x ∷ xs) alone = go (eqb_tells slot x) (following_map f s
         (cond (slot == x) (head_of xs) (following slot xs))
     go (inl h) more = rw (h.0, eq-eqb (f slot) (f x) (ap f h.1)) (head_map f xs)
     go (inr h) more = rw (h.0, ne_eqb (f slot) (f x) (λ e. h.1 (sym (alone x (inl refl) (sym e))))) more
+
+-- so it is with what comes after one, or first
+pub coming_map : (f : ℕ → ℕ) (before : Option ℕ) (xs : List ℕ) → IfSome before (λ slot. IsAlone f slot xs)
+    → coming_after (option_map f before) (map f xs) ≡ option_map f (coming_after before xs)
+coming_map f None xs alone = head_map f xs
+coming_map f (Some slot) xs alone = following_map f slot xs alone
 
 pub without_map : (f : ℕ → ℕ) (slot : ℕ) (xs : List ℕ) → IsAlone f slot xs → map f (without slot xs) ≡ without (f slot) (map f xs)
 unfolding without

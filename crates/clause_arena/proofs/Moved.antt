@@ -1,18 +1,19 @@
 -- A slot of a clause moves from the list of one literal to that of another, with which it changes places.
-use Rattle.std.proofs.Common.{◌≡◌, ◌≢◌, ◌⊎◌, ◌<◌, ◌≤◌, ◌+◌, ◌*◌, ◌∙◌, ℕ, List, ◌∷◌, Option, Some, IfSome, All, length, get_or, slice_get, slice_set, refl, sym, ap, subst, inl, inr, arith}
+use Rattle.std.proofs.Common.{◌≡◌, ◌≢◌, ◌⊎◌, ◌<◌, ◌≤◌, ◌+◌, ◌*◌, ◌∙◌, ℕ, List, ◌∷◌, Option, Some, IfSome, None, All, length, get_or, map, slice_get, slice_set, refl, sym, ap, subst, inl, inr, arith}
+use Rattle.std.specs.Prelude.{option_map}
 use Rattle.std.proofs.lemmas.Bool.{cases_eq}
 use Rattle.std.proofs.lemmas.List.{length-set}
 use Rattle.std.proofs.lemmas.List.Elements.{All-set}
-use Rattle.std.proofs.lemmas.Option.{slice_get_within, slice_get-get_or}
+use Rattle.std.proofs.lemmas.Option.{none-some, same_Some, slice_get_within, slice_get-get_or}
 use Rattle.currency_base.specs.Lists.{OnlyOnce}
 use Rattle.currency_base.specs.declared.lit.Lit.{Lit}
-use Rattle.watch_links.specs.Links.{IsIn, IsFree, list_of, lists_with, lists_without, without}
-use Rattle.watch_links.proofs.SlotLists.{owner_within}
+use Rattle.watch_links.specs.Links.{IsIn, IsFree, coming_after, list_of, lists_with, lists_without, without}
+use Rattle.watch_links.proofs.SlotLists.{owner_within, coming_in}
 use Rattle.watch_links.proofs.ListsChanged.{in_lists_with, lists_with_has, lists_with_keeps, in_lists_without, lists_without_keeps}
 use Rattle.clause_arena.specs.Arenas.{Arena, IsWatched, place_of}
 use Rattle.clause_arena.specs.Slots.{AreSlots, IsLinked, IsSide, clause_of, clauses_of}
 use Rattle.clause_arena.proofs.Changed.{get_same, get_other, all_at, exchanged_length, exchanged_from, exchanged_other, exchanged_once, exchanged_all}
-use Rattle.clause_arena.proofs.Halves.{lists_with_map, lists_without_map}
+use Rattle.clause_arena.proofs.Halves.{IsAlone, coming_map, list_map, lists_with_map, lists_without_map}
 use Rattle.clause_arena.proofs.Sides.{half, same_lits, side_of, alone, linked_clause, arena_of, seen_in, seen_clauses}
 
 -- the literals of a watched clause that are to change places
@@ -50,6 +51,33 @@ module _ (clauses : List (List Lit)) (slots : ℕ) (lists : List (List ℕ)) (cl
   -- the slot stands in the list that it is to leave
   pub stands_left : IsIn slot (list_of lists (place_of left))
   stands_left = linked_by from left can.low can.is_left
+
+  -- behind the one before it, by the clause that a caller sees there
+  pub comes_left : (behind : Option ℕ) → IfSome behind (λ s. IsIn s (list_of lists (place_of left)))
+      → coming_after (option_map clause_of behind) (list_of (clauses_of lists) (place_of left)) ≡ Some clause
+      → coming_after behind (list_of lists (place_of left)) ≡ Some slot
+  comes_left behind stands comes = go (coming_after behind xs) refl
+    where
+      xs : List ℕ
+      xs = list_of lists (place_of left)
+
+      all_alone : (o : Option ℕ) → IfSome o (λ s. IsIn s xs) → IfSome o (λ s. IsAlone clause_of s xs)
+      all_alone None i = tt
+      all_alone (Some s) i = alone clauses slots lists can.are (place_of left) s i
+
+      clauses_come : option_map clause_of (coming_after behind xs) ≡ Some clause
+      clauses_come =
+          sym (coming_map clause_of behind xs (all_alone behind stands))
+          ∙ ap (coming_after (option_map clause_of behind)) (sym (list_map (map clause_of) refl lists (place_of left))) ∙ comes
+
+      go : (o : Option ℕ) → coming_after behind xs ≡ o → coming_after behind xs ≡ Some slot
+      go None e = absurd (none-some clause (sym (ap (option_map clause_of) e) ∙ clauses_come))
+      go (Some s) e =
+          let same : clause_of s ≡ clause = same_Some (clause_of s) clause (sym (ap (option_map clause_of) e) ∙ clauses_come) in
+          let there : clause_of s ≡ clause_of slot = same ∙ sym (half clause from can.low) in
+          let is_slot : s ≡ slot = alone clauses slots lists can.are (place_of left) slot stands_left s
+          (coming_in behind s xs e) there in
+          e ∙ ap (λ (n : ℕ). Some n) is_slot
 
   left_within : place_of left < length lists
   left_within = owner_within lists (place_of left) slot stands_left

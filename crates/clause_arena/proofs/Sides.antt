@@ -1,16 +1,17 @@
 -- What is true of clauses and of the lists of their slots.
-use Rattle.std.proofs.Common.{◌≡◌, ◌==◌, ◌⊎◌, ◌<◌, ◌≤◌, ◌+◌, ◌*◌, ◌/◌, ◌%◌, ◌∙◌, ℕ, zero, suc, cond, List, Some, All, length, get_or, map, slice_get, refl, sym, ap, subst, inl, inr, arith}
+use Rattle.std.proofs.Common.{◌≡◌, ◌==◌, ◌⊎◌, ◌<◌, ◌+◌, ◌*◌, ◌/◌, ◌%◌, ◌∙◌, ℕ, zero, suc, cond, List, Option, Some, None, IfSome, All, length, get_or, map, slice_get, refl, sym, ap, subst, inl, inr, arith}
 use Rattle.std.specs.Prelude.{option_map}
 use Rattle.std.proofs.lemmas.List.{length-map}
 use Rattle.std.proofs.lemmas.Bool.Decides.{eqb_tells}
-use Rattle.std.proofs.lemmas.Option.{slice_get-get_or, slice_get_within}
+use Rattle.std.proofs.lemmas.Option.{same_Some, slice_get-get_or, slice_get_within}
 use Rattle.std.proofs.lemmas.List.Elements.{All-weaker}
 use Rattle.currency_base.specs.Lists.{OnlyOnce}
 use Rattle.currency_base.specs.declared.lit.Lit.{Lit}
-use Rattle.watch_links.specs.Links.{IsIn, HasNoneTwice, head_of, following, list_of}
-use Rattle.watch_links.proofs.SlotLists.{Tells}
+use Rattle.watch_links.specs.Links.{IsIn, HasNoneTwice, coming_after, head_of, following, list_of}
+use Rattle.watch_links.proofs.SlotLists.{Tells, before_in}
+use Rattle.clause_arena.specs.declared.clause.ClauseNo.{ClauseNo}
 use Rattle.clause_arena.specs.Arenas.{Arena, AreWatchers, AreWithin, IsWatched, place_of}
-use Rattle.clause_arena.specs.Slots.{AreSlots, IsLinked, IsSide, clause_of, clauses_of}
+use Rattle.clause_arena.specs.Slots.{AreSlots, IsLinked, IsSide, IsWatching, clause_of, clauses_of}
 use Rattle.clause_arena.proofs.Changed.{all_at}
 use Rattle.clause_arena.proofs.Halves.{IsAlone, list_map, in_map, from_map, head_map, following_map, once_map}
 
@@ -211,30 +212,77 @@ module _ (clauses : List (List Lit)) (slots : ℕ) (lists : List (List ℕ)) (ar
       let linked = linked_clause clauses slots lists are owner clause (seen_in owner clause i) in
       slice_get_within clauses clause linked.lits linked.is_clause
 
-  pub watcher_long : (owner clause : ℕ) (lits : List Lit) → IsIn clause (list_of a.watchers owner)
-      → slice_get clauses clause ≡ Some lits → 2 ≤ length lits
-  watcher_long owner clause lits i is =
-      let linked = linked_clause clauses slots lists are owner clause (seen_in owner clause i) in
-      let same = same_lits clauses clause clause linked.lits lits linked.is_clause is refl in
-      omega (arith, linked.long, ap length same)
-
-  pub watcher_slot : (lit : Lit) (clause side : ℕ) (lits : List Lit) → IsIn clause
-      (list_of a.watchers (place_of lit)) → slice_get clauses clause ≡ Some lits → side < 2
-      → ((slice_get lits 0 ≡ Some lit) ⊎ (slice_get lits 1 ≡ Some lit) → slice_get lits side ≡ Some lit)
-      → IsIn (2 * clause + side) (list_of lists (place_of lit))
-  watcher_slot lit clause side lits i is few chosen =
+  pub watcher_watching : (lit : Lit) (clause : ℕ) → IsIn clause (list_of a.watchers (place_of lit))
+      → IsWatching lists (place_of lit) clause
+  watcher_watching lit clause i =
       let r = side_of_clause clauses slots lists are (place_of lit) clause (seen_in (place_of lit) clause i) in
       let s = r.2 in
-      let same : s.linked.lits ≡ lits = same_lits clauses s.clause clause s.linked.lits lits s.linked.is_clause is r.3 in
-      let is_lit : lit ≡ s.lit = same_place lit s.lit s.is_owner in
-      let there : slice_get lits s.side ≡ Some lit =
-      ap (λ (ls : List Lit). slice_get ls s.side) (sym same) ∙ s.is_lit ∙ ap (λ (l : Lit). Some l) (sym is_lit) in
-      let here : slice_get s.linked.lits side ≡ Some lit =
-      ap (λ (ls : List Lit). slice_get ls side) same
-      ∙ chosen (one_of s.side lits lit there (first_or_second s.side s.first_or_second)) in
-      subst (λ (n : ℕ). IsIn (2 * n + side) (list_of lists (place_of lit))) r.3 (s.linked.by side lit few here)
+      let linked = s.linked in
+      let first = get_or linked.lits 0 s.lit in
+      let second = get_or linked.lits 1 s.lit in
+      let is_first = slice_get-get_or linked.lits 0 s.lit (omega (arith, linked.long)) in
+      let is_second = slice_get-get_or linked.lits 1 s.lit (omega (arith, linked.long)) in
+      let by_first : IsIn (2 * s.clause + 0) (list_of lists (place_of first)) = linked.by 0 first (omega arith) is_first in
+      subst (IsWatching lists (place_of lit)) r.3
+      (record {
+        first_owner = place_of first;
+        second_owner = place_of second;
+        by_first = subst (λ (n : ℕ). IsIn n (list_of lists (place_of first))) (omega arith) by_first;
+        by_second = linked.by 1 second (omega arith) is_second;
+        is_one = one_of s.lit first second s.side s.linked.lits s.is_owner s.is_lit is_first is_second
+            (first_or_second s.side s.first_or_second);
+      })
     where
-      one_of : (side : ℕ) (lits : List Lit) (lit : Lit) → slice_get lits side ≡ Some lit → (side ≡ 0) ⊎ (side ≡ 1)
-          → (slice_get lits 0 ≡ Some lit) ⊎ (slice_get lits 1 ≡ Some lit)
-      one_of side lits lit there (inl e) = inl (ap (slice_get lits) (sym e) ∙ there)
-      one_of side lits lit there (inr e) = inr (ap (slice_get lits) (sym e) ∙ there)
+      one_of : (l first second : Lit) (side : ℕ) (lits : List Lit) → place_of lit ≡ place_of l → slice_get lits side ≡ Some l
+          → slice_get lits 0 ≡ Some first → slice_get lits 1 ≡ Some second → (side ≡ 0) ⊎ (side ≡ 1)
+          → (place_of lit ≡ place_of first) ⊎ (place_of lit ≡ place_of second)
+      one_of l first second side lits same at is_first is_second (inl e) =
+          inl (same ∙ ap place_of (same_Some l first (sym at ∙ ap (slice_get lits) e ∙ is_first)))
+      one_of l first second side lits same at is_first is_second (inr e) =
+          inr (same ∙ ap place_of (same_Some l second (sym at ∙ ap (slice_get lits) e ∙ is_second)))
+
+-- the literal of a slot that stands in a list, whose place is its owner
+pub slot_lit : (clauses : List (List Lit)) (slots : ℕ) (lists : List (List ℕ)) (owner clause side : ℕ) (lits : List Lit)
+    → AreSlots clauses slots lists → side < 2 → IsIn (2 * clause + side) (list_of lists owner)
+    → slice_get clauses clause ≡ Some lits
+    → (lit : Lit) × (slice_get lits side ≡ Some lit) × (owner ≡ place_of lit)
+slot_lit clauses slots lists owner clause side lits are few i is =
+    let s = are.sides owner (2 * clause + side) i in
+    let same : s.clause ≡ clause = omega (arith, s.is_slot, few, s.first_or_second) in
+    let sides : s.side ≡ side = omega (arith, s.is_slot, few, s.first_or_second) in
+    let here : s.linked.lits ≡ lits = same_lits clauses s.clause clause s.linked.lits lits s.linked.is_clause is same in (
+      s.lit,
+      ap (slice_get lits) (sym sides) ∙ ap (λ (ls : List Lit). slice_get ls s.side) (sym here) ∙ s.is_lit,
+      s.is_owner,
+    )
+
+-- both slots of a watching clause are there
+pub watching_below : (lists : List (List ℕ)) (slots owner clause : ℕ) → ((o s : ℕ) → IsIn s (list_of lists o) → s < slots)
+    → IsWatching lists owner clause → 2 * clause + 1 < slots
+watching_below lists slots owner clause within w = within w.second_owner (2 * clause + 1) w.by_second
+
+-- the clause before one among the watchers of a literal watches it, too
+pub before_watching : (clauses : List (List Lit)) (slots : ℕ) (lists : List (List ℕ)) (are : AreSlots clauses slots lists)
+    (clauses_left lits_left : ℕ) (a : Arena) (view : arena_of clauses lists clauses_left lits_left ≡ a)
+    (before : Option ClauseNo) (lit : Lit) (clause : ℕ)
+    → coming_after (option_map (λ (no : ClauseNo). no.0) before) (list_of a.watchers (place_of lit)) ≡ Some clause
+    → IfSome before (λ (no : ClauseNo). IsWatching lists (place_of lit) no.0)
+before_watching clauses slots lists are clauses_left lits_left a view None lit clause comes = tt
+before_watching clauses slots lists are clauses_left lits_left a view (Some earlier) lit clause comes =
+    watcher_watching clauses slots lists are clauses_left lits_left a view lit earlier.0
+    (before_in earlier.0 clause (list_of a.watchers (place_of lit)) comes)
+
+-- a watched clause stands in the list of each of its first two literals
+pub watched_slot : (clauses : List (List Lit)) (slots : ℕ) (lists : List (List ℕ)) (are : AreSlots clauses slots lists)
+    (clauses_left lits_left : ℕ) (a : Arena) (view : arena_of clauses lists clauses_left lits_left ≡ a)
+    (clause side : ℕ) (lits : List Lit) → IsWatched a clause → slice_get a.clauses clause ≡ Some lits → side < 2
+    → (lit : Lit) × (slice_get lits side ≡ Some lit) × IsIn (2 * clause + side) (list_of lists (place_of lit))
+watched_slot clauses slots lists are clauses_left lits_left a view clause side lits w is few =
+    let watcher = seen_in clauses slots lists are clauses_left lits_left a view (place_of w.first) clause w.by_first in
+    let linked = linked_clause clauses slots lists are (place_of w.first) clause watcher in
+    let there = ap (λ (ls : List (List Lit)). slice_get ls clause)
+    (seen_clauses clauses slots lists are clauses_left lits_left a view) ∙ is in
+    let same = same_lits clauses clause clause linked.lits lits linked.is_clause there refl in
+    let lit = get_or linked.lits side w.first in
+    let at = slice_get-get_or linked.lits side w.first (omega (arith, linked.long, few)) in
+    (lit, ap (λ (ls : List Lit). slice_get ls side) (sym same) ∙ at, linked.by side lit few at)

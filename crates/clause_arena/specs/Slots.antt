@@ -1,5 +1,5 @@
 -- Clauses in one vector of literals, and the slots by which they are watched: `2 * clause` and `2 * clause + 1`.
-use Rattle.std.specs.Prelude.{◌≡◌, ◌<◌, ◌≤◌, ◌+◌, ◌*◌, ◌/◌, ℕ, Bool, List, ◌∷◌, All, Some, length, map, slice_get}
+use Rattle.std.specs.Prelude.{◌≡◌, ◌⊎◌, ◌<◌, ◌≤◌, ◌+◌, ◌*◌, ◌/◌, ℕ, Bool, List, ◌∷◌, All, Some, length, map, slice_get}
 use Rattle.currency_base.specs.Lists.{OnlyOnce}
 use Rattle.currency_base.specs.declared.lit.Lit.{Lit}
 use Rattle.watch_links.specs.Links.{IsIn, Links, list_of, lists_with}
@@ -37,6 +37,14 @@ pub record IsSide (clauses : List (List Lit)) (lists : List (List ℕ)) (owner s
   pub lit : Lit
   pub is_lit : slice_get linked.lits side ≡ Some lit
   pub is_owner : owner ≡ place_of lit
+
+-- both slots of the clause stand in lists, and one of them in this owner's
+pub record IsWatching (lists : List (List ℕ)) (owner clause : ℕ) : Type 0 where
+  pub first_owner : ℕ
+  pub second_owner : ℕ
+  pub by_first : IsIn (2 * clause) (list_of lists first_owner)
+  pub by_second : IsIn (2 * clause + 1) (list_of lists second_owner)
+  pub is_one : (owner ≡ first_owner) ⊎ (owner ≡ second_owner)
 
 -- the lists of slots are those of these clauses
 pub record AreSlots (clauses : List (List Lit)) (slots : ℕ) (lists : List (List ℕ)) : Type 0 where

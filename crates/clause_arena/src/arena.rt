@@ -1,13 +1,16 @@
-ghost use Rattle.std.specs.Prelude.{◌≡◌, ◌<◌, ◌≤◌, ◌+◌, ◌*◌, ◌^◌, ◌∷◌, ◌++◌, [], Some, length, map, replicate, option_map, slice_get, IsOk, IfOk, IfSome, OnOk, OnErr};
+ghost use Rattle.std.specs.Prelude.{◌≡◌, ◌<◌, ◌≤◌, ◌+◌, ◌*◌, ◌^◌, ◌∷◌, ◌++◌, [], List, Some, length, map, replicate, option_map, slice_get, IsOk, IfOk, IfSome, OnOk, OnErr};
 ghost use Rattle.std.specs.List.{filter};
 ghost use Rattle.currency_base.specs.Lists.{OnlyOnce};
-ghost use Rattle.watch_links.specs.Links.{IsIn, head_of, following};
+ghost use Rattle.currency_base.specs.declared.lit.Lit.{Lit};
+ghost use Rattle.watch_links.specs.Links.{IsIn, coming_after, head_of, following};
 ghost use Rattle.clause_arena.specs.Arenas.{AreWatchers, AreWithin, IsWatched, MovesWatch, is_left, watchers_of, watching};
 
 use crate::ClauseNo;
 use crate::clause_lits::ClauseLits;
 use crate::satisfied::drop_slots;
-use crate::watches::{clause_at, exchange, owner_of, push_links, side_of};
+use crate::watches::{
+    clause_at, exchange, lit_of, owner_of, push_links, side_by, slot_by, slot_of,
+};
 use currency_base::{Lit, NoMemory};
 use std::alloc::Global;
 use std::marker::Model;
@@ -15,11 +18,12 @@ use watch_links::WatchLinks;
 
 /// Clauses, each a list of literals, of which no literal stands twice. A clause of two literals or more watches
 /// its first two. Contracts see the clauses, for each literal the clauses that watch it, and for how many more
-/// clauses and literals there is room. Beside its literals a clause takes twenty bytes.
+/// clauses and literals there is room. Beside its literals a clause takes twenty bytes: sixteen of its head, which has
+/// the two watched literals, and for each of them a link to its next watcher; and four for where its literals end.
 #[derive(Drop)]
 pub struct Arena {
     clauses: ClauseLits,
-    // the two watches of a clause are slots; an owner of slots is a literal
+    // the two watches of a clause are slots, which stand side by side: the clause's head; an owner of slots is a literal
     links: WatchLinks,
     // the room that is still promised: what there is may be more
     clauses_left: usize,
@@ -141,14 +145,37 @@ impl Arena {
         requires { IsIn clause.0 (watchers_of self.now lit) }
         ensures { option_map (λ no. no.0) result ≡ following clause.0 (watchers_of self.now lit) }
     {
-        let side = side_of(self.clauses.get(clause.0 as usize), lit);
-        clause_at(self.links.next(2 * clause.0 + side))
+        let side = side_by(&self.links, clause, lit);
+        clause_at(self.links.next(slot_of(clause, side)))
+    }
+
+    /// At which of its first two places a clause has a literal that it watches: 0 or 1. Reads the clause's head alone.
+    pub fn side(&self, lit: Lit, clause: ClauseNo) -> usize
+        requires { IsIn clause.0 (watchers_of self.now lit) }
+        ensures low { result < 2 }
+        ensures here { (lits : List Lit) → slice_get self.now.clauses clause.0 ≡ Some lits → slice_get lits result ≡ Some lit }
+    {
+        side_by(&self.links, clause, lit)
+    }
+
+    /// The first literal of a clause that is watched (side 0), or the second (side 1). Reads the clause's head alone, which has
+    /// copies of the two.
+    pub fn watched(&self, clause: ClauseNo, side: usize) -> Lit
+        requires watched { IsWatched self.now clause.0 }
+        requires low { side < 2 }
+        ensures { (lits : List Lit) → slice_get self.now.clauses clause.0 ≡ Some lits → slice_get lits side ≡ Some result }
+    {
+        lit_of(self.links.owner(slot_of(clause, side)))
     }
 
     /// Moves a watch of a clause from its first or second literal to another, with which this one changes
-    /// places. Takes constant time.
-    pub fn move_watch(&mut self, clause: ClauseNo, from: usize, to: usize)
+    /// places. Who walks over the literal's watchers knows the one before the clause, if there is one: behind it the clause is
+    /// cut out. Takes constant time.
+    pub fn move_watch(&mut self, before: Option<ClauseNo>, clause: ClauseNo, from: usize, to: usize)
         requires watched { IsWatched self.old clause.0 }
+        requires before { (lits : List Lit) → (left : Lit) → slice_get self.old.clauses clause.0 ≡ Some lits
+            → slice_get lits from ≡ Some left
+            → coming_after (option_map (λ no. no.0) before) (watchers_of self.old left) ≡ Some clause.0 }
         requires from { from < 2 }
         requires to { 2 ≤ to }
         requires within { IfSome (slice_get self.old.clauses clause.0) (λ lits. to < length lits) }
@@ -157,10 +184,12 @@ impl Arena {
         ensures lits_left { self.new.lits_left ≡ self.old.lits_left }
     {
         let lits = self.clauses.get(clause.0 as usize);
-        let left = owner_of(lits[from]);
+        let lit = lits[from];
+        let left = owner_of(lit);
         let taken = owner_of(lits[to]);
-        let slot = 2 * clause.0 + from as u32;
-        self.links.detach(slot, left);
+        let slot = slot_of(clause, from);
+        let behind = slot_by(&self.links, before, lit);
+        self.links.cut(behind, slot, left);
         exchange(&mut self.clauses, clause.0 as usize, from, to);
         self.links.attach(slot, taken);
     }

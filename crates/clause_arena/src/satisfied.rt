@@ -1,6 +1,6 @@
-ghost use Rattle.std.specs.Prelude.{◌≡◌, ◌<◌, ◌≤◌, ◌*◌, All, List, length, map, slice_set, slice_index_or, false, cond};
+ghost use Rattle.std.specs.Prelude.{◌≡◌, ◌<◌, ◌≤◌, ◌*◌, All, List, Some, length, map, slice_set, slice_index_or, false, cond};
 ghost use Rattle.std.specs.List.{filter};
-ghost use Rattle.watch_links.specs.Links.{IsIn, list_of, lists_without};
+ghost use Rattle.watch_links.specs.Links.{coming_after, list_of, lists_without};
 ghost use Rattle.clause_arena.specs.Arenas.{is_satisfied, place_of};
 ghost use Rattle.clause_arena.specs.Slots.{stays};
 
@@ -29,20 +29,30 @@ fn is_satisfied(lits: &[Lit], truths: &[bool]) -> bool
     false
 }
 
-// Takes a slot off its owner's list, where its clause has a true literal.
-fn drop_slot(links: &mut WatchLinks, clauses: &ClauseLits, truths: &[bool], owner: u32, slot: u32)
-    requires stands { IsIn slot (list_of links.old.lists owner) }
+// Cuts a slot out of its owner's list, behind the one before it, where its clause has a true literal. Tells whether it stays.
+fn drop_slot(
+    links: &mut WatchLinks,
+    clauses: &ClauseLits,
+    truths: &[bool],
+    owner: u32,
+    before: Option<u32>,
+    slot: u32,
+) -> bool
+    requires comes { coming_after before (list_of links.old.lists owner) ≡ Some slot }
     requires slots { links.old.slots ≡ 2 * length clauses.now.lists }
     requires within { All (All (λ lit. place_of lit < length truths.now)) clauses.now.lists }
     ensures lists { links.new.lists ≡ cond (stays truths.now clauses.now.lists slot)
         links.old.lists (lists_without links.old.lists owner slot) }
     ensures slots { links.new.slots ≡ links.old.slots }
     ensures room { links.new.room ≡ links.old.room }
+    ensures stays { result ≡ stays truths.now clauses.now.lists slot }
 {
     links.are_whole();
     if is_satisfied(clauses.get(slot as usize / 2), truths) {
-        links.detach(slot, owner);
+        links.cut(before, slot, owner);
+        return false;
     }
+    true
 }
 
 // Takes the slots whose clauses have a true literal off one owner's list.
@@ -55,11 +65,14 @@ fn drop_from(links: &mut WatchLinks, clauses: &ClauseLits, truths: &[bool], owne
     ensures slots { links.new.slots ≡ links.old.slots }
     ensures room { links.new.room ≡ links.old.room }
 {
+    let mut before = None;
     let mut at = links.first(owner);
     while let Some(slot) = at {
         links.are_whole();
         at = links.next(slot);
-        drop_slot(links, clauses, truths, owner, slot);
+        if drop_slot(links, clauses, truths, owner, before, slot) {
+            before = Some(slot);
+        }
     }
 }
 

@@ -1,7 +1,8 @@
-ghost use Rattle.std.specs.Prelude.{◌≡◌, ◌⊎◌, ◌+◌, ◌<◌, ◌≤◌, ◌*◌, All, Some, List, length, slice_get, slice_set, option_map, IfSome, OnOk, OnErr, IsOk};
+ghost use Rattle.std.specs.Prelude.{◌≡◌, ◌+◌, ◌<◌, ◌≤◌, ◌*◌, All, Some, List, length, slice_get, slice_set, option_map, IfSome, OnOk, OnErr, IsOk};
 ghost use Rattle.currency_base.specs.declared.lit.Lit.{Lit};
+ghost use Rattle.watch_links.specs.Links.{IsIn, list_of};
 ghost use Rattle.clause_arena.specs.Arenas.{place_of};
-ghost use Rattle.clause_arena.specs.Slots.{clause_of, linking};
+ghost use Rattle.clause_arena.specs.Slots.{IsWatching, clause_of, linking};
 
 use crate::ClauseNo;
 use crate::clause_lits::ClauseLits;
@@ -59,11 +60,44 @@ pub(crate) fn exchange(clauses: &mut ClauseLits, clause: usize, from: usize, to:
     clauses.set(clause, to, left);
 }
 
-/// Which of its first two literals a clause watches with this one: 0 for the first, 1 for the second.
-pub(crate) fn side_of(lits: &[Lit], lit: Lit) -> u32
-    requires { 0 < length lits.now }
-    ensures few { result < 2 }
-    ensures side { (slice_get lits.now 0 ≡ Some lit) ⊎ (slice_get lits.now 1 ≡ Some lit) → slice_get lits.now result ≡ Some lit }
+/// The slot by which a clause watches its first literal (side 0) or its second (side 1).
+pub(crate) fn slot_of(clause: ClauseNo, side: usize) -> u32
+    requires { 2 * clause.0 + side ≤ 4294967295 }
+    ensures { result ≡ 2 * clause.0 + side }
 {
-    if lits[0] == lit { 0 } else { 1 }
+    2 * clause.0 + side as u32
+}
+
+/// The literal of an owner of slots.
+pub(crate) fn lit_of(owner: u32) -> Lit
+    ensures { place_of result ≡ owner }
+{
+    Lit::new(owner / 2, owner % 2 == 1)
+}
+
+/// By which side a clause watches a literal. Reads the clause's head alone.
+pub(crate) fn side_by(links: &WatchLinks, clause: ClauseNo, lit: Lit) -> usize
+    requires { IsWatching links.now.lists (place_of lit) clause.0 }
+    ensures low { result < 2 }
+    ensures here { IsIn (2 * clause.0 + result) (list_of links.now.lists (place_of lit)) }
+{
+    links.are_whole();
+    if links.owner(slot_of(clause, 0)) == owner_of(lit) {
+        0
+    } else {
+        1
+    }
+}
+
+/// The slot by which a clause watches a literal, where there is a clause.
+pub(crate) fn slot_by(links: &WatchLinks, clause: Option<ClauseNo>, lit: Lit) -> Option<u32>
+    requires { IfSome clause (λ no. IsWatching links.now.lists (place_of lit) no.0) }
+    ensures clause { option_map clause_of result ≡ option_map (λ no. no.0) clause }
+    ensures stands { IfSome result (λ slot. IsIn slot (list_of links.now.lists (place_of lit))) }
+{
+    let Some(clause) = clause else {
+        return None;
+    };
+    links.are_whole();
+    Some(slot_of(clause, side_by(links, clause, lit)))
 }

@@ -3,7 +3,7 @@ pub mod ListsChanged
 pub mod ChainFacts
 pub mod LinkViews
 pub mod WalkFacts
-pub mod OffList
+pub mod CutList
 pub mod Seen
 pub mod OnList
 pub mod MoreSlots

@@ -3,7 +3,8 @@ use Rattle.std.proofs.Common.{◌≡◌, ◌≢◌, ◌==◌, ◌⊎◌, ◌<◌
 use Rattle.std.proofs.lemmas.Bool.Decides.{eqb_tells}
 use Rattle.std.proofs.lemmas.List.{get_or_past}
 use Rattle.std.proofs.lemmas.Bool.{cases_lt, eq-eqb, ne_eqb}
-use Rattle.watch_links.specs.Links.{list_of, IsIn, HasNoneTwice, head_of, following, without, rest_from}
+use Rattle.std.proofs.lemmas.Option.{none-some, same_Some}
+use Rattle.watch_links.specs.Links.{list_of, IsIn, HasNoneTwice, head_of, following, coming_after, without, rest_from}
 
 -- what a test whether two numbers are equal tells
 abbrev pub Tells : ℕ → ℕ → Type 0
@@ -144,3 +145,62 @@ following_stays slot (x ∷ xs) = go (eqb_tells slot x) (following_stays slot xs
         → IfSome (cond (slot == x) (head_of xs) (following slot xs)) (λ y. IsIn y (cond (slot == x) xs (x ∷ without slot xs)))
     go (inl h) more = rw h.0 (head_in xs)
     go (inr h) more = rw h.0 (later_in x (without slot xs) (following slot xs) more)
+
+-- the slot that comes after one stands in the list
+pub coming_in : (before : Option ℕ) (slot : ℕ) (xs : List ℕ) → coming_after before xs ≡ Some slot → IsIn slot xs
+coming_in None slot xs is = subst (λ (o : Option ℕ). IfSome o (λ y. IsIn y xs)) is (head_in xs)
+coming_in (Some before) slot xs is = subst (λ (o : Option ℕ). IfSome o (λ y. IsIn y xs)) is (following_in before xs)
+
+-- a list that has a slot after one has that one
+pub before_in : (before slot : ℕ) (xs : List ℕ) → following before xs ≡ Some slot → IsIn before xs
+unfolding following
+before_in before slot [] is = absurd (none-some slot is)
+before_in before slot (x ∷ xs) is = go (eqb_tells before x) (before_in before slot xs) is
+  where
+    go : Tells before x → (following before xs ≡ Some slot → IsIn before xs) → cond (before == x) (head_of xs)
+        (following before xs) ≡ Some slot → IsIn before (x ∷ xs)
+    go (inl h) more is = inl h.1
+    go (inr h) more is = inr (more (rw h.0 at is))
+
+-- a list that begins with a slot is that slot and the others
+pub head_splits : (slot : ℕ) (xs : List ℕ) → head_of xs ≡ Some slot → (rest : List ℕ) × (xs ≡ slot ∷ rest)
+head_splits slot [] is = absurd (none-some slot is)
+head_splits slot (x ∷ xs) is = (xs, ap (λ (z : ℕ). z ∷ xs) (same_Some x slot is))
+
+at_head : (slot : ℕ) (rest : List ℕ) → head_of (without slot (slot ∷ rest)) ≡ following slot (slot ∷ rest)
+unfolding following without
+at_head slot rest = rw (eq-eqb slot slot refl) refl
+
+behind : (before slot : ℕ) (xs : List ℕ) → HasNoneTwice xs → following before xs ≡ Some slot
+    → following before (without slot xs) ≡ following slot xs
+unfolding following without
+behind before slot [] once is = refl
+behind before slot (x ∷ xs) once is = go (eqb_tells before x) (behind before slot xs once.1) is
+  where
+    go : Tells before x → (following before xs ≡ Some slot → following before (without slot xs) ≡ following slot xs)
+        → cond (before == x) (head_of xs) (following before xs) ≡ Some slot
+        → following before (cond (slot == x) xs (x ∷ without slot xs)) ≡ cond (slot == x) (head_of xs) (following slot xs)
+    go (inl h) more is = first (head_splits slot xs (rw h.0 at is))
+      where
+        first : (rest : List ℕ) × (xs ≡ slot ∷ rest)
+            → following before (cond (slot == x) xs (x ∷ without slot xs)) ≡ cond (slot == x) (head_of xs) (following slot xs)
+        first split =
+            let other : slot ≡ x → ⊥ = λ e. once.0 (rw split.1 (inl (sym e))) in
+            rw (ne_eqb slot x other, split.1, eq-eqb slot slot refl, h.0) refl
+    go (inr h) more is =
+        let there : following before xs ≡ Some slot = rw h.0 at is in
+        let stands = coming_in (Some before) slot xs there in
+        let other : slot ≡ x → ⊥ = λ e. once.0 (subst (λ (z : ℕ). IsIn z xs) e stands) in
+        rw (ne_eqb slot x other, h.0) (more there)
+
+-- what follows a slot comes after what was before it, once the slot is taken off
+pub cut_follows : (before : Option ℕ) (slot : ℕ) (xs : List ℕ) → HasNoneTwice xs → coming_after before xs ≡ Some slot
+    → coming_after before (without slot xs) ≡ following slot xs
+cut_follows None slot xs once is = let split = head_splits slot xs is in rw split.1 (at_head slot split.0)
+cut_follows (Some before) slot xs once is = behind before slot xs once is
+
+-- what holds of the slots of a list holds of the one before
+pub before_below : (before : Option ℕ) (slot : ℕ) (xs : List ℕ) (count : ℕ) → ((y : ℕ) → IsIn y xs → y < count)
+    → coming_after before xs ≡ Some slot → IfSome before (λ b. b < count)
+before_below None slot xs count below comes = tt
+before_below (Some before) slot xs count below comes = below before (before_in before slot xs comes)

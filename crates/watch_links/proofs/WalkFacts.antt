@@ -26,41 +26,39 @@ in_from_any q (x ∷ xs) e = go (λ h. in_from_any q xs h) (or_cases (eqb q x) (
     go more (inr h) = inr (more h)
 
 -- a chain has no more slots than there are
-pub chain_short : (n p : ℕ → ℕ) (count before link : ℕ) (xs : List ℕ) → count ≤ no_slot → IsChain n p count before
-    link xs → length xs ≤ count
-chain_short n p count before link xs few c =
-    length-le_from_distinct_below xs count (distinct xs (chain_once n p count before link xs few c))
-    (λ q any. chain_below n p count before link q xs c (in_from_any q xs any))
+pub chain_short : (n : ℕ → ℕ) (count link : ℕ) (xs : List ℕ) → count ≤ no_slot → IsChain n count link xs → length xs ≤ count
+chain_short n count link xs few c =
+    length-le_from_distinct_below xs count (distinct xs (chain_once n count link xs few c))
+    (λ q any. chain_below n count link q xs c (in_from_any q xs any))
 
 -- a walk along a chain gives its slots
-pub walk_is : (next : List ℕ) (p : ℕ → ℕ) (count before link fuel : ℕ) (xs : List ℕ) → count ≤ no_slot
-    → IsChain (slice_index next) p count before link xs → length xs ≤ fuel → walk next fuel link ≡ xs
+pub walk_is : (next : List ℕ) (count link fuel : ℕ) (xs : List ℕ) → count ≤ no_slot
+    → IsChain (slice_index next) count link xs → length xs ≤ fuel → walk next fuel link ≡ xs
 unfolding walk
-walk_is next p count before link zero [] few c enough = refl
-walk_is next p count before link (suc fuel) [] few c enough = rw (eq-eqb link no_slot c) refl
-walk_is next p count before link zero (x ∷ xs) few c enough = absurd (omega (arith, enough))
-walk_is next p count before link (suc fuel) (x ∷ xs) few c enough =
-    let differs : link ≡ no_slot → ⊥ = λ e. absurd (omega (arith, c.0, c.1, e)) in
-    let same : slice_index next link ≡ slice_index next x = ap (slice_index next) c.0 in
-    let more : walk next fuel (slice_index next x) ≡ xs = walk_is next p count x (slice_index next x) fuel xs few c.3
+walk_is next count link zero [] few c enough = refl
+walk_is next count link (suc fuel) [] few c enough = rw (eq-eqb link no_slot c) refl
+walk_is next count link zero (x ∷ xs) few c enough = absurd (omega (arith, enough))
+walk_is next count link (suc fuel) (x ∷ xs) few c enough =
+    let differs : link ≡ no_slot → ⊥ = λ e. absurd (omega (arith, few, c.0, c.1, e)) in
+    let more : walk next fuel (slice_index next x) ≡ xs = walk_is next count (slice_index next x) fuel xs few c.2
     (omega (arith, enough)) in
     rw (ne_eqb link no_slot differs) (ap (λ (z : ℕ). z ∷ walk next fuel (slice_index next z)) c.0
     ∙ ap (λ (zs : List ℕ). x ∷ zs) more)
 
 -- the lists that the links hold are those that walks along them give
-pub walks_are : (firsts next prev : List ℕ) (lists : List (List ℕ)) → AreLinked firsts next prev lists → walks next firsts ≡ lists
-walks_are firsts next prev lists linked =
+pub walks_are : (firsts next owned : List ℕ) (lists : List (List ℕ)) → AreLinked firsts next owned lists
+    → walks next firsts ≡ lists
+walks_are firsts next owned lists linked =
     ext_get_or [] (walks next firsts) lists (length-map firsts (walk next (length next)) ∙ sym linked.per_owner)
     (λ owner within.
     let inside : owner < length firsts = omega (arith, within, length-map firsts (walk next (length next))) in
     let chain = linked.chains owner inside in
-    let short = chain_short (slice_index next) (slice_index prev) (length next) no_slot (slice_index firsts owner)
-    (list_of lists owner) linked.few chain in
+    let short = chain_short (slice_index next) (length next) (slice_index firsts owner) (list_of lists owner) linked.few chain in
     get_or-map (walk next (length next)) firsts owner 0 [] inside
-    ∙ walk_is next (slice_index prev) (length next) no_slot (slice_index firsts owner) (length next)
-    (list_of lists owner) linked.few chain short)
+    ∙ walk_is next (length next) (slice_index firsts owner) (length next) (list_of lists owner) linked.few chain short)
 
 -- so the invariant holds wherever the links hold some lists
-pub closed : (firsts next prev : List ℕ) (lists : List (List ℕ)) → AreLinked firsts next prev lists
-    → AreLinked firsts next prev (walks next firsts)
-closed firsts next prev lists linked = subst (AreLinked firsts next prev) (sym (walks_are firsts next prev lists linked)) linked
+pub closed : (firsts next owned : List ℕ) (lists : List (List ℕ)) → AreLinked firsts next owned lists
+    → AreLinked firsts next owned (walks next firsts)
+closed firsts next owned lists linked =
+    subst (AreLinked firsts next owned) (sym (walks_are firsts next owned lists linked)) linked

@@ -38,6 +38,11 @@ unfoldable pub following : ℕ → List ℕ → Option ℕ
 following slot [] = None
 following slot (x ∷ xs) = cond (slot == x) (head_of xs) (following slot xs)
 
+-- the slot that comes after one in a list; the first, where none comes before
+abbrev pub coming_after : Option ℕ → List ℕ → Option ℕ
+coming_after None xs = head_of xs
+coming_after (Some before) xs = following before xs
+
 -- the list without a slot
 unfoldable pub without : ℕ → List ℕ → List ℕ
 without slot [] = []

@@ -1,5 +1,5 @@
-//! Watch lists whose slots are linked both ways, so that a slot joins and leaves a list in constant
-//! time. Contracts see the lists themselves.
+//! Watch lists whose slots are linked one way: a slot joins a list in constant time, and is cut out behind a
+//! known one. Contracts see the lists themselves.
 #![tactic(auto)]
 
 mod links;

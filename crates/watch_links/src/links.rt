@@ -1,10 +1,7 @@
-ghost use Rattle.std.specs.Prelude.{◌≡◌, ◌+◌, ◌-◌, ◌*◌, ◌<◌, ◌≤◌, ℕ, ◌∷◌, [], length, replicate, slice_set, slice_index, IsOk, IfOk, OnOk, OnErr};
-ghost use Rattle.watch_links.specs.Links.{list_of, lists_with, lists_without, IsIn, IsFree, head_of, following, without, AreWhole};
+ghost use Rattle.std.specs.Prelude.{◌≡◌, ◌+◌, ◌-◌, ◌*◌, ◌<◌, ◌≤◌, ℕ, ◌∷◌, [], Some, length, replicate, slice_set, slice_index, IsOk, IfOk, OnOk, OnErr};
+ghost use Rattle.watch_links.specs.Links.{list_of, lists_with, lists_without, IsIn, IsFree, head_of, following, coming_after, without, AreWhole};
 
-use crate::writes::{
-    Link, NO_SLOT, no_links, push_no_links, slot_at, write_first, write_link, write_next,
-    write_prev,
-};
+use crate::writes::{Link, NO_SLOT, lead, no_links, push_no_links, slot_at, write_link};
 use currency_base::NoMemory;
 use std::alloc::Global;
 use std::marker::Model;
@@ -15,7 +12,7 @@ use std::marker::Model;
 /// there is room.
 #[derive(Drop)]
 pub struct WatchLinks {
-    // of each slot, the slots after it and before it in its list
+    // of each slot, the slot after it in its list, and the list's owner
     links: Vec<Link>,
     // of each owner, the first slot of its list
     first: Vec<u32>,
@@ -27,7 +24,7 @@ impl Model for WatchLinks {
     ghost Value = { Links };
 
     ghost use Rattle.std.specs.Prelude.{length, vec_capacity};
-    ghost use Rattle.watch_links.specs.Chains.{AreLinked, nexts, prevs, walks, room_of};
+    ghost use Rattle.watch_links.specs.Chains.{AreLinked, nexts, copies, walks, room_of};
 
     ghost view = { λ w. record {
       slots = length w.links.items;
@@ -35,7 +32,7 @@ impl Model for WatchLinks {
       room = room_of (vec_capacity w.links) (length w.links.items);
     } };
 
-    ghost invariant = { λ w. AreLinked w.first.items (nexts w.links.items) (prevs w.links.items)
+    ghost invariant = { λ w. AreLinked w.first.items (nexts w.links.items) (copies w.links.items)
         (walks (nexts w.links.items) w.first.items) };
 }
 
@@ -72,18 +69,26 @@ impl WatchLinks {
         slot_at(self.links[slot as usize].next)
     }
 
-    /// Takes a slot off its owner's list.
-    pub fn detach(&mut self, slot: u32, owner: u32)
-        requires { IsIn slot (list_of self.old.lists owner) }
+    /// The owner in whose list a slot stands, of which the slot has a copy. Of a slot that stands in no list the answer
+    /// tells nothing.
+    pub fn owner(&self, slot: u32) -> u32
+        requires { slot < self.now.slots }
+        ensures { (owner : ℕ) → IsIn slot (list_of self.now.lists owner) → result ≡ owner }
+    {
+        self.links[slot as usize].owner
+    }
+
+    /// Cuts a slot out of its owner's list, behind the slot that comes before it, if one does. Who walks over a list
+    /// knows that one.
+    pub fn cut(&mut self, before: Option<u32>, slot: u32, owner: u32)
+        requires { coming_after before (list_of self.old.lists owner) ≡ Some slot }
         ensures lists { self.new.lists ≡ lists_without self.old.lists owner slot }
         ensures free { IsFree self.new.lists slot }
         ensures slots { self.new.slots ≡ self.old.slots }
         ensures room { self.new.room ≡ self.old.room }
     {
-        let link = self.links[slot as usize];
-        write_next(&mut self.links, link.prev, link.next);
-        write_prev(&mut self.links, link.next, link.prev);
-        write_first(&mut self.first, owner, link.prev, link.next);
+        let after = self.links[slot as usize].next;
+        lead(&mut self.links, &mut self.first, owner, before, after);
     }
 
     /// Puts a slot that stands in no list in front of an owner's list.
@@ -96,9 +101,8 @@ impl WatchLinks {
         ensures room { self.new.room ≡ self.old.room }
     {
         let first = self.first[owner as usize];
-        write_link(&mut self.links, slot, first, NO_SLOT);
-        write_prev(&mut self.links, first, slot);
-        write_first(&mut self.first, owner, NO_SLOT, slot);
+        write_link(&mut self.links, slot, first, owner);
+        lead(&mut self.links, &mut self.first, owner, None, slot);
     }
 
     /// Makes room for so many more clauses, of two slots each. It is refused where memory runs out,

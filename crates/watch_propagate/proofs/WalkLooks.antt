@@ -21,24 +21,6 @@ module _ (a : Arena) (clause : ℕ) (lit : Lit) (are : AreWatchers a) (stands : 
   pub looked_within : clause < length a.clauses
   looked_within = let w = are.watched lit clause stands in slice_get_within a.clauses clause w.lits w.is_clause
 
-  pub looked_long : (lits : List Lit) → slice_get a.clauses clause ≡ Some lits → 2 ≤ length lits
-  looked_long lits is =
-      let w = are.watched lit clause stands in
-      omega (arith, slice_get_within w.lits 1 w.second w.is_second, ap length (watch_lits a clause w lits is))
-
-  pub looked_side : (lits : List Lit) → slice_get a.clauses clause ≡ Some lits → (slice_get lits 0 ≡ Some lit) ⊎
-      (slice_get lits 1 ≡ Some lit)
-  looked_side lits is = go (are.among lit clause w stands)
-    where
-      w : IsWatched a clause
-      w = are.watched lit clause stands
-
-      go : (lit ≡ w.first) ⊎ (lit ≡ w.second) → (slice_get lits 0 ≡ Some lit) ⊎ (slice_get lits 1 ≡ Some lit)
-      go (inl e) = inl (ap (λ (ls : List Lit). slice_get ls 0) (sym (watch_lits a clause w lits is)) ∙ w.is_first
-          ∙ ap Some (sym e))
-      go (inr e) = inr (ap (λ (ls : List Lit). slice_get ls 1) (sym (watch_lits a clause w lits is)) ∙ w.is_second
-          ∙ ap Some (sym e))
-
 -- the literals of clauses are of the trail's variables
 pub clause_vars : (a : Arena) (vars clause : ℕ) (lits : List Lit) → AreWatchers a → length a.watchers ≡ 2 * vars
     → slice_get a.clauses clause ≡ Some lits

@@ -1,5 +1,5 @@
 -- What a walk over the clauses that watch a literal does, clause by clause.
-use Rattle.std.specs.Prelude.{◌≡◌, ◌≢◌, ◌⊎◌, ℕ, Contains, Some, slice_get}
+use Rattle.std.specs.Prelude.{◌≡◌, ◌≢◌, ℕ, Contains, Some, slice_get}
 use Rattle.currency_base.specs.Literals.{negation}
 use Rattle.currency_base.specs.declared.lit.Lit.{Lit}
 use Rattle.watch_links.specs.Links.{without}
@@ -23,11 +23,13 @@ pub record IsSeenTo (a : Arena) (t : Trail) (lit : Lit) (clause : ℕ) : Type 0 
 abbrev pub KeepsOthers : (old new : Arena) (was is : Trail) (lit : Lit) (clause : ℕ) → Type 0
 KeepsOthers old new was is lit clause = (other : ℕ) → other ≢ clause → IsSeenTo old was lit other → IsSeenTo new is lit other
 
--- a clause that watches a literal was seen to, or watches it no more
+-- a clause that watches a literal was seen to, and watches it still
 abbrev pub SeesTo : (old new : Arena) (is : Trail) (lit : Lit) (clause : ℕ) → Type 0
-SeesTo old new is lit clause =
-    ((watchers_of new lit ≡ watchers_of old lit) × IsSeenTo new is lit clause) ⊎
-    (watchers_of new lit ≡ without clause (watchers_of old lit))
+SeesTo old new is lit clause = (watchers_of new lit ≡ watchers_of old lit) × IsSeenTo new is lit clause
+
+-- or it watches the literal no more
+abbrev pub GoesOff : (old new : Arena) (lit : Lit) (clause : ℕ) → Type 0
+GoesOff old new lit clause = watchers_of new lit ≡ without clause (watchers_of old lit)
 
 -- the literal has become false, of which the first literal that was not gone through tells
 abbrev pub IsPending : Trail → Lit → Type 0

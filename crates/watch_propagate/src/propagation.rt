@@ -1,11 +1,12 @@
-ghost use Rattle.std.specs.Prelude.{◌≡◌, ◌⊎◌, ◌<◌, ◌≤◌, ◌*◌, ◌-◌, ℕ, Contains, Some, None, true, false, length, slice_get, IfSome, IfNone};
+ghost use Rattle.std.specs.Prelude.{◌≡◌, ◌<◌, ◌≤◌, ◌*◌, ℕ, Contains, Some, None, length, option_map, slice_get, IfSome, IfNone};
 ghost use Rattle.currency_base.specs.Literals.{negation, var_of};
-ghost use Rattle.watch_links.specs.Links.{IsIn};
+ghost use Rattle.watch_links.specs.Links.{IsIn, coming_after};
 ghost use Rattle.currency_base.specs.declared.lit.Lit.{Lit};
 ghost use Rattle.clause_arena.specs.Arenas.{watchers_of};
 ghost use Rattle.search_trail.specs.Trails.{lits_of};
-ghost use Rattle.watch_propagate.specs.Walks.{GoesOn, IsPending, IsSeenTo, KeepsOthers, SeesTo};
+ghost use Rattle.watch_propagate.specs.Walks.{GoesOff, GoesOn, IsPending, IsSeenTo, KeepsOthers, SeesTo};
 ghost use Rattle.watch_propagate.specs.WatchRule.{AreAtRest, IsConflict, IsRewatched, Implies, KeepsWatch};
+ghost use Rattle.watch_propagate.specs.declared.propagation.Look.TheVariants.{Fails, Leaves, Stays};
 
 use crate::truths::{is_false, truth};
 use clause_arena::{Arena, ClauseNo};
@@ -49,66 +50,68 @@ fn go_through(arena: &mut Arena, trail: &mut Trail, lit: Lit) -> Option<ClauseNo
     ensures all { IfNone result ((clause : ℕ) → IsIn clause (watchers_of arena.new lit) → IsSeenTo arena.new
         trail.new lit clause) }
 {
+    let mut before = None;
     let mut at = arena.first_watcher(lit);
     while let Some(clause) = at {
         arena.are_watchers();
         at = arena.next_watcher(lit, clause);
-        if !look_at(arena, trail, clause, lit) {
-            return Some(clause);
+        match look_at(arena, trail, before, clause, lit) {
+            Look::Stays => before = Some(clause),
+            Look::Leaves => {}
+            Look::Fails => return Some(clause),
         }
     }
     None
 }
 
-// Looks at one clause that watches a false literal: moves the watch to a literal that is not false, or else makes
-// the other watched literal true. Tells whether that could be: false where all literals are false.
-fn look_at(arena: &mut Arena, trail: &mut Trail, clause: ClauseNo, lit: Lit) -> bool
+// What a look at a clause that watches a false literal came to.
+#[derive(Clone, Copy)]
+enum Look {
+    // It watches the literal still, and the other literal that it watches is true.
+    Stays,
+    // It watches another literal in its place.
+    Leaves,
+    // All its literals are false.
+    Fails,
+}
+
+// Looks at one clause that watches a false literal, behind the one before it, if there is one. Where the other watched literal is
+// true, it reads the clause's head alone, and else its literals from the third on. It moves the watch to a literal that is not
+// false, or else makes the other watched literal true, if that one is open.
+fn look_at(
+    arena: &mut Arena,
+    trail: &mut Trail,
+    before: Option<ClauseNo>,
+    clause: ClauseNo,
+    lit: Lit,
+) -> Look
     requires fits { length arena.old.watchers ≡ 2 * trail.old.vars }
     requires rule { KeepsWatch arena.old trail.old }
-    requires stands { IsIn clause.0 (watchers_of arena.old lit) }
+    requires comes { coming_after (option_map (λ no. no.0) before) (watchers_of arena.old lit) ≡ Some clause.0 }
     requires is_false { Contains (lits_of trail.old) (negation lit) }
     ensures goes { GoesOn arena.old arena.new trail.old trail.new }
     ensures others { KeepsOthers arena.old arena.new trail.old trail.new lit clause.0 }
-    ensures sees_to { result ≡ true → SeesTo arena.old arena.new trail.new lit clause.0 }
-    ensures conflict { result ≡ false → IsConflict arena.new (lits_of trail.new) clause.0 }
+    ensures stays { result ≡ Stays → SeesTo arena.old arena.new trail.new lit clause.0 }
+    ensures leaves { result ≡ Leaves → GoesOff arena.old arena.new lit clause.0 }
+    ensures fails { result ≡ Fails → IsConflict arena.new (lits_of trail.new) clause.0 }
 {
     arena.are_watchers();
     trail.are_entries();
-    let lits = arena.lits(clause);
-    let from = side_of(lits, lit);
-    let other = other_than(lits, from);
+    let from = arena.side(lit, clause);
+    let other = arena.watched(clause, 1 - from);
     let known = truth(trail, other);
     if known == Some(true) {
-        return true;
+        return Look::Stays;
     }
-    if let Some(to) = not_false(trail, lits) {
-        arena.move_watch(clause, from, to);
-        return true;
+    if let Some(to) = not_false(trail, arena.lits(clause)) {
+        arena.move_watch(before, clause, from, to);
+        return Look::Leaves;
     }
     if known == Some(false) {
-        return false;
+        return Look::Fails;
     }
     trail.imply(arena, other, clause);
-    true
-}
-
-// Which of the first two literals of a clause is it?
-fn side_of(lits: &[Lit], lit: Lit) -> usize
-    requires long { 2 ≤ length lits.now }
-    requires one { (slice_get lits.now 0 ≡ Some lit) ⊎ (slice_get lits.now 1 ≡ Some lit) }
-    ensures low { result < 2 }
-    ensures here { slice_get lits.now result ≡ Some lit }
-{
-    if lits[0] == lit { 0 } else { 1 }
-}
-
-// The other one of the first two literals of a clause.
-fn other_than(lits: &[Lit], side: usize) -> Lit
-    requires long { 2 ≤ length lits.now }
-    requires low { side < 2 }
-    ensures { slice_get lits.now (1 - side) ≡ Some result }
-{
-    lits[1 - side]
+    Look::Stays
 }
 
 // The first place of a clause, from the third on, whose literal is not false.

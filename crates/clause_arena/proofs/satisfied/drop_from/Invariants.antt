@@ -6,7 +6,7 @@ use Rattle.clause_arena.proofs.satisfied.drop_from.Given as goal
 
 abbrev pub invariant-loop-at : goal.invariant-loop-at
 invariant-loop-at l = record {
-  dropping : IsDropping (stays l.truths l.clauses.lists) l.at l.owner l.links.lists l.initial.links.lists;
+  dropping : IsDropping (stays l.truths l.clauses.lists) l.before l.at l.owner l.links.lists l.initial.links.lists;
   slots : l.links.slots ≡ l.initial.links.slots;
   room : l.links.room ≡ l.initial.links.room;
 }
