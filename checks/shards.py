@@ -265,8 +265,10 @@ def compare_lines(folder, words, tally):
 
 
 def spoil(folder, chance):
-    """Moves, loses, doubles or changes a record of a shard; says how, or nothing where there was none."""
+    """Moves, loses, doubles or changes a record that the cut put into a shard; says how, or nothing where there was none."""
     tables = [path for path in sorted((folder / "cut").glob("[0-9]*/*.csv")) if len(path.read_bytes().splitlines()) > 2]
+    # (the tables of a question are written when it is asked, and are no part of the cut)
+    tables = [path for path in tables if not path.name.startswith("question-")]
     how = chance.choice(["lost", "moved", "doubled", "changed", "swapped"])
     if not tables:
         return None

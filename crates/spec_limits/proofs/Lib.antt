@@ -2,7 +2,7 @@ pub mod Chain
 mod Tally
 mod Bounds
 pub mod GivenPairs
-mod Leaving
+pub mod Leaving
 mod Capped
-mod PerEntity
-mod OfSpec
+pub mod PerEntity
+pub mod OfSpec

@@ -115,7 +115,7 @@ fn is_copy_instance(
 }
 
 /// Are these two different rows of one entity?
-fn are_of_one_entity(rows: &[Row], first: RowId, second: RowId) -> bool
+pub fn are_of_one_entity(rows: &[Row], first: RowId, second: RowId) -> bool
     ensures { result ≡ are_of_one_entity rows.now first second }
 {
     if first.0 == second.0 {

@@ -45,8 +45,8 @@ pub fn entity_lists(alloc: Global, relations: &[Relation]) -> Result<EntityLists
     Ok(lists)
 }
 
-/// What all instances leave of the bound.
-fn left_by_all(spec: &Specification, lists: &EntityLists) -> Option<u32>
+/// What all instances leave of the bound. The lists are those of `entity_lists`.
+pub fn left_by_all(spec: &Specification, lists: &EntityLists) -> Option<u32>
     requires { AreEntityLists spec.now.relations lists.now }
     ensures { result ≡ left_of 8000000 (instances spec.now) }
 {

@@ -1,0 +1,6 @@
+mod Forms
+mod Written
+mod Trials
+mod Room
+mod Edited
+mod Named

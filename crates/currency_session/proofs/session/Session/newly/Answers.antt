@@ -1,0 +1,9 @@
+use Rattle.std.proofs.Common.{subst}
+use Rattle.report_write.specs.Writable.{IsWritableReport}
+use Rattle.spec_model.specs.Spec.{Spec}
+use Rattle.currency_session.proofs.session.Session.newly.Goals as goal
+
+pub invariant_of-self : goal.invariant_of-self
+invariant_of-self g c =
+    c.put.ensures.facts c.self.inside.edited.relations c.self.invariant
+    (subst (λ (s : Spec). IsWritableReport s.relations c.in-Ok.report) c.spec.ensures.value c.in-Ok.ensures.answer.writable)

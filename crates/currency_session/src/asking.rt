@@ -1,0 +1,79 @@
+// Kept reports that are tried, and questions that are searched for.
+
+ghost use Rattle.std.specs.Prelude.{◌≡◌, Err, IfNone, IfOk, IfSome, All, true, false};
+ghost use Rattle.currency_ask.specs.Answered.{HasTooMany};
+ghost use Rattle.currency_ask.specs.declared.fault.AskFault.TheVariants as fault;
+ghost use Rattle.currency_session.specs.Sessions.{IsAnswerOf, IsFirstShown, IsKeptReport, NoneShows};
+ghost use Rattle.report_verify.specs.Shown.{ShowsVerdict};
+ghost use Rattle.search_logs.specs.SearchLogs.{IsWithin};
+ghost use Rattle.spec_model.specs.Completion.{Rankings};
+ghost use Rattle.spec_model.specs.Questions.{IsQuestionOn};
+
+use crate::looks::may_show;
+use currency_ask::{AskFault, answer};
+use currency_base::NoMemory;
+use log_form::literals_are_of_statements;
+use report_model::Report;
+use report_verify::{VerifyFault, verify};
+use solver_guides::Guides;
+use spec_model::{Question, Specification};
+use std::alloc::Global;
+
+/// The place of the first of these reports that shows its verdict, as `verify` sees; none, where none does.
+pub(crate) fn first_shown(
+    alloc: Global,
+    spec: &Specification,
+    question: &Question,
+    kept: &[Report],
+) -> Result<Option<usize>, NoMemory>
+    requires question { IsQuestionOn spec.now.relations question.now }
+    requires kept { All (IsKeptReport spec.now.relations) kept.now }
+    ensures first { IfOk result (λ found. IfSome found (IsFirstShown spec.now question.now kept.now)) }
+    ensures none { IfOk result (λ found. IfNone found (NoneShows spec.now question.now kept.now)) }
+{
+    for place in 0..kept.len() {
+        if is_shown(alloc, spec, question, &kept[place])? {
+            return Ok(Some(place));
+        }
+    }
+    Ok(None)
+}
+
+/// Does a report show its verdict?
+fn is_shown(
+    alloc: Global,
+    spec: &Specification,
+    question: &Question,
+    report: &Report,
+) -> Result<bool, NoMemory>
+    requires question { IsQuestionOn spec.now.relations question.now }
+    requires kept { IsKeptReport spec.now.relations report.now }
+    ensures shown { IfOk result (λ shown. shown ≡ true → ShowsVerdict spec.now question.now report.now) }
+    ensures other { IfOk result (λ shown. shown ≡ false → ShowsVerdict spec.now question.now report.now → ⊥) }
+{
+    if !may_show(question, report) {
+        return Ok(false);
+    }
+    literals_are_of_statements();
+    match verify(alloc, spec, question, report) {
+        Ok(()) => Ok(true),
+        Err(VerifyFault::Refused { .. }) => Ok(false),
+        Err(VerifyFault::NoMemory) => Err(NoMemory),
+    }
+}
+
+/// The report that a search within a budget gives.
+pub(crate) fn searched(
+    alloc: Global,
+    spec: &Specification,
+    question: &Question,
+    budget: u64,
+    guides: &mut Guides,
+) -> Result<Report, AskFault>
+    requires within { IsWithin spec.now }
+    requires question { IsQuestionOn spec.now.relations question.now }
+    ensures answer { IfOk result (IsAnswerOf spec.now question.now budget) }
+    ensures too_many { (c : Rankings) → result ≡ Err (fault.TooMany c) → HasTooMany spec.now question.now c }
+{
+    answer(alloc, spec, question, budget, guides)
+}

@@ -1,0 +1,6 @@
+mod FirstPlaces
+mod Chosen
+mod AllJoined
+mod AllKept
+mod Consistency
+mod Certainty

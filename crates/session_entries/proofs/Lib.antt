@@ -1,0 +1,5 @@
+mod PairsNamed
+mod RowsNamed
+mod Ends
+mod NamesKept
+mod Unread

@@ -1,0 +1,4 @@
+pub mod Edits
+pub mod Counted
+pub mod Partners
+pub mod Kept
