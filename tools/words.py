@@ -32,6 +32,12 @@ an empty field where two are possible, and the names of these attributes""",
         """lists what some consistent completion has of what is asked (pairs, current values, matches of a query), each
 with such a completion, and what none has, with a report that shows it (--brief leaves these reports out)""",
     ),
+    "session": (
+        "SPEC SCRIPT",
+        ("--budget", "--brief", "--guide"),
+        """adds to a specification and withdraws from it what a script says, and answers the questions that stand in between,
+each about the specification as it is then""",
+    ),
     "trial": ("N", (), "answers four questions about a generated specification of N entities, 1 to 1000"),
 }
 # what the script does by itself

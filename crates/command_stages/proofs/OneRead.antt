@@ -49,7 +49,7 @@ then_one {A} {B} first next one more a b h k =
     then_at next more h.0 a b h.2 (subst (λ (r : Result A Trouble). MatchResult r (λ x. next x b) (λ e. b ≡ Err e))
     (sym same) k.2)
 
-within_one : {A : Type 0} (bound : ℕ) (bytes : List ℕ) (next : Result A Trouble → Type 0) → IsOne next
+pub within_one : {A : Type 0} (bound : ℕ) (bytes : List ℕ) (next : Result A Trouble → Type 0) → IsOne next
     → IsOne (Within bound bytes next)
 within_one bound bytes next one a b (inl h) (inl k) = h.1 ∙ sym k.1
 within_one bound bytes next one a b (inl h) (inr k) = absurd (omega (arith, h.0, k.0))

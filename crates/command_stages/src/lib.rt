@@ -17,5 +17,5 @@ pub use read::read_bytes;
 pub use stages::{read_question_with_tree, read_specification, read_the_question, read_with_tree};
 pub use texts::{bytes_of, text_of};
 pub use trouble::{Check, Trouble};
-pub use troubles::refused;
+pub use troubles::{of_binding, of_text, refused};
 pub use with_tree::{ReadQuestion, ReadSpec};

@@ -3,7 +3,7 @@ use Rattle.std.proofs.Common.{◌≡◌, ◌≤◌, ℕ, List, Option, Some}
 use Rattle.std.specs.Prelude.{IfSome}
 use Rattle.program_words.specs.Words.{AskFor, AskSaid, CertainTableFor, CommandSaid, ConflictsIn, ConflictsSaid, ExplainFor}
 use Rattle.program_words.specs.Words.{ExplainSaid, ForcedOf, GoldenIn, GoldenSaid, PossibleFor, PossibleSaid, PossibleTableFor}
-use Rattle.program_words.specs.Words.{TableSaid, TrialOf, VerifyOf, command_of}
+use Rattle.program_words.specs.Words.{SessionOver, SessionSaid, TableSaid, TrialOf, VerifyOf, command_of}
 use Rattle.currency_cli.specs.Words.{IsInRange}
 
 module _ (budgets : (words : List (List ℕ)) (a : AskSaid) → command_of words ≡ Some (AskFor a) → (1 ≤ a.budget) ×
@@ -22,7 +22,9 @@ module _ (budgets : (words : List (List ℕ)) (a : AskSaid) → command_of words
     (certain_tables : (words : List (List ℕ)) (t : TableSaid) → command_of words ≡ Some (CertainTableFor t) →
     (1 ≤ t.budget) × (t.budget ≤ 10000000) × IfSome t.guide (λ k. (1 ≤ k) × (k ≤ 4)))
     (possible_tables : (words : List (List ℕ)) (t : TableSaid) → command_of words ≡ Some (PossibleTableFor t) →
-    (1 ≤ t.budget) × (t.budget ≤ 10000000) × IfSome t.guide (λ k. (1 ≤ k) × (k ≤ 4))) where
+    (1 ≤ t.budget) × (t.budget ≤ 10000000) × IfSome t.guide (λ k. (1 ≤ k) × (k ≤ 4)))
+    (sessions : (words : List (List ℕ)) (a : SessionSaid) → command_of words ≡ Some (SessionOver a) →
+    (1 ≤ a.budget) × (a.budget ≤ 10000000) × IfSome a.guide (λ k. (1 ≤ k) × (k ≤ 4))) where
   pub in_range : (words : List (List ℕ)) (c : CommandSaid) → command_of words ≡ Some c → IsInRange c
   in_range words (AskFor a) said = (budgets words a said).1
   in_range words (VerifyOf v) said = tt
@@ -34,3 +36,4 @@ module _ (budgets : (words : List (List ℕ)) (a : AskSaid) → command_of words
   in_range words (PossibleFor p) said = (possible_budgets words p said).1
   in_range words (CertainTableFor t) said = (certain_tables words t said).1
   in_range words (PossibleTableFor t) said = (possible_tables words t said).1
+  in_range words (SessionOver a) said = (sessions words a said).1

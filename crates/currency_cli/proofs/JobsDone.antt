@@ -6,6 +6,7 @@ use Rattle.command_stages.specs.Endings.{IsOfQuestion, IsOfTable, ending_status}
 use Rattle.conflicts_command.proofs.Jobs as conflicts
 use Rattle.explain_command.proofs.Jobs as explain
 use Rattle.currency_cli.proofs.GoldenPrinted as golden
+use Rattle.currency_cli.proofs.SessionsPrinted as sessions
 use Rattle.certain_table.proofs.Jobs as certain_table
 use Rattle.possible_command.proofs.Jobs as possible
 use Rattle.possible_table.proofs.Jobs as possible_table
@@ -22,7 +23,7 @@ use Rattle.currency_edge.specs.Fault.{Rose}
 use Rattle.currency_edge.specs.Sink.{AppendsPrefix}
 use Rattle.forced_command.specs.Forced.{AreForcedListed}
 use Rattle.program_words.specs.Words.{AskFor, CertainTableFor, CommandSaid, ConflictsIn, ExplainFor, ForcedOf, GoldenIn}
-use Rattle.program_words.specs.Words.{PossibleFor, PossibleTableFor, TrialOf, VerifyOf}
+use Rattle.program_words.specs.Words.{PossibleFor, PossibleTableFor, SessionOver, TrialOf, VerifyOf}
 use Rattle.trial_command.proofs.Replies as trial
 
 -- ---- the text
@@ -168,6 +169,7 @@ job_at told (GoldenIn g) d zero h = golden.tabled_printed told g d.text d.ending
 job_at told (PossibleFor p) d zero h = possible.decided_printed told p d.text d.ending zero h
 job_at told (CertainTableFor t) d zero h = certain_table.tabled_printed told t d.text d.ending zero h
 job_at told (PossibleTableFor t) d zero h = possible_table.tabled_printed told t d.text d.ending zero h
+job_at told (SessionOver a) d zero h = sessions.decided_printed told a d.text d.ending zero h
 
 job : (texts : Option (List (List ℕ × List ℕ))) (c : CommandSaid) (d : Done) → status_of (Ok d) ≡ 0 → IfSome texts
     (λ told. IsPrinted told c d)
@@ -226,6 +228,7 @@ no_at told (CertainTableFor t) d one h =
     absurd (no_table_denies d.ending (certain_table.ends_as_table told t d.text d.ending h) one)
 no_at told (PossibleTableFor t) d one h =
     absurd (no_table_denies d.ending (possible_table.of_table told t d.text d.ending h) one)
+no_at told (SessionOver a) d one h = absurd (no_denial d.ending (sessions.of_question told a d.text d.ending h) one)
 
 no_printed : (texts : Option (List (List ℕ × List ℕ))) (c : CommandSaid) (d : Done) → status_of (Ok d) ≡ 1
     → IfSome texts (λ told. IsPrinted told c d) → IfSome texts (λ told. IsNo told c (output_of (Ok d)))
@@ -261,6 +264,7 @@ spent_at told (GoldenIn g) d three h = golden.open_printed told g d.text d.endin
 spent_at told (PossibleFor p) d three h = possible.spent_printed told p d.text d.ending three h
 spent_at told (CertainTableFor t) d three h = certain_table.open_printed told t d.text d.ending three h
 spent_at told (PossibleTableFor t) d three h = possible_table.open_printed told t d.text d.ending three h
+spent_at told (SessionOver a) d three h = sessions.spent_printed told a d.text d.ending three h
 
 spent : (texts : Option (List (List ℕ × List ℕ))) (c : CommandSaid) (d : Done) → status_of (Ok d) ≡ 3 → IfSome texts
     (λ told. IsPrinted told c d)
@@ -308,6 +312,7 @@ bare_at told (GoldenIn g) d ten h = golden.bare_printed told g d.text d.ending t
 bare_at told (PossibleFor p) d ten h = absurd (no_question d.ending (possible.of_question told p d.text d.ending h) ten)
 bare_at told (CertainTableFor t) d ten h = certain_table.bare_printed told t d.text d.ending ten h
 bare_at told (PossibleTableFor t) d ten h = possible_table.bare_printed told t d.text d.ending ten h
+bare_at told (SessionOver a) d ten h = absurd (no_question d.ending (sessions.of_question told a d.text d.ending h) ten)
 
 bare : (texts : Option (List (List ℕ × List ℕ))) (c : CommandSaid) (d : Done) → status_of (Ok d) ≡ 10
     → IfSome texts (λ told. IsPrinted told c d) → IfSome texts (λ told. IsBare told c (output_of (Ok d)))

@@ -3,6 +3,7 @@ pub mod Exact
 mod Explains
 pub mod ForWords
 mod GoldenPrinted
+mod SessionsPrinted
 pub mod InRange
 pub mod JobsDone
 pub mod OneDue

@@ -19,7 +19,9 @@ use Rattle.explain_command.proofs.Replies.{explain_like}
 use Rattle.forced_command.proofs.Replies.{forced_like}
 use Rattle.spec_model.specs.declared.relation.Relation.{Relation}
 use Rattle.program_words.specs.Words.{AskFor, CertainTableFor, CommandSaid, ConflictsIn, ExplainFor, ForcedOf, GoldenIn}
-use Rattle.program_words.specs.Words.{PossibleFor, PossibleTableFor, TrialOf, VerifyOf, VerifySaid}
+use Rattle.program_words.specs.Words.{PossibleFor, PossibleTableFor, SessionOver, TrialOf, VerifyOf, VerifySaid}
+use Rattle.program_words.specs.Words.{SessionSaid}
+use Rattle.session_command.specs.Sessions.{IsSessionDue}
 use Rattle.trial_command.proofs.Replies.{trial_like}
 use Rattle.trial_documents.specs.Documents.{documents}
 use Rattle.verify_command.specs.Judged.{IsVerifyDue}
@@ -30,6 +32,7 @@ pub record Laws : Type 0 where
   pub questions : (told : List (List ℕ × List ℕ)) (relations : List Relation) (name : List ℕ)
       → IsOne (IsQuestionRead told relations name)
   pub trees : (name bytes : List ℕ) → IsOne (IsQuestionTree name bytes)
+  pub sessions : (told : List (List ℕ × List ℕ)) (o : SessionSaid) → IsLike (IsSessionDue told o)
   pub verdicts : (told : List (List ℕ × List ℕ)) (v : VerifySaid) → IsOne (IsVerifyDue told v)
 
 for_command : Laws → (told : List (List ℕ × List ℕ)) (c : CommandSaid) → IsLike (IsDueFor told c)
@@ -44,6 +47,7 @@ for_command laws told (PossibleFor p) a b h k = possible_like laws.specs laws.qu
 for_command laws told (CertainTableFor t) a b h k = certain_like laws.trees laws.specs laws.questions told t a b h k
 for_command laws told (PossibleTableFor t) a b h k =
     possible_table_like laws.trees laws.specs laws.questions told t a b h k
+for_command laws told (SessionOver o) a b h k = laws.sessions told o a b h k
 
 for_words : Laws → (told : List (List ℕ × List ℕ)) (o : Option CommandSaid) (a b : Result Done Trouble)
     → MatchOption o (a ≡ Err trouble.Words) (λ c. IsDueFor told c a) → MatchOption o (b ≡ Err trouble.Words)

@@ -34,8 +34,11 @@ use Rattle.forced_command.proofs.Replies.{printed_due}
 use Rattle.forced_command.specs.Forced.{IsForcedDue, IsForcedPrinted}
 use Rattle.program_words.specs.Words.{AskSaid, CommandSaid, ConflictsSaid, ExplainSaid, GoldenSaid, PossibleSaid, TableSaid}
 use Rattle.program_words.specs.Words.{AskFor, CertainTableFor, ConflictsIn, ExplainFor, ForcedOf, GoldenIn, PossibleFor}
-use Rattle.program_words.specs.Words.{PossibleTableFor, VerifyOf, VerifySaid}
+use Rattle.program_words.specs.Words.{PossibleTableFor, SessionOver, SessionSaid, VerifyOf, VerifySaid}
 use Rattle.report_model.specs.declared.verdict.VerdictKind.{VerdictKind}
+use Rattle.script_syntax.specs.declared.trees.Entry.{Entry}
+use Rattle.currency_cli.proofs.SessionsPrinted.{OneScript, session_comes, session_due}
+use Rattle.session_command.specs.Sessions.{IsScriptRead, IsSessionDue}
 use Rattle.spec_model.specs.Spec.{Spec}
 use Rattle.spec_model.specs.declared.question.Question.{Question}
 use Rattle.spec_model.specs.declared.question.Question.TheVariants as asked
@@ -336,3 +339,31 @@ possibly_tabled one_spec one_question (Some told) count words got old new rb rn 
         (possible_table_due told count words t got said (due own.0)) in
         inl (possible_table_comes t.budget s (asked.Answers query) job.0 got status job.1 own.1)
     of spec question (inr nine) = inr nine
+
+-- ---- sessions
+
+conduct_due : (told : List (List ℕ × List ℕ)) (count : ℕ) (words : List (List ℕ)) (a : SessionSaid) (got : Result Done Trouble)
+    → command_for count words ≡ Some (SessionOver a) → IsDue told count words got → IsSessionDue told a got
+conduct_due told count words a got said due =
+    subst (λ (o : Option CommandSaid). MatchOption o (got ≡ Err trouble.Words) (λ x. IsDueFor told x got)) said due
+
+pub conducted : OneSpec → OneScript → (texts : Option (List (List ℕ × List ℕ))) (count : ℕ) (words : List (List ℕ))
+    (got : Result Done Trouble)
+    (old new : Option (List ℕ)) (rb rn wb wn status : ℕ)
+    → (IsDetermined got → IfSome texts (λ told. IsDue told count words got)) → (IsReadFault got → Rose rb rn)
+    → EndsWith old new wb wn got status
+    → (Rose rb rn → ⊥) → (Rose wb wn → ⊥) → (a : SessionSaid) → command_for count words ≡ Some (SessionOver a)
+    → (s : Spec) (entries : List Entry)
+    → IfSome texts (λ told. IsSpecRead told a.spec (Ok s) → IsScriptRead told a.script (Ok entries)
+    → (status ≡ 0) ⊎ ((status ≡ 3) ⊎ (status ≡ 9)))
+conducted one_spec one_script None count words got old new rb rn wb wn status due rose ends reads writes a said s entries = tt
+conducted one_spec one_script (Some told) count words got old new rb rn wb wn status due rose ends reads writes a said
+    s entries = λ spec script.
+    of spec script (own_status got old new rb rn wb wn status rose ends reads writes)
+  where
+    of : IsSpecRead told a.spec (Ok s) → IsScriptRead told a.script (Ok entries)
+        → (IsDetermined got × (status ≡ status_of got)) ⊎ (status ≡ 9) → (status ≡ 0) ⊎ ((status ≡ 3) ⊎ (status ≡ 9))
+    of spec script (inl own) =
+        decided_or_not (session_comes told a s entries got status (session_due one_spec one_script told a s entries got
+        spec script (conduct_due told count words a got said (due own.0))) own.1)
+    of spec script (inr nine) = inr (inr nine)

@@ -16,10 +16,12 @@ use Rattle.golden_command.specs.Asked.{relation_named}
 use Rattle.possible_table.specs.Table.{ComesToPossibleTable}
 use Rattle.possible_values.specs.Candidates.{HasTooManyCandidates}
 use Rattle.program_words.specs.Words.{AskFor, CertainTableFor, CommandSaid, ConflictsIn, ExplainFor, ForcedOf, GoldenIn}
-use Rattle.program_words.specs.Words.{PossibleFor, PossibleTableFor, TrialOf, VerifyOf}
-use Rattle.program_words.specs.Words.{AskSaid, ConflictsSaid, ExplainSaid, GoldenSaid, PossibleSaid, TableSaid, VerifySaid}
+use Rattle.program_words.specs.Words.{PossibleFor, PossibleTableFor, SessionOver, TrialOf, VerifyOf}
+use Rattle.program_words.specs.Words.{AskSaid, ConflictsSaid, ExplainSaid, GoldenSaid, PossibleSaid, SessionSaid, TableSaid, VerifySaid}
 use Rattle.query_model.specs.declared.query.Query.{Query}
 use Rattle.report_stages.specs.Judged.{IsReportRead}
+use Rattle.script_syntax.specs.declared.trees.Entry.{Entry}
+use Rattle.session_command.specs.Sessions.{IsScriptRead}
 use Rattle.spec_model.specs.Spec.{Spec}
 use Rattle.spec_model.specs.declared.question.Question.{Question}
 use Rattle.spec_model.specs.declared.question.Question.TheVariants as asked
@@ -138,6 +140,14 @@ PossiblyTables texts count words status =
     → (s : Spec) (query : Query) → IfSome texts (λ told. IsSpecRead told t.spec (Ok s)
     → IsQuestionRead told s.relations t.question (Ok (asked.Answers query))
     → ComesToPossibleTable s (asked.Answers query) status ⊎ (status ≡ 9))
+
+-- a session goes through its entries to the end, whatever they come to, unless a table that a question names cannot be read
+abbrev pub Conducts : Option (List (List ℕ × List ℕ)) → ℕ → List (List ℕ) → ℕ → Type 0
+Conducts texts count words status =
+    (a : SessionSaid) → command_for count words ≡ Some (SessionOver a)
+    → (s : Spec) (entries : List Entry) → IfSome texts (λ told. IsSpecRead told a.spec (Ok s)
+    → IsScriptRead told a.script (Ok entries)
+    → (status ≡ 0) ⊎ ((status ≡ 3) ⊎ (status ≡ 9)))
 
 -- `trial` reads nothing of the shelf: whatever that tells, what comes is due for the generated documents
 abbrev pub Tries : ℕ → List (List ℕ) → Option (List ℕ) → Option (List ℕ) → ℕ → ℕ → ℕ → Type 0

@@ -15,7 +15,8 @@ use Rattle.golden_command.specs.Golden.{IsGoldenDue}
 use Rattle.possible_command.specs.Possible.{IsPossibleDocumentDue, IsPossibleDue}
 use Rattle.possible_table.specs.Table.{IsPossibleTableDue}
 use Rattle.program_words.specs.Words.{AskFor, CertainTableFor, CommandSaid, ConflictsIn, ExplainFor, ForcedOf, GoldenIn}
-use Rattle.program_words.specs.Words.{PossibleFor, PossibleTableFor, TrialOf, VerifyOf}
+use Rattle.program_words.specs.Words.{PossibleFor, PossibleTableFor, SessionOver, TrialOf, VerifyOf}
+use Rattle.session_command.specs.Sessions.{IsSessionDocumentDue, IsSessionDue}
 use Rattle.trial_command.specs.Trial.{IsTrialDue}
 use Rattle.verify_command.specs.Judged.{IsVerifyDue, IsVerifyDocumentDue}
 
@@ -31,6 +32,7 @@ IsDueFor told (GoldenIn g) outcome = IsGoldenDue told g outcome
 IsDueFor told (PossibleFor p) outcome = IsPossibleDue told p outcome
 IsDueFor told (CertainTableFor t) outcome = IsCertainTableDue told t outcome
 IsDueFor told (PossibleTableFor t) outcome = IsPossibleTableDue told t outcome
+IsDueFor told (SessionOver a) outcome = IsSessionDue told a outcome
 
 -- what is due for words, where so many guides are handed in
 abbrev pub IsDue : List (List ℕ × List ℕ) → ℕ → List (List ℕ) → Result Done Trouble → Type 0
@@ -49,6 +51,7 @@ IsDocumentDue told (GoldenIn g) name = IsSpecDocumentDue told g.spec name
 IsDocumentDue told (PossibleFor p) name = IsPossibleDocumentDue told p name
 IsDocumentDue told (CertainTableFor t) name = IsTableDocumentDue told t name
 IsDocumentDue told (PossibleTableFor t) name = IsTableDocumentDue told t name
+IsDocumentDue told (SessionOver a) name = IsSessionDocumentDue told a name
 
 -- a document of this name is due to be read for these words
 abbrev pub IsReadDue : List (List ℕ × List ℕ) → ℕ → List (List ℕ) → List ℕ → Type 0

@@ -21,8 +21,9 @@ use Rattle.golden_command.specs.Golden.{IsGoldenPrinted}
 use Rattle.possible_command.specs.Possible.{IsPossiblePrinted}
 use Rattle.possible_table.specs.Table.{IsPossibleTableBare, IsPossibleTableShort, IsPossibleTabled}
 use Rattle.program_words.specs.Words.{AskFor, CertainTableFor, CommandSaid, ConflictsIn, ExplainFor, ForcedOf, GoldenIn}
-use Rattle.program_words.specs.Words.{PossibleFor, PossibleTableFor, TrialOf, VerifyOf}
+use Rattle.program_words.specs.Words.{PossibleFor, PossibleTableFor, SessionOver, TrialOf, VerifyOf}
 use Rattle.report_model.specs.declared.verdict.VerdictKind.{VerdictKind}
+use Rattle.session_command.specs.Sessions.{IsSessionPrinted}
 use Rattle.trial_command.specs.Trial.{IsTrialPrinted, IsTrialSpent}
 use Rattle.verify_command.specs.Judged.{accepted_text}
 use Rattle.verify_command.specs.Shown.{IsShownRight}
@@ -53,6 +54,7 @@ IsJobDone told (GoldenIn g) text = IsGoldenPrinted told g text Tabled
 IsJobDone told (PossibleFor p) text = IsPossiblePrinted told p text Decided
 IsJobDone told (CertainTableFor t) text = IsCertainTabled told t text
 IsJobDone told (PossibleTableFor t) text = IsPossibleTabled told t text
+IsJobDone told (SessionOver a) text = IsSessionPrinted told a text Decided
 
 -- the words say a command whose job is done: the documents show what is told, and the sink got the text
 pub record IsDone (texts : Option (List (List ℕ × List ℕ))) (count : ℕ) (words : List (List ℕ))
@@ -88,6 +90,7 @@ IsSpent told (GoldenIn g) text = IsGoldenPrinted told g text Open
 IsSpent told (PossibleFor p) text = IsPossiblePrinted told p text Undecided
 IsSpent told (CertainTableFor t) text = IsTableShort told t text
 IsSpent told (PossibleTableFor t) text = IsPossibleTableShort told t text
+IsSpent told (SessionOver a) text = IsSessionPrinted told a text Undecided
 IsSpent told command text = ⊥
 
 -- the words ask a question that was not decided: the sink got the whole report

@@ -11,7 +11,8 @@ use Rattle.golden_command.specs.Golden.{IsGoldenPrinted}
 use Rattle.possible_command.specs.Possible.{IsPossiblePrinted}
 use Rattle.possible_table.specs.Table.{IsPossibleTablePrinted}
 use Rattle.program_words.specs.Words.{AskFor, CertainTableFor, CommandSaid, ConflictsIn, ExplainFor, ForcedOf, GoldenIn}
-use Rattle.program_words.specs.Words.{PossibleFor, PossibleTableFor, TrialOf, VerifyOf}
+use Rattle.program_words.specs.Words.{PossibleFor, PossibleTableFor, SessionOver, TrialOf, VerifyOf}
+use Rattle.session_command.specs.Sessions.{IsSessionPrinted}
 use Rattle.trial_command.specs.Trial.{IsTrialDue}
 use Rattle.verify_command.specs.Shown.{IsVerifyPrinted}
 
@@ -27,6 +28,7 @@ IsPrinted told (GoldenIn g) d = IsGoldenPrinted told g d.text d.ending
 IsPrinted told (PossibleFor p) d = IsPossiblePrinted told p d.text d.ending
 IsPrinted told (CertainTableFor t) d = IsCertainTablePrinted told t d.text d.ending
 IsPrinted told (PossibleTableFor t) d = IsPossibleTablePrinted told t d.text d.ending
+IsPrinted told (SessionOver a) d = IsSessionPrinted told a d.text d.ending
 
 -- words say a command that came to this
 pub record IsPrintedFor (texts : Option (List (List ℕ × List ℕ))) (count : ℕ) (words : List (List ℕ)) (d : Done) : Type 0 where

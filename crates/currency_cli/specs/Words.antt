@@ -1,7 +1,7 @@
 -- The commands that words say, where so many guides are handed in.
 use Rattle.std.specs.Prelude.{◌≤◌, ℕ, Bool, true, List, Option, Some, None, nat_le, option_and_then, if◌then◌else◌}
 use Rattle.program_words.specs.Words.{AskFor, CertainTableFor, CommandSaid, ConflictsIn, ExplainFor, ForcedOf, GoldenIn}
-use Rattle.program_words.specs.Words.{PossibleFor, PossibleTableFor, TrialOf, VerifyOf, command_of}
+use Rattle.program_words.specs.Words.{PossibleFor, PossibleTableFor, SessionOver, TrialOf, VerifyOf, command_of}
 
 -- the guide that is to be kept, if one is, is among so many, counted from 1
 abbrev pub is_guide : ℕ → Option ℕ → Bool
@@ -20,6 +20,7 @@ with_guides count (GoldenIn g) = if is_guide count g.guide then Some (GoldenIn g
 with_guides count (PossibleFor p) = if is_guide count p.guide then Some (PossibleFor p) else None
 with_guides count (CertainTableFor t) = if is_guide count t.guide then Some (CertainTableFor t) else None
 with_guides count (PossibleTableFor t) = if is_guide count t.guide then Some (PossibleTableFor t) else None
+with_guides count (SessionOver a) = if is_guide count a.guide then Some (SessionOver a) else None
 
 -- the numbers of a command are in their ranges
 abbrev pub IsInRange : CommandSaid → Type 0
@@ -31,6 +32,7 @@ IsInRange (GoldenIn g) = g.budget ≤ 10000000
 IsInRange (PossibleFor p) = p.budget ≤ 10000000
 IsInRange (CertainTableFor t) = t.budget ≤ 10000000
 IsInRange (PossibleTableFor t) = t.budget ≤ 10000000
+IsInRange (SessionOver a) = a.budget ≤ 10000000
 IsInRange other = Unit {0}
 
 -- the command that words say where so many guides are handed in; none where they are refused

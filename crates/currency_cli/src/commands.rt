@@ -21,6 +21,7 @@ use golden_command::golden_document;
 use possible_command::possible_documents;
 use possible_table::possible_table_documents;
 use program_words::Command;
+use session_command::session_documents;
 use solver_guides::Guides;
 use std::alloc::Global;
 use trial_command::try_generated;
@@ -55,6 +56,7 @@ fn outcome_of<S: Shelf>(
         Command::Possible(asked) => possible_documents(alloc, shelf, asked, guides),
         Command::CertainTable(asked) => certain_documents(alloc, shelf, asked, guides),
         Command::PossibleTable(asked) => possible_table_documents(alloc, shelf, asked, guides),
+        Command::Session(asked) => session_documents(alloc, shelf, asked, guides),
     }
 }
 

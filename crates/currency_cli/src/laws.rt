@@ -5,6 +5,7 @@ ghost use Rattle.command_stages.specs.declared.trouble.Trouble.{Trouble};
 ghost use Rattle.currency_cli.specs.Due.{IsDue};
 
 use command_stages::one_read;
+use session_command::one_session;
 use verify_command::one_verdict;
 
 /// A law: what is due for words and told documents is determined, but for which report answers a question.
@@ -14,4 +15,5 @@ pub fn one_due()
 {
     one_read();
     one_verdict();
+    one_session();
 }

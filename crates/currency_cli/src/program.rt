@@ -1,6 +1,6 @@
 ghost use Rattle.std.specs.Prelude.{◌≡◌, None, Ok, Err, map, string_bytes};
 ghost use Rattle.command_stages.specs.declared.done.Done.{Done};
-ghost use Rattle.currency_cli.specs.Clauses.{Answered, Blames, Complete, Ends, Exact, Explains, Imagines, Listed, PossiblyTables};
+ghost use Rattle.currency_cli.specs.Clauses.{Answered, Blames, Complete, Conducts, Ends, Exact, Explains, Imagines, Listed, PossiblyTables};
 ghost use Rattle.currency_cli.specs.Clauses.{Records, Refused, Steady, Tables, Tries, Verified, WordsRefused};
 ghost use Rattle.currency_cli.specs.Ends.{EndsWith, IsDenied, IsDone, IsInconsistent, IsUndecided, NamesUnread};
 ghost use Rattle.currency_cli.specs.Words.{command_for};
@@ -13,6 +13,7 @@ use crate::laws::one_due;
 use command_stages::{Done, Trouble, one_read, text_of};
 use currency_edge::{Shelf, Sink, SinkFault, put_all};
 use report_stages::one_judgement;
+use script_syntax::one_script;
 use solver_guides::Guides;
 use std::alloc::Global;
 
@@ -115,6 +116,10 @@ pub fn run<S: Shelf, K: Sink>(
     ensures possibly_tabled { Steady (S.faults shelf.old) (S.faults shelf.new) (K.faults out.old) (K.faults out.new)
         (PossiblyTables (S.texts shelf.old) (count_of guides.old) (map (λ w. string_bytes w) words.now) result) }
 
+    // The entries of a session are gone through to the end, where the specification and the script are read.
+    ensures conducted { Steady (S.faults shelf.old) (S.faults shelf.new) (K.faults out.old) (K.faults out.new)
+        (Conducts (S.texts shelf.old) (count_of guides.old) (map (λ w. string_bytes w) words.now) result) }
+
     // `trial` reads nothing of the shelf: whatever that tells, what the program comes to is due for the generated documents.
     ensures tried { Tries (count_of guides.old) (map (λ w. string_bytes w) words.now) (K.written out.old) (K.written out.new)
         (K.faults out.old) (K.faults out.new) result }
@@ -133,7 +138,9 @@ pub fn run<S: Shelf, K: Sink>(
     // exactly where it is the current one in every consistent completion, and an attribute is named as open exactly where two
     // values are possible; of the candidates of a question exactly those are told as possible that hold in some consistent
     // completion, each with a listed one in which it does; a table of answers has exactly the tuples that are answers over the
-    // current instance of every consistent completion, or of some, and then says of each whether it is one over every.
+    // current instance of every consistent completion, or of some, and then says of each whether it is one over every. Each edit
+    // of a session that is said to be accepted was done and each that is refused changed nothing; each decided reply is right for
+    // the specification as the edits before it left it, and shows that, and an undecided one is what a search for it then gave.
     ensures done { result ≡ 0
         → IsDone (S.texts shelf.old) (count_of guides.old) (map (λ w. string_bytes w) words.now) (K.written out.old)
         (K.written out.new) }
@@ -166,6 +173,7 @@ pub fn run<S: Shelf, K: Sink>(
     one_due();
     one_read();
     one_judgement();
+    one_script();
     match outcome(alloc, words, shelf, guides) {
         Ok(done) => hand_out(alloc, out, &done),
         Err(trouble) => refuse(alloc, out, &trouble),

@@ -41,6 +41,7 @@ fn keep_for(guides: &mut Guides, command: &Command<'_>) -> bool
         Command::Possible(asked) => keep_guide(guides, asked.guide),
         Command::CertainTable(asked) => keep_guide(guides, asked.guide),
         Command::PossibleTable(asked) => keep_guide(guides, asked.guide),
+        Command::Session(asked) => keep_guide(guides, asked.guide),
     }
 }
 

@@ -13,7 +13,7 @@ use Rattle.program_words.specs.Line.{line}
 use Rattle.program_words.specs.Numbers.{number_if_given, number_or, number_up_to}
 use Rattle.program_words.specs.Words.{CommandSaid, ConflictsIn, ForcedOf, IsRefused, TrialOf, VerifyOf, ask_in, asked_in}
 use Rattle.program_words.specs.Words.{command_in, command_of, conflicts_in, explain_in, golden_in, has_wrong_options}
-use Rattle.program_words.specs.Words.{is_explain_wrong, is_search_wrong, is_telling_wrong, is_trial_wrong, possible_in}
+use Rattle.program_words.specs.Words.{is_explain_wrong, is_search_wrong, is_telling_wrong, is_trial_wrong, possible_in, session_in}
 use Rattle.program_words.specs.Words.{asked_in_one_way, tells_two_ways, trial_in, unit_in, unless_fault}
 use Rattle.program_words.proofs.Parts.{from_number, from_question, from_search, no_number, no_question, no_search}
 use Rattle.program_words.proofs.TextRows.{found_holds}
@@ -156,6 +156,22 @@ conflicts_valued = (
   (record { acts = λ values rows. refl; stands = λ e. cc }, (record { acts = λ values rows. refl; stands = λ e. cc }, tt)),
 )
 
+session_valued : AreValued (sub 8).rules
+unfolding whole_line
+session_valued = (
+  record { acts = λ values rows. refl; stands = λ e. cc },
+  (
+    record { acts = λ values rows. refl; stands = λ e. cc },
+    (
+      record { acts = λ values rows. refl; stands = λ e. cc },
+      (
+        record { acts = λ values rows. refl; stands = λ e. cc },
+        (record { acts = λ values rows. refl; stands = λ e. omega arith }, tt),
+      ),
+    ),
+  ),
+)
+
 golden_valued : AreValued (sub 6).rules
 unfolding whole_line
 golden_valued = (
@@ -236,13 +252,26 @@ possible_caused words free none =
     (required_text (sub 7) words (codes "SPEC") possible_valued (inl (refl, refl)) free)
     (required_text (sub 7) words (codes "QUESTION") possible_valued (inr (inl (refl, refl))) free) none
 
+session_caused : IsCaused (sub 8)
+unfolding whole_line
+session_caused words free none =
+    let rows = rows_after (sub 8).rules [] words in
+    from_question (first_of (codes "SPEC") rows) (first_of (codes "SCRIPT") rows) _
+    (required_text (sub 8) words (codes "SPEC") session_valued (inl (refl, refl)) free)
+    (required_text (sub 8) words (codes "SCRIPT") session_valued (inr (inl (refl, refl))) free)
+    (λ spec script. from_search (number_or 100000 10000000 (first_of (codes "budget") rows))
+    (number_if_given 4 (first_of (codes "guide") rows)) _) none
+
 all_caused : AllByRecursion IsCaused (built line).subs
 unfolding no_arguments
 all_caused = (
   ask_caused,
   (
     verify_caused,
-    (forced_caused, (trial_caused, (explain_caused, (conflicts_caused, (golden_caused, (possible_caused, tt)))))),
+    (
+      forced_caused,
+      (trial_caused, (explain_caused, (conflicts_caused, (golden_caused, (possible_caused, (session_caused, tt)))))),
+    ),
   ),
 )
 
@@ -333,27 +362,34 @@ golden_none rows wrong = no_question (first_of (codes "SPEC") rows) (first_of (c
     (λ spec relation. no_search (number_or 100000 10000000 (first_of (codes "budget") rows))
     (number_if_given 4 (first_of (codes "guide") rows)) _ wrong)
 
+session_none : (rows : List Row) → is_search_wrong rows ≡ true → session_in rows ≡ None
+session_none rows wrong = no_question (first_of (codes "SPEC") rows) (first_of (codes "SCRIPT") rows) _
+    (λ spec script. no_search (number_or 100000 10000000 (first_of (codes "budget") rows))
+    (number_if_given 4 (first_of (codes "guide") rows)) _ wrong)
+
 wrong_is_none : (found : Option (Text × List Row)) → option_map_or has_wrong_options found false ≡ true
     → option_and_then command_in found ≡ None
 wrong_is_none None wrong = refl
 wrong_is_none (Some p) wrong = by (bytes_eq p.0 (codes "ask")) (bytes_eq p.0 (codes "trial"))
     (bytes_eq p.0 (codes "explain")) (bytes_eq p.0 (codes "conflicts")) (bytes_eq p.0 (codes "golden"))
-    (bytes_eq p.0 (codes "possible")) _ wrong
+    (bytes_eq p.0 (codes "possible")) (bytes_eq p.0 (codes "session")) _ wrong
   where
-    by : (is_ask is_trial is_explain is_conflicts is_golden is_possible : Bool) (other : Option CommandSaid)
+    by : (is_ask is_trial is_explain is_conflicts is_golden is_possible is_session : Bool) (other : Option CommandSaid)
         → cond is_ask (is_telling_wrong p.1) (cond is_trial (is_trial_wrong p.1)
         (cond is_explain (is_explain_wrong p.1) (cond is_conflicts (is_search_wrong p.1)
-        (cond is_golden (is_search_wrong p.1) (cond is_possible (is_telling_wrong p.1) false))))) ≡ true
+        (cond is_golden (is_search_wrong p.1) (cond is_possible (is_telling_wrong p.1)
+        (cond is_session (is_search_wrong p.1) false)))))) ≡ true
         → cond is_ask (ask_in p.1) (cond is_trial (trial_in p.1)
         (cond is_explain (explain_in p.1) (cond is_conflicts (conflicts_in p.1) (cond is_golden (golden_in p.1)
-        (cond is_possible (possible_in p.1) other))))) ≡ None
-    by true is_trial is_explain is_conflicts is_golden is_possible other w = told_none p.1 _ w
-    by false true is_explain is_conflicts is_golden is_possible other w = trial_none (first_of (codes "N") p.1) w
-    by false false true is_conflicts is_golden is_possible other w = explain_none p.1 w
-    by false false false true is_golden is_possible other w = conflicts_none (first_of (codes "SPEC") p.1) _ _ w
-    by false false false false true is_possible other w = golden_none p.1 w
-    by false false false false false true other w = told_none p.1 _ w
-    by false false false false false false other w = cc
+        (cond is_possible (possible_in p.1) (cond is_session (session_in p.1) other)))))) ≡ None
+    by true is_trial is_explain is_conflicts is_golden is_possible is_session other w = told_none p.1 _ w
+    by false true is_explain is_conflicts is_golden is_possible is_session other w = trial_none (first_of (codes "N") p.1) w
+    by false false true is_conflicts is_golden is_possible is_session other w = explain_none p.1 w
+    by false false false true is_golden is_possible is_session other w = conflicts_none (first_of (codes "SPEC") p.1) _ _ w
+    by false false false false true is_possible is_session other w = golden_none p.1 w
+    by false false false false false true is_session other w = told_none p.1 _ w
+    by false false false false false false true other w = session_none p.1 w
+    by false false false false false false false other w = cc
 
 pub refused : (words : List Text) → IsRefused words → command_of words ≡ None
 unfolding command_of

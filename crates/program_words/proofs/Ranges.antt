@@ -10,9 +10,9 @@ use Rattle.clap.specs.Walk.{Row, Text, first_of}
 use Rattle.program_words.specs.Line.{line}
 use Rattle.program_words.specs.Numbers.{number_if_given, number_or, number_up_to}
 use Rattle.program_words.specs.Words.{AskFor, CertainTableFor, CommandSaid, ConflictsIn, ExplainFor, ForcedOf, GoldenIn}
-use Rattle.program_words.specs.Words.{PossibleFor, PossibleTableFor, TrialOf, VerifyOf, ask_for, ask_in, asked_in, command_in}
+use Rattle.program_words.specs.Words.{PossibleFor, PossibleTableFor, SessionOver, TrialOf, VerifyOf, ask_for, ask_in, asked_in, command_in}
 use Rattle.program_words.specs.Words.{command_of, conflicts_in, explain_in, forced_in, golden_in, has_flag, possible_for}
-use Rattle.program_words.specs.Words.{asked_in_one_way, possible_in, tells_two_ways, trial_in, unit_in, unless_fault, verify_in}
+use Rattle.program_words.specs.Words.{asked_in_one_way, possible_in, session_in, tells_two_ways, trial_in, unit_in, unless_fault, verify_in}
 use Rattle.program_words.proofs.Numerals.{number_in_range}
 use Rattle.program_words.proofs.Parts.{of_question, of_search}
 
@@ -36,6 +36,7 @@ IsInRange (GoldenIn g) = AreInRange g.budget g.guide
 IsInRange (PossibleFor p) = AreInRange p.budget p.guide
 IsInRange (CertainTableFor t) = AreInRange t.budget t.guide
 IsInRange (PossibleTableFor t) = AreInRange t.budget t.guide
+IsInRange (SessionOver s) = AreInRange s.budget s.guide
 IsInRange other = Unit {0}
 
 budget_in_range : (text : Option Text) (n : ℕ) → number_or 100000 10000000 text ≡ Some n → (1 ≤ n) × (n ≤ 10000000)
@@ -138,6 +139,18 @@ golden_in_range rows =
     search_in_range (first_of (codes "budget") rows) (first_of (codes "guide") rows)
     (λ b g. GoldenIn (record { spec = s; relation = r; budget = b; guide = g })) (λ b g h. h))
 
+session_in_range : (rows : List Row) → IfSome (session_in rows) IsInRange
+session_in_range rows =
+    of_question_in_range (first_of (codes "SPEC") rows) (first_of (codes "SCRIPT") rows) _ (λ s t.
+    search_in_range (first_of (codes "budget") rows) (first_of (codes "guide") rows)
+    (λ b g. SessionOver (record {
+      spec = s;
+      script = t;
+      budget = b;
+      brief = has_flag (codes "brief") rows;
+      guide = g;
+    })) (λ b g h. h))
+
 verify_in_range : (rows : List Row) → IfSome (verify_in rows) IsInRange
 verify_in_range rows =
     of_question_in_range (first_of (codes "SPEC") rows) (first_of (codes "QUESTION") rows) _ (λ s q.
@@ -164,22 +177,25 @@ trial_in_range (Some text) = by (number_up_to 1000 text) refl
 found_in_range : (name : Text) (rows : List Row) → IfSome (command_in (name, rows)) IsInRange
 found_in_range name rows = by (bytes_eq name (codes "ask")) (bytes_eq name (codes "trial"))
     (bytes_eq name (codes "explain")) (bytes_eq name (codes "conflicts")) (bytes_eq name (codes "golden"))
-    (bytes_eq name (codes "possible")) (bytes_eq name (codes "verify")) (bytes_eq name (codes "forced"))
+    (bytes_eq name (codes "possible")) (bytes_eq name (codes "session")) (bytes_eq name (codes "verify"))
+    (bytes_eq name (codes "forced"))
   where
-    by : (is_ask is_trial is_explain is_conflicts is_golden is_possible is_verify is_forced : Bool)
+    by : (is_ask is_trial is_explain is_conflicts is_golden is_possible is_session is_verify is_forced : Bool)
         → IfSome (cond is_ask (ask_in rows) (cond is_trial (trial_in rows)
         (cond is_explain (explain_in rows) (cond is_conflicts (conflicts_in rows) (cond is_golden (golden_in rows)
-        (cond is_possible (possible_in rows) (cond is_verify (verify_in rows) (cond is_forced (forced_in rows) None))))))))
+        (cond is_possible (possible_in rows) (cond is_session (session_in rows) (cond is_verify (verify_in rows)
+        (cond is_forced (forced_in rows) None)))))))))
         IsInRange
-    by true t e c g p v f = ask_in_range rows
-    by false true e c g p v f = trial_in_range (first_of (codes "N") rows)
-    by false false true c g p v f = explain_in_range rows
-    by false false false true g p v f = conflicts_in_range rows
-    by false false false false true p v f = golden_in_range rows
-    by false false false false false true v f = possible_in_range rows
-    by false false false false false false true f = verify_in_range rows
-    by false false false false false false false true = forced_in_range (first_of (codes "SPEC") rows)
-    by false false false false false false false false = tt
+    by true t e c g p s v f = ask_in_range rows
+    by false true e c g p s v f = trial_in_range (first_of (codes "N") rows)
+    by false false true c g p s v f = explain_in_range rows
+    by false false false true g p s v f = conflicts_in_range rows
+    by false false false false true p s v f = golden_in_range rows
+    by false false false false false true s v f = possible_in_range rows
+    by false false false false false false true v f = session_in_range rows
+    by false false false false false false false true f = verify_in_range rows
+    by false false false false false false false false true = forced_in_range (first_of (codes "SPEC") rows)
+    by false false false false false false false false false = tt
 
 -- a command that words say has its numbers in their ranges
 pub said_in_range : (words : List Text) (said : CommandSaid) → command_of words ≡ Some said → IsInRange said

@@ -2,7 +2,7 @@
 use Rattle.std.specs.Prelude.{ℕ, Bool, List, ◌∷◌, Option, Some, codes}
 use Rattle.clap.specs.Walk.{Text}
 use Rattle.program_words.specs.Words.{AskFor, CertainTableFor, CommandSaid, ConflictsIn, ExplainFor, GoldenIn, PossibleFor}
-use Rattle.program_words.specs.Words.{PossibleTableFor, command_of, table_for}
+use Rattle.program_words.specs.Words.{PossibleTableFor, SessionOver, command_of, table_for}
 use Rattle.program_words.specs.declared.command.AnswerForm.{AnswerForm}
 
 -- the command that these words say after the program's name
@@ -58,6 +58,15 @@ said_after_possible options = said (codes "possible" ∷ codes "s" ∷ codes "q"
 abbrev pub possible_for : ℕ → Bool → Option ℕ → Option CommandSaid
 possible_for budget brief guide =
     Some (PossibleFor (record { spec = codes "s"; question = codes "q"; budget = budget; brief = brief; guide = guide }))
+
+-- the command that `session s t` and these words say
+abbrev pub said_after_session : List Text → Option CommandSaid
+said_after_session options = said (codes "session" ∷ codes "s" ∷ codes "t" ∷ options)
+
+-- `session` over s with t, with these options
+abbrev pub session_over_s : ℕ → Bool → Option ℕ → Option CommandSaid
+session_over_s budget brief guide =
+    Some (SessionOver (record { spec = codes "s"; script = codes "t"; budget = budget; brief = brief; guide = guide }))
 
 -- `ask --csv` and `possible --csv` for s and q, with these options
 abbrev pub certain_table_for : ℕ → Option ℕ → Option CommandSaid

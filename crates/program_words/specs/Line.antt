@@ -79,6 +79,13 @@ golden_shape = record (new_shape (codes "golden")) {
 unfoldable pub possible_shape : Shape
 possible_shape = asked_shape (codes "possible")
 
+-- session SPEC SCRIPT [--budget B] [--guide K] [--brief]
+unfoldable pub session_shape : Shape
+session_shape = record (new_shape (codes "session")) {
+  rules = required_rule (codes "SPEC") ∷ required_rule (codes "SCRIPT") ∷ option_rule (codes "budget")
+      ∷ option_rule (codes "guide") ∷ flag_rule (codes "brief") ∷ [];
+}
+
 -- the program with no command yet: one has to be named, and neither help nor a version is added
 unfoldable pub bare_line : App
 bare_line = record (new_app (codes "currency")) {
@@ -90,8 +97,8 @@ bare_line = record (new_app (codes "currency")) {
   };
 }
 
--- the program with its eight commands
+-- the program with its nine commands
 unfoldable pub line : App
 line = with_subcommand (with_subcommand (with_subcommand (with_subcommand (with_subcommand (with_subcommand (with_subcommand
-    (with_subcommand bare_line ask_shape) verify_shape) forced_shape) trial_shape) explain_shape) conflicts_shape)
-    golden_shape) possible_shape
+    (with_subcommand (with_subcommand bare_line ask_shape) verify_shape) forced_shape) trial_shape) explain_shape)
+    conflicts_shape) golden_shape) possible_shape) session_shape

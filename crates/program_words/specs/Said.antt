@@ -1,9 +1,9 @@
 -- What the code's own types say.
 use Rattle.program_words.specs.Words.{CommandSaid, AskFor, VerifyOf, ForcedOf, TrialOf, ExplainFor, ConflictsIn, GoldenIn}
-use Rattle.program_words.specs.Words.{CertainTableFor, PossibleFor, PossibleTableFor}
+use Rattle.program_words.specs.Words.{CertainTableFor, PossibleFor, PossibleTableFor, SessionOver}
 use Rattle.program_words.specs.declared.command.Command.{Command}
 use Rattle.program_words.specs.declared.command.Command.TheVariants.{Ask, Verify, Forced, Trial, Explain, Conflicts, Golden}
-use Rattle.program_words.specs.declared.command.Command.TheVariants.{CertainTable, Possible, PossibleTable}
+use Rattle.program_words.specs.declared.command.Command.TheVariants.{CertainTable, Possible, PossibleTable, Session}
 
 -- a command, with the names of documents as bytes
 abbrev pub said_of : Command → CommandSaid
@@ -42,4 +42,11 @@ said_of (PossibleTable t) = PossibleTableFor (record {
   question = t.question.now;
   budget = t.budget;
   guide = t.guide;
+})
+said_of (Session s) = SessionOver (record {
+  spec = s.spec.now;
+  script = s.script.now;
+  budget = s.budget;
+  brief = s.brief;
+  guide = s.guide;
 })

@@ -57,6 +57,15 @@ pub record PossibleSaid : Type 0 where
   pub brief : Bool
   pub guide : Option ℕ
 
+-- session SPEC SCRIPT, with its options: the budget of each question, whether the reports are brief, and the one guide that is
+-- kept
+pub record SessionSaid : Type 0 where
+  pub spec : List ℕ
+  pub script : List ℕ
+  pub budget : ℕ
+  pub brief : Bool
+  pub guide : Option ℕ
+
 -- ask SPEC QUESTION --csv, or possible SPEC QUESTION --csv, with their options: the budget, and the one guide that is kept
 pub record TableSaid : Type 0 where
   pub spec : List ℕ
@@ -64,7 +73,8 @@ pub record TableSaid : Type 0 where
   pub budget : ℕ
   pub guide : Option ℕ
 
--- a command: ask, verify, forced SPEC, trial N, explain, conflicts, golden, or possible; ask and possible may ask for a table
+-- a command: ask, verify, forced SPEC, trial N, explain, conflicts, golden, possible, or session; ask and possible may ask for a
+-- table
 pub data CommandSaid : Type 0 where
   AskFor : AskSaid → CommandSaid
   VerifyOf : VerifySaid → CommandSaid
@@ -76,6 +86,7 @@ pub data CommandSaid : Type 0 where
   PossibleFor : PossibleSaid → CommandSaid
   CertainTableFor : TableSaid → CommandSaid
   PossibleTableFor : TableSaid → CommandSaid
+  SessionOver : SessionSaid → CommandSaid
 
 -- a flag's text says that it was given
 abbrev pub is_set : Option Text → Bool
@@ -198,6 +209,18 @@ possible_for rows spec question budget guide =
 abbrev pub possible_in : List Row → Option CommandSaid
 possible_in rows = asked_in_one_way rows (possible_for rows)
 
+-- `session` with these rows; none where a number is wrong
+abbrev pub session_in : List Row → Option CommandSaid
+session_in rows = option_and_then (λ spec. option_and_then (λ script.
+    searched_in rows (λ budget guide. SessionOver (record {
+      spec = spec;
+      script = script;
+      budget = budget;
+      brief = has_flag (codes "brief") rows;
+      guide = guide;
+    })))
+    (first_of (codes "SCRIPT") rows)) (first_of (codes "SPEC") rows)
+
 -- the command of this name with these rows
 abbrev pub command_in : Text × List Row → Option CommandSaid
 command_in p = if bytes_eq p.0 (codes "ask") then ask_in p.1
@@ -206,6 +229,7 @@ command_in p = if bytes_eq p.0 (codes "ask") then ask_in p.1
     else if bytes_eq p.0 (codes "conflicts") then conflicts_in p.1
     else if bytes_eq p.0 (codes "golden") then golden_in p.1
     else if bytes_eq p.0 (codes "possible") then possible_in p.1
+    else if bytes_eq p.0 (codes "session") then session_in p.1
     else if bytes_eq p.0 (codes "verify") then verify_in p.1
     else if bytes_eq p.0 (codes "forced") then forced_in p.1
     else None
@@ -247,6 +271,7 @@ has_wrong_options p = if bytes_eq p.0 (codes "ask") then is_telling_wrong p.1
     else if bytes_eq p.0 (codes "conflicts") then is_search_wrong p.1
     else if bytes_eq p.0 (codes "golden") then is_search_wrong p.1
     else if bytes_eq p.0 (codes "possible") then is_telling_wrong p.1
+    else if bytes_eq p.0 (codes "session") then is_search_wrong p.1
     else false
 
 -- clap sees a fault in the words, or options in them are wrong

@@ -15,6 +15,7 @@ pub enum Command<'a> {
     CertainTable(AnswerTable<'a>),
     /// `possible --csv`: the answers of a query that some consistent completion has as a table.
     PossibleTable(AnswerTable<'a>),
+    Session(Session<'a>),
 }
 
 /// How much is told of a report that answers a question.
@@ -105,6 +106,19 @@ pub struct AnswerTable<'a> {
     pub question: &'a str,
     /// How many clauses may be learned in each search: 1 to 10,000,000.
     pub budget: u64,
+    /// The one guide that is kept, 1 to 4; where there is none, all are.
+    pub guide: Option<u64>,
+}
+
+/// `session SPEC SCRIPT [--budget B] [--brief] [--guide K]`.
+#[derive(Clone, Copy)]
+pub struct Session<'a> {
+    pub spec: &'a str,
+    pub script: &'a str,
+    /// How many clauses may be learned for each question: 1 to 10,000,000.
+    pub budget: u64,
+    /// Are the logs of decided reports left out?
+    pub brief: bool,
     /// The one guide that is kept, 1 to 4; where there is none, all are.
     pub guide: Option<u64>,
 }

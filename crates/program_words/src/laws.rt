@@ -2,10 +2,10 @@ ghost use Rattle.std.specs.Prelude.{◌≡◌, ◌≤◌, IfSome, ℕ, List, [],
 ghost use Rattle.program_words.specs.Examples.{ask_for, certain_table_for, conflicts_in_s, explain_for, golden_in_s};
 ghost use Rattle.program_words.specs.Examples.{possible_for, possible_table_for, said};
 ghost use Rattle.program_words.specs.Examples.{said_after_ask, said_after_conflicts, said_after_explain, said_after_golden};
-ghost use Rattle.program_words.specs.Examples.{said_after_possible};
+ghost use Rattle.program_words.specs.Examples.{said_after_possible, said_after_session, session_over_s};
 ghost use Rattle.program_words.specs.Words.{AskFor, AskSaid, CertainTableFor, ConflictsIn, ConflictsSaid, ExplainFor};
 ghost use Rattle.program_words.specs.Words.{ExplainSaid, ForcedOf, GoldenIn, GoldenSaid, IsRefused, PossibleFor};
-ghost use Rattle.program_words.specs.Words.{PossibleSaid, PossibleTableFor, TableSaid, TrialOf, VerifyOf};
+ghost use Rattle.program_words.specs.Words.{PossibleSaid, PossibleTableFor, SessionOver, SessionSaid, TableSaid, TrialOf, VerifyOf};
 ghost use Rattle.program_words.specs.Words.{command_of};
 ghost use Rattle.program_words.specs.declared.command.AnswerForm.TheVariants.{Brief, Verdict, Whole};
 
@@ -117,6 +117,16 @@ pub fn words_are_read()
     ensures possible_verdict { said_after_possible (codes "--verdict" ∷ []) ≡ None }
     ensures possible_exit { said_after_possible (codes "--exit" ∷ []) ≡ None }
     ensures golden_table { said_after_golden (codes "--csv" ∷ []) ≡ None }
+    ensures session { said_after_session [] ≡ session_over_s 100000 false None }
+    ensures session_options { said_after_session
+        (codes "--guide" ∷ codes "2" ∷ codes "--brief" ∷ codes "--budget" ∷ codes "10000000" ∷ [])
+        ≡ session_over_s 10000000 true (Some 2) }
+    ensures session_missing { said (codes "session" ∷ codes "s" ∷ []) ≡ None }
+    ensures session_excess { said_after_session (codes "u" ∷ []) ≡ None }
+    ensures session_brief_twice { said_after_session (codes "--brief" ∷ codes "--brief" ∷ []) ≡ None }
+    ensures session_table { said_after_session (codes "--csv" ∷ []) ≡ None }
+    ensures session_budget_zero { said_after_session (codes "--budget=0" ∷ []) ≡ None }
+    ensures session_guide_past { said_after_session (codes "--guide" ∷ codes "5" ∷ []) ≡ None }
 {}
 
 /// Words say no command exactly where `clap` sees a fault in them, a number is wrong, or an answer is to be told in two ways: no
@@ -126,8 +136,8 @@ pub fn refusals_have_causes()
     ensures refused { (words : List (List ℕ)) → IsRefused words → command_of words ≡ None }
 {}
 
-/// The numbers that words say are in their ranges: of `ask`, `explain`, `conflicts`, `golden` and `possible` a
-/// budget of 1 to 10,000,000 and, where one guide is kept, its number of 1 to 4; of `trial` a size of 1 to 1000; of
+/// The numbers that words say are in their ranges: of `ask`, `explain`, `conflicts`, `golden`, `possible` and `session`
+/// a budget of 1 to 10,000,000 and, where one guide is kept, its number of 1 to 4; of `trial` a size of 1 to 1000; of
 /// `explain` a unit of 1 to 2^32 - 1.
 pub fn numbers_are_in_range()
     ensures budget { (words : List (List ℕ)) (a : AskSaid) → command_of words ≡ Some (AskFor a) → (1 ≤ a.budget) ×
@@ -157,4 +167,6 @@ pub fn numbers_are_in_range()
         (1 ≤ t.budget) × (t.budget ≤ 10000000) × IfSome t.guide (λ k. (1 ≤ k) × (k ≤ 4)) }
     ensures possible_table { (words : List (List ℕ)) (t : TableSaid) → command_of words ≡ Some (PossibleTableFor t) →
         (1 ≤ t.budget) × (t.budget ≤ 10000000) × IfSome t.guide (λ k. (1 ≤ k) × (k ≤ 4)) }
+    ensures session { (words : List (List ℕ)) (s : SessionSaid) → command_of words ≡ Some (SessionOver s) →
+        (1 ≤ s.budget) × (s.budget ≤ 10000000) × IfSome s.guide (λ k. (1 ≤ k) × (k ≤ 4)) }
 {}

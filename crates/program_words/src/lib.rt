@@ -9,7 +9,7 @@ mod number;
 mod rows;
 
 pub use command::{
-    AnswerForm, AnswerTable, Ask, Command, Conflicts, Explain, Golden, Possible, Verify,
+    AnswerForm, AnswerTable, Ask, Command, Conflicts, Explain, Golden, Possible, Session, Verify,
 };
 pub use given::{WordsFault, command_given};
 pub use laws::{numbers_are_in_range, refusals_have_causes, words_are_read};

@@ -4,7 +4,7 @@ ghost use Rattle.clap.specs.Simple.{Shape, new_shape};
 ghost use Rattle.clap.specs.declared.builder.command.Command.TheViews.{out-Command};
 ghost use Rattle.program_words.specs.Line.{ask_shape, asked_shape, bare_line, conflicts_shape, explain_shape, flag_rule};
 ghost use Rattle.program_words.specs.Line.{forced_shape, golden_shape, line, on_question, option_rule, possible_shape};
-ghost use Rattle.program_words.specs.Line.{required_rule, trial_shape, verify_shape, with_argument, with_search_options};
+ghost use Rattle.program_words.specs.Line.{required_rule, session_shape, trial_shape, verify_shape, with_argument, with_search_options};
 
 use clap::{Arg, ArgAction, Command};
 use std::alloc::{AllocError, Global};
@@ -151,6 +151,17 @@ fn possible<'a>(alloc: Global) -> Result<Command<'a>, AllocError>
     asked(alloc, "possible")
 }
 
+#[tactic(auto, unfolding(crate::specs::Line::session_shape))]
+fn session<'a>(alloc: Global) -> Result<Command<'a>, AllocError>
+    ensures shape { IfOk result (λ c. shape_of c ≡ session_shape) }
+    ensures local { IfOk result (λ c. (out-Command c).has_globals ≡ false) }
+{
+    let command = with_argument(bare(alloc, "session"), required(alloc, "SPEC"))?;
+    let command = with_argument(command, required(alloc, "SCRIPT"))?;
+    let command = with_search_options(alloc, command)?;
+    with_argument(command, flag(alloc, "brief"))
+}
+
 /// The program with no command yet. Subcommands take its settings on help and version.
 #[tactic(auto, unfolding(crate::specs::Line::bare_line))]
 fn bare_line<'a>(alloc: Global) -> Command<'a>
@@ -182,7 +193,7 @@ fn with_subcommand<'a>(
     added(command, subcommand?)
 }
 
-/// The program with its eight commands.
+/// The program with its nine commands.
 pub(crate) fn line<'a>(alloc: Global) -> Result<Command<'a>, AllocError>
     ensures { IfOk result (λ c. app_of c ≡ line) }
 {
@@ -193,5 +204,6 @@ pub(crate) fn line<'a>(alloc: Global) -> Result<Command<'a>, AllocError>
     let with_explain = with_subcommand(with_trial, explain(alloc))?;
     let with_conflicts = with_subcommand(with_explain, conflicts(alloc))?;
     let with_golden = with_subcommand(with_conflicts, golden(alloc))?;
-    with_subcommand(with_golden, possible(alloc))
+    let with_possible = with_subcommand(with_golden, possible(alloc))?;
+    with_subcommand(with_possible, session(alloc))
 }

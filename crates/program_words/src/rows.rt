@@ -3,10 +3,12 @@ ghost use Rattle.program_words.specs.Numbers.{number_if_given, number_or};
 ghost use Rattle.clap.specs.Words.{found_of, first_of, rows_of, subcommand_rows_of};
 ghost use Rattle.program_words.specs.Said.{said_of};
 ghost use Rattle.program_words.specs.Words.{ask_in, command_in, conflicts_in, explain_in, forced_in, form_of, golden_in, has_flag, is_set};
-ghost use Rattle.program_words.specs.Words.{possible_in, tells_two_ways, trial_in, verify_in};
+ghost use Rattle.program_words.specs.Words.{possible_in, session_in, tells_two_ways, trial_in, verify_in};
 
 use crate::number::{number_if_given, number_or, number_up_to, unit_in};
-use crate::{AnswerForm, AnswerTable, Ask, Command, Conflicts, Explain, Golden, Possible, Verify};
+use crate::{
+    AnswerForm, AnswerTable, Ask, Command, Conflicts, Explain, Golden, Possible, Session, Verify,
+};
 use clap::ArgMatches;
 
 /// The first text of an argument.
@@ -198,6 +200,23 @@ fn possible_in<'a>(given: &ArgMatches<'a>) -> Option<Command<'a>>
     }))
 }
 
+fn session_in<'a>(given: &ArgMatches<'a>) -> Option<Command<'a>>
+    ensures { option_map said_of result ≡ session_in (rows_of (found_of given.now)) }
+{
+    let spec = text_of(given, "SPEC")?;
+    let script = text_of(given, "SCRIPT")?;
+    let budget = budget_in(given)?;
+    let guide = guide_in(given)?;
+    let brief = has_flag(given, "brief");
+    Some(Command::Session(Session {
+        spec,
+        script,
+        budget,
+        brief,
+        guide,
+    }))
+}
+
 /// The command that was found, with what was given to it.
 pub(crate) fn command_in<'a>(matches: &ArgMatches<'a>) -> Option<Command<'a>>
     ensures { option_map said_of result ≡ option_and_then command_in (subcommand_rows_of matches.now) }
@@ -210,6 +229,7 @@ pub(crate) fn command_in<'a>(matches: &ArgMatches<'a>) -> Option<Command<'a>>
         "conflicts" => conflicts_in(given),
         "golden" => golden_in(given),
         "possible" => possible_in(given),
+        "session" => session_in(given),
         "verify" => verify_in(given),
         "forced" => forced_in(given),
         _ => None,

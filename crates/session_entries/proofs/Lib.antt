@@ -1,5 +1,5 @@
 mod PairsNamed
 mod RowsNamed
-mod Ends
-mod NamesKept
+pub mod Ends
+pub mod NamesKept
 mod Unread

@@ -1,16 +1,16 @@
-//! Entries of editing scripts: an entry is bound to an edit of a specification, or refused, and is done.
+//! Entries of editing scripts: an entry is bound to an edit of a specification, or refused, and names are kept true of what is
+//! edited.
 //!
 //! `specs/Entries` says what an entry makes of a specification, and why it is refused. Questions are bound elsewhere.
 #![tactic(auto)]
 
 mod bind;
 mod copied;
-mod done;
 mod fault;
 mod given;
 mod names;
 mod withdrawn;
 
 pub use bind::bind_edit;
-pub use done::do_edit;
-pub use fault::EntryFault;
+pub use fault::{EntryFault, fault_of_edit};
+pub use names::{NameChange, change_of, rename};

@@ -6,5 +6,6 @@ returns c = one_due record {
   specs = c.one_read.ensures.specs;
   questions = c.one_read.ensures.questions;
   trees = c.one_read.ensures.trees;
+  sessions = c.one_session.ensures.due;
   verdicts = c.one_verdict.ensures;
 }

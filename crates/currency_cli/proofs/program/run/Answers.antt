@@ -4,7 +4,8 @@ use Rattle.currency_cli.proofs.program.run.Goals as goal
 use Rattle.currency_cli.proofs.JobsDone.{done_reads, sink_failed, is_denied, is_done, is_undecided, prefix_written, refusal_not_one, refusal_not_zero, refusal_not_three, refusal_not_eight, refusal_not_ten, is_inconsistent}
 use Rattle.currency_cli.proofs.Exact.{comes_to, comes_to_its_own}
 use Rattle.currency_cli.proofs.Refusals.{refused, words_refused, are_words, done_not_two, names_unread}
-use Rattle.currency_cli.proofs.Replies.{answered, blamed, explained, imagined, listed, possibly_tabled, recorded, tabled, verified}
+use Rattle.session_command.proofs.Scripts.{script_one}
+use Rattle.currency_cli.proofs.Replies.{answered, blamed, conducted, explained, imagined, listed, possibly_tabled, recorded, tabled, verified}
 
 -- ---- the job was done
 
@@ -167,6 +168,26 @@ returns-in-Ok-clause-possibly_tabled g c =
 pub returns-in-Err-clause-possibly_tabled : goal.returns-in-Err-clause-possibly_tabled
 returns-in-Err-clause-possibly_tabled g c =
     possibly_tabled c.one_read.ensures.specs c.one_read.ensures.questions (g.S.Shelf.texts c.args.shelf.now) _
+    (map (λ w. string_bytes w) c.args.words.now)
+    (Err c.in-Err.trouble) _ _ _ _ _ _ c.refuse.result c.in-Err.ensures.due c.in-Err.ensures.read_fault c.refuse.ensures
+
+pub returns-in-Ok-clause-conducted : goal.returns-in-Ok-clause-conducted
+returns-in-Ok-clause-conducted g c =
+    conducted c.one_read.ensures.specs (script_one record {
+      tree = c.one_script.ensures.one_tree;
+      refusal = c.one_script.ensures.one_refusal;
+      not_both = c.one_script.ensures.not_both;
+    }) (g.S.Shelf.texts c.args.shelf.now) _
+    (map (λ w. string_bytes w) c.args.words.now)
+    (Ok c.in-Ok.done) _ _ _ _ _ _ c.hand_out.result c.in-Ok.ensures.due c.in-Ok.ensures.read_fault c.hand_out.ensures
+
+pub returns-in-Err-clause-conducted : goal.returns-in-Err-clause-conducted
+returns-in-Err-clause-conducted g c =
+    conducted c.one_read.ensures.specs (script_one record {
+      tree = c.one_script.ensures.one_tree;
+      refusal = c.one_script.ensures.one_refusal;
+      not_both = c.one_script.ensures.not_both;
+    }) (g.S.Shelf.texts c.args.shelf.now) _
     (map (λ w. string_bytes w) c.args.words.now)
     (Err c.in-Err.trouble) _ _ _ _ _ _ c.refuse.result c.in-Err.ensures.due c.in-Err.ensures.read_fault c.refuse.ensures
 

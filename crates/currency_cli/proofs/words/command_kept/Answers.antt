@@ -8,4 +8,4 @@ pub returns-then-keep_for-clause-in_range : goal.returns-then-keep_for-clause-in
 returns-then-keep_for-clause-in_range g c =
     let n = c.numbers_are_in_range.ensures in
     in_range n.budget n.size n.unit n.explain_budget n.conflicts_budget n.golden_budget n.possible_budget n.certain_table
-    n.possible_table (map (λ w. string_bytes w) c.args.words.now) (said_of c.in-Ok.command) c.in-Ok.ensures.taken
+    n.possible_table n.session (map (λ w. string_bytes w) c.args.words.now) (said_of c.in-Ok.command) c.in-Ok.ensures.taken

@@ -1,7 +1,7 @@
 use Rattle.std.proofs.Common.{ℕ, ◌≤◌, Option}
 use Rattle.std.specs.Prelude.{IfSome}
 use Rattle.program_words.specs.Words.{AskFor, CertainTableFor, ConflictsIn, ExplainFor, GoldenIn, PossibleFor}
-use Rattle.program_words.specs.Words.{PossibleTableFor, TrialOf}
+use Rattle.program_words.specs.Words.{PossibleTableFor, SessionOver, TrialOf}
 use Rattle.program_words.proofs.Ranges.{AreInRange, said_in_range}
 use Rattle.program_words.proofs.laws.numbers_are_in_range.Goals as goal
 
@@ -25,4 +25,5 @@ returns c = record {
   possible_guide = λ words p is. (said_in_range words (PossibleFor p) is).guide;
   certain_table = λ words t is. both t.budget t.guide (said_in_range words (CertainTableFor t) is);
   possible_table = λ words t is. both t.budget t.guide (said_in_range words (PossibleTableFor t) is);
+  session = λ words s is. both s.budget s.guide (said_in_range words (SessionOver s) is);
 }

@@ -96,4 +96,12 @@ returns c = record {
   possible_verdict = refl;
   possible_exit = refl;
   golden_table = refl;
+  session = refl;
+  session_options = refl;
+  session_missing = refl;
+  session_excess = refl;
+  session_brief_twice = refl;
+  session_table = refl;
+  session_budget_zero = refl;
+  session_guide_past = refl;
 }

@@ -3,7 +3,7 @@ use Rattle.std.proofs.lemmas.Result.{IfOk-weaker}
 use Rattle.clap.specs.Simple.{Shape}
 use Rattle.clap.specs.Words.{App, with_subcommand}
 use Rattle.program_words.specs.Line.{ask_shape, conflicts_shape, explain_shape, forced_shape, golden_shape, line}
-use Rattle.program_words.specs.Line.{possible_shape, trial_shape, verify_shape}
+use Rattle.program_words.specs.Line.{possible_shape, session_shape, trial_shape, verify_shape}
 use Rattle.program_words.proofs.line.line.Goals as goal
 
 -- one more subcommand after those that are known
@@ -21,5 +21,6 @@ returns c =
     let conflicting =
     then conflicts_shape (c.in_ok-with_conflicts.ensures conflicts_shape c.conflicts.ensures.shape) explains in
     let finds = then golden_shape (c.in_ok-with_golden.ensures golden_shape c.golden.ensures.shape) conflicting in
-    IfOk-weaker c.with_subcommand-8.result _ _ (λ r h. then possible_shape h finds)
-    (c.with_subcommand-8.ensures possible_shape c.possible.ensures.shape)
+    let may = then possible_shape (c.in_ok-with_possible.ensures possible_shape c.possible.ensures.shape) finds in
+    IfOk-weaker c.with_subcommand-9.result _ _ (λ r h. then session_shape h may)
+    (c.with_subcommand-9.ensures session_shape c.session.ensures.shape)

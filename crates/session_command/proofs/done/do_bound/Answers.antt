@@ -5,12 +5,12 @@ use Rattle.spec_names.specs.NameLists.{NameLists}
 use Rattle.spec_names.specs.Names.{all_names_of}
 use Rattle.session_entries.specs.Renamed.{renamed}
 use Rattle.session_entries.proofs.NamesKept.{edit_renames}
-use Rattle.session_entries.proofs.done.do_bound.Goals as goal
+use Rattle.session_command.proofs.done.do_bound.Goals as goal
 
 pub returns-in-Ok-rename-clause-names : goal.returns-in-Ok-rename-clause-names
 returns-in-Ok-rename-clause-names c =
-    let old = c.args.edited.now in
-    let new = c.edit.new.self in
+    let old = c.args.session.now.spec in
+    let new = c.edit.new.self.spec in
     c.in-Ok-rename.ensures.ok
     ∙ ap (λ (ns : NameLists). renamed ns c.spec.result.now.rules c.in-Ok.change) c.requires.names
     ∙ ap (λ (s : Spec). renamed (all_names_of old) s.rules c.in-Ok.change) c.spec.ensures.value

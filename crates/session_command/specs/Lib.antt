@@ -1,0 +1,4 @@
+pub mod Sessions
+pub mod Steps
+pub mod Texts
+pub mod Transcripts
