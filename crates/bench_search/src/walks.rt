@@ -102,9 +102,9 @@ fn descend(arena: &mut Arena, trail: &mut Trail, vars: u32, source: &mut Source,
 
 // A literal of some free variable, if there is one.
 fn some_free(values: &Values, source: &mut Source) -> Option<Lit>
-    requires some { 0 < length values.now }
-    requires few { length values.now ≤ 2 ^ 31 }
-    ensures { IfSome result (λ lit. slice_get values.now (var_of lit) ≡ Some None) }
+    requires some { 0 < length values.now.given }
+    requires few { length values.now.given ≤ 2 ^ 31 }
+    ensures { IfSome result (λ lit. slice_get values.now.given (var_of lit) ≡ Some None) }
 {
     let tried = source.lit(values.len());
     if values.value(tried.var()).is_none() {

@@ -104,7 +104,7 @@ is_place relations c rel attr ent r shape at attr_within ent_within = record {
 }
 
 -- it is read where it was put
-read_put : (c : Rankings) (rel attr ent : ℕ) (list : List RowId) → IsPlace c rel attr ent
+pub read_put : (c : Rankings) (rel attr ent : ℕ) (list : List RowId) → IsPlace c rel attr ent
     → ranking_of (with_ranking c rel attr ent list) rel attr ent ≡ list
 read_put c rel attr ent list is =
     let lists = set (lists_of c rel attr) ent list in
@@ -151,6 +151,32 @@ at_place relations P rel rel' attr attr' ent ent' r r' at at' same holds =
 
 module _ (relations : List Relation) (n : Numbers) (truths : List Bool) (rel : RelId) (attr : AttrId) (ent : ℕ) (r : Relation)
     (at : slice_get relations rel.0 ≡ Some r) (attr_within : attr.0 < length r.attrs) (ent_within : ent < length r.entities)
+  where
+    -- a cycle of this list
+    pub round_is_cycle : (cycle : Cycle) → IsRound (contest_of n truths rel attr r ent) ent cycle → IsCycle relations
+        (statements_of n) truths cycle
+    round_is_cycle cycle is =
+        let same : (cycle.rel ≡ rel) × (cycle.attr ≡ attr) × (cycle.ent.0 ≡ ent) = (is.rel_is, is.attr_is, is.ent_is) in
+        let put : (t u : RowId) → IsPut (statements_of n) truths rel attr r ent t u → IsPut (statements_of n) truths
+        cycle.rel cycle.attr r cycle.ent.0 t u =
+        λ t u h. rw (same.0, same.1, same.2) h in
+        let first_of = entity_is r.rows ent cycle.first is.has_first in
+        let second_of = entity_is r.rows ent cycle.second is.has_second in
+        let third_of = entity_is r.rows ent cycle.third is.has_third in
+        record {
+          relation = r;
+          is_relation = rw same.0 at;
+          attr_within = rw same.1 attr_within;
+          ent_within = rw same.2 ent_within;
+          first_second = put cycle.first cycle.second
+              (record { first_of = first_of; second_of = second_of; put = is.first_second });
+          second_third = put cycle.second cycle.third
+              (record { first_of = second_of; second_of = third_of; put = is.second_third });
+          third_first = put cycle.third cycle.first (record { first_of = third_of; second_of = first_of; put = is.third_first });
+        }
+
+module _ (relations : List Relation) (n : Numbers) (truths : List Bool) (rel : RelId) (attr : AttrId) (ent : ℕ) (r : Relation)
+    (at : slice_get relations rel.0 ≡ Some r) (attr_within : attr.0 < length r.attrs) (ent_within : ent < length r.entities)
     (c : Rankings) (cycles : List Cycle) (built : AreBuilt relations n truths rel.0 attr.0 ent c cycles) where
   -- one more list that has an order
   list_more : (list : List RowId) → IsOrdered (contest_of n truths rel attr r ent) list → HasShape relations
@@ -178,29 +204,6 @@ module _ (relations : List Relation) (n : Numbers) (truths : List Bool) (rel : R
             (λ (x : Cycle). Precedes rel.0 attr.0 (ent + 1) x.rel.0 x.attr.0 x.ent.0)
             (λ x h. precedes_still rel.0 attr.0 ent h) cycles built.before;
         ascend = built.ascend;
-      }
-
-  -- a cycle of this list
-  round_is_cycle : (cycle : Cycle) → IsRound (contest_of n truths rel attr r ent) ent cycle → IsCycle relations
-      (statements_of n) truths cycle
-  round_is_cycle cycle is =
-      let same : (cycle.rel ≡ rel) × (cycle.attr ≡ attr) × (cycle.ent.0 ≡ ent) = (is.rel_is, is.attr_is, is.ent_is) in
-      let put : (t u : RowId) → IsPut (statements_of n) truths rel attr r ent t u → IsPut (statements_of n) truths
-      cycle.rel cycle.attr r cycle.ent.0 t u =
-      λ t u h. rw (same.0, same.1, same.2) h in
-      let first_of = entity_is r.rows ent cycle.first is.has_first in
-      let second_of = entity_is r.rows ent cycle.second is.has_second in
-      let third_of = entity_is r.rows ent cycle.third is.has_third in
-      record {
-        relation = r;
-        is_relation = rw same.0 at;
-        attr_within = rw same.1 attr_within;
-        ent_within = rw same.2 ent_within;
-        first_second = put cycle.first cycle.second
-            (record { first_of = first_of; second_of = second_of; put = is.first_second });
-        second_third = put cycle.second cycle.third
-            (record { first_of = second_of; second_of = third_of; put = is.second_third });
-        third_first = put cycle.third cycle.first (record { first_of = third_of; second_of = first_of; put = is.third_first });
       }
 
   -- one more list that has a cycle
@@ -237,7 +240,8 @@ module _ (relations : List Relation) (n : Numbers) (truths : List Bool) (rel : R
             (built.lists rel' attr' ent' r' at' attr_below ent_below h))
             (λ (h : (rel'.0 ≡ rel.0) × (attr'.0 ≡ attr.0) × (ent' ≡ ent)). inr (rw (h.0, h.1, h.2) here))
             (precedes_more rel.0 attr.0 ent rel'.0 attr'.0 ent' before);
-        each = All-push (IsCycle relations (statements_of n) truths) cycles cycle built.each (round_is_cycle cycle is);
+        each = All-push (IsCycle relations (statements_of n) truths) cycles cycle built.each
+            (round_is_cycle relations n truths rel attr ent r at attr_within ent_within cycle is);
         before = All-push (λ (x : Cycle). Precedes rel.0 attr.0 (ent + 1) x.rel.0 x.attr.0 x.ent.0) cycles cycle
             (All-weaker (λ (x : Cycle). Precedes rel.0 attr.0 ent x.rel.0 x.attr.0 x.ent.0)
             (λ (x : Cycle). Precedes rel.0 attr.0 (ent + 1) x.rel.0 x.attr.0 x.ent.0) still cycles built.before) last;

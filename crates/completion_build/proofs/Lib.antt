@@ -2,8 +2,8 @@ mod Scores
 mod Decisions
 mod Rounds
 mod Falling
-mod Tables
-mod Leading
-mod Building
+pub mod Tables
+pub mod Leading
+pub mod Building
 mod Ends
-mod Whole
+pub mod Whole

@@ -49,7 +49,7 @@ list_within lists ent i row at =
 module _ (exclude : PairExcludes) (pairs : SaidOfPairs) (s : Source) (is : IsSource s)
     (are : AreRelations s.relations) (c : Rankings) where
   -- each list has an order
-  abbrev AllOrdered : Type 0
+  abbrev pub AllOrdered : Type 0
   AllOrdered = (rel : RelId) (attr : AttrId) (ent : ℕ) (r : Relation) → slice_get s.relations rel.0 ≡ Some r
       → attr.0 < length r.attrs
       → ent < length r.entities → IsOrdered (contest_of s.numbers s.truths rel attr r ent) (ranking_of c rel.0 attr.0 ent)
@@ -100,7 +100,7 @@ module _ (exclude : PairExcludes) (pairs : SaidOfPairs) (s : Source) (is : IsSou
         second = b.at;
       }
 
-  ranked_by : HasShape s.relations c → AllOrdered → IsRankedBy s.relations (statements_of s.numbers) s.truths c
+  pub ranked_by : HasShape s.relations c → AllOrdered → IsRankedBy s.relations (statements_of s.numbers) s.truths c
   ranked_by shape ordered = record {
     completion = record {
       shape = shape;

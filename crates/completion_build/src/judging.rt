@@ -11,7 +11,7 @@ use std::alloc::Global;
 
 /// What is found of a list.
 #[derive(Drop)]
-pub(crate) enum Judged {
+pub enum Judged {
     /// Its order.
     Ordered(RowList),
     /// Three rows that form a cycle.

@@ -13,4 +13,5 @@ mod source;
 mod tournament;
 
 pub use built::{Built, Cycle, CycleList};
-pub use ranking::rank;
+pub use judging::Judged;
+pub use ranking::{judge_list, rank};

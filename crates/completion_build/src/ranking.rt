@@ -3,11 +3,12 @@ ghost use Rattle.order_literals.specs.Numbers.{numbers_of};
 ghost use Rattle.order_literals.specs.Statements.{statements_of};
 ghost use Rattle.spec_model.specs.Facts.{AreRelations};
 ghost use Rattle.spec_model.specs.declared.relation.Relation.{Relation};
-ghost use Rattle.completion_build.specs.Places.{AreBuilt};
+ghost use Rattle.completion_build.specs.Judged.{IsJudged};
+ghost use Rattle.completion_build.specs.Places.{AreBuilt, contest_of};
 ghost use Rattle.completion_build.specs.Ranked.{IsBuilt};
 
 use crate::draft::Draft;
-use crate::judging::judge;
+use crate::judging::{Judged, judge};
 use crate::source::Source;
 use crate::{Built, CycleList};
 use currency_base::{Assignment, AttrId, EntId, NoMemory, RelId};
@@ -43,6 +44,35 @@ pub fn rank(
     };
     rank_relations(alloc, &source, &mut draft)?;
     Ok(draft.built())
+}
+
+/// What the assignment says of one list: the order of its rows, or three of them that form a cycle. Takes time in
+/// proportion to the pairs of its rows.
+pub fn judge_list(
+    alloc: Global,
+    spec: &Specification,
+    numbering: &Numbering,
+    wanted: &Wanted,
+    assignment: &Assignment,
+    rel: RelId,
+    attr: AttrId,
+    ent: EntId,
+) -> Result<Judged, NoMemory>
+    requires numbering { numbering.now ≡ numbers_of spec.now.relations wanted.now }
+    requires assignment { length assignment.now ≡ length (statements_of numbering.now) }
+    requires rel { rel.0 < length spec.now.relations }
+    requires attr { (r : Relation) → slice_get spec.now.relations rel.0 ≡ Some r → attr.0 < length r.attrs }
+    requires ent { (r : Relation) → slice_get spec.now.relations rel.0 ≡ Some r → ent.0 < length r.entities }
+    ensures { IfOk result (λ judged. (r : Relation) → slice_get spec.now.relations rel.0 ≡ Some r
+        → IsJudged (contest_of numbering.now assignment.now rel attr r ent.0) ent.0 judged) }
+{
+    let source = Source {
+        spec,
+        numbering,
+        assignment,
+    };
+    let tournament = source.tournament(rel, attr, ent);
+    judge(alloc, &tournament, ent)
 }
 
 // Builds the lists of all relations.

@@ -8,7 +8,7 @@ use std::alloc::Global;
 
 /// An entity of a relation.
 #[derive(Clone, Copy)]
-pub(crate) struct Member {
+pub struct Member {
     pub rel: RelId,
     pub ent: EntId,
 }

@@ -10,4 +10,5 @@ mod lists;
 mod order;
 mod ties;
 
+pub use cells::Member;
 pub use ties::Ties;

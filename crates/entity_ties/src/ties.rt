@@ -1,10 +1,11 @@
-ghost use Rattle.std.specs.Prelude.{◌≡◌, ◌<◌, All, Some, length, map, IfOk};
+ghost use Rattle.std.specs.Prelude.{◌≡◌, ◌<◌, ◌↔◌, All, Contains, Some, length, map, IfOk};
 ghost use Rattle.part_laws.specs.Parts.{ArePlacesOf, IsClosed};
 ghost use Rattle.spec_model.specs.Facts.{AreRelations};
 ghost use Rattle.entity_ties.specs.Labels.{AreTies, cell, grouping_of, label_of, labelling, labels_in, scope_of};
 ghost use Rattle.entity_ties.specs.Parts.{AreHeld};
+ghost use Rattle.entity_ties.specs.declared.cells.Member.{Member};
 
-use crate::cells::{MemberList, number_entities};
+use crate::cells::{Member, MemberList, number_entities};
 use crate::chosen::{chosen_entities, places_of};
 use crate::labels::part_labels;
 use crate::lists::{labels_by_relation, members_by_label};
@@ -75,6 +76,14 @@ impl Ties {
         ensures { label_of self.now (cell rel.0 ent.0) ≡ Some result }
     {
         self.labels.get(rel.0 as usize)[ent.0 as usize]
+    }
+
+    /// The entities of a part, in no order that is told.
+    pub fn members(&self, part: u32) -> &[Member]
+        requires { part < self.now.count }
+        ensures { (m : Member) → Contains result.now m ↔ (label_of self.now (cell m.rel.0 m.ent.0) ≡ Some part) }
+    {
+        self.parts.get(part as usize).as_slice()
     }
 
     /// The places of some of the parts: their entities and the rows of these, by relation, in order and each once. Parts may

@@ -55,7 +55,7 @@ fn search_by(
     let clauses = solver.log().steps.len();
     let total = if searches { CONFLICTS } else { 0 };
     let mut budget = Budget::new(total);
-    let _found = solver.decide(alloc, None, &mut budget, guides)?;
+    let _found = solver.decide(None, &mut budget, guides)?;
     Ok(Searched {
         clauses,
         conflicts: total.saturating_sub(budget.left()),

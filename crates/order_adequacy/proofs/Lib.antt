@@ -5,7 +5,7 @@ mod Decided
 mod LastAxioms
 mod Lists
 mod Models
-mod OneClause
+pub mod OneClause
 pub mod OrderAxioms
 pub mod Orders
 mod Rows

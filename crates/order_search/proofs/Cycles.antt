@@ -193,6 +193,7 @@ module _ (s : Subject) (c : Cycle) (is : IsOfList s c) (old new : List Bool) (ma
   pub marked_held : (solver : Solver) → IsHeld s solver old → HaveThrees s solver.steps c.rel c.attr c.ent.0 → IsHeld s solver new
   marked_held solver held threes = record {
     search = held.search;
+    scope = held.scope;
     lists = subst (AreBrought s solver.steps) (sym marked.marks)
         (brought_mark s solver.steps old (var_of marked.lit) held.lists
         (brought_of s solver.steps c is marked.lit marked.lit_says threes));

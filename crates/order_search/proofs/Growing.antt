@@ -17,6 +17,7 @@ use Rattle.refutation_log.specs.declared.step.Step.TheVariants.{Axiom, Learn, On
 use Rattle.log_axioms.specs.Posed.{Posed}
 use Rattle.order_literals.proofs.Sayings.{says_within}
 use Rattle.order_clauses.specs.Clauses.{AreAxioms, AreTransitive}
+use Rattle.search_trail.specs.Trails.{whole_scope}
 use Rattle.search_state.specs.States.{Frame, IsFit}
 use Rattle.watch_propagate.proofs.KeptLists.{contains_at, get_front}
 use Rattle.watch_solver.specs.Decided.{HasGrown, IsLearnedAfter, Solver}
@@ -77,7 +78,7 @@ brought_more s old added new brought is were = record {
 }
 
 module _ (s : Subject) (solver new : Solver) (brought : List Bool) (held : IsHeld s solver brought)
-    (frame : new.frame ≡ solver.frame)
+    (frame : new.frame ≡ solver.frame) (scope : new.trail.scope ≡ solver.trail.scope)
     (next : AreNext s (posed_of s solver.frame) solver.steps new.steps) where
   search_steps : (place : ℕ) (taken : Step) → slice_get new.steps place ≡ Some taken → (place < length solver.steps)
       ⊎ (length solver.steps ≤ place)
@@ -120,6 +121,7 @@ module _ (s : Subject) (solver new : Solver) (brought : List Bool) (held : IsHel
       };
       counted_new = λ place taken at counted. counted_new place taken at counted (cases_lt place (length solver.steps));
     };
+    scope = scope ∙ held.scope ∙ ap (λ (f : Frame). whole_scope (length f.statements)) (sym frame);
     lists = brought_more s solver.steps next.added new.steps brought next.steps held.lists;
   }
 
@@ -143,9 +145,10 @@ grown_next s posed old new grown = record {
 }
 
 pub held_grown : (s : Subject) (solver new : Solver) (brought : List Bool) → IsHeld s solver brought → new.frame ≡ solver.frame
-    → HasGrown (length solver.frame.statements) solver.steps new.steps → IsHeld s new brought
-held_grown s solver new brought held frame grown =
-    held_next s solver new brought held frame
+    → new.trail.scope ≡ solver.trail.scope → HasGrown (length solver.frame.statements) solver.steps new.steps
+    → IsHeld s new brought
+held_grown s solver new brought held frame scope grown =
+    held_next s solver new brought held frame scope
     (grown_next s (posed_of s solver.frame) solver.steps new.steps
     (subst (λ (ss : List Statement). HasGrown (length ss) solver.steps new.steps) held.search.log.statements grown))
 
@@ -251,9 +254,9 @@ some_axioms s count axioms all = All-take (IsAxiomOf s) count axioms all
 
 -- where axioms were put after the others
 pub held_axioms : (s : Subject) (solver new : Solver) (brought : List Bool) → IsHeld s solver brought → new.frame ≡ solver.frame
-    → HasAxioms s solver.steps new.steps → IsHeld s new brought
-held_axioms s solver new brought held frame has =
-    held_next s solver new brought held frame (axioms_next s (posed_of s solver.frame) solver.steps has.axioms
+    → new.trail.scope ≡ solver.trail.scope → HasAxioms s solver.steps new.steps → IsHeld s new brought
+held_axioms s solver new brought held frame scope has =
+    held_next s solver new brought held frame scope (axioms_next s (posed_of s solver.frame) solver.steps has.axioms
     new.steps has.steps has.are_axioms)
 
 pub same_units : (s : Subject) (old new : List Step) → HasAxioms s old new → counted_steps new ≡ counted_steps old

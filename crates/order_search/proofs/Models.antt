@@ -12,11 +12,11 @@ use Rattle.refutation_log.specs.declared.step.Step.{Step}
 use Rattle.order_literals.specs.Said.{IsClauseTrue, IsLitTrue}
 use Rattle.order_adequacy.specs.Laws.{IsModelOf, ModelsAreCompletions}
 use Rattle.completion_build.specs.Ranked.{IsRankedBy}
-use Rattle.search_trail.specs.Trails.{AreEntries, Trail, entries_up_to}
+use Rattle.search_trail.specs.Trails.{AreEntries, Trail, entries_up_to, values_of, whole_scope}
 use Rattle.conflict_analysis.specs.Analyses.{lits_below}
 use Rattle.search_state.specs.States.{IsFit}
 use Rattle.watch_propagate.proofs.KeptLits.{front_of_trail_consistent}
-use Rattle.watch_solver.specs.Decided.{IsDue, IsModel, Solver, truth_in}
+use Rattle.watch_solver.specs.Decided.{AreTruths, IsDue, IsModel, IsModelOn, Solver, WholeScopeGivesModels, truth_in}
 use Rattle.order_search.specs.Kept.{AreTrue, IsHeld, search_of, vars_of}
 use Rattle.order_search.specs.Searches.{AreClausesTrue, IsCounter, Subject}
 
@@ -45,6 +45,18 @@ model_true vars steps goal truths fit model = λ k d h.
     let clause_fit = All-map (IsFit vars) clause_of steps fit k d h in
     let below = All-contains (λ (lit : Lit). var_of lit < vars) (get_or (clauses_of steps) k d) one.0 clause_fit.within one.1 in
     record { lit = one.0; is_in = one.1; is_true = lit_true truths one.0 (omega (arith, below, model.whole)) one.2 }
+
+-- the truths of the solver's trail are a model, where the trail is one
+pub model_is : WholeScopeGivesModels → (s : Subject) (solver : Solver) (marks truths : List Bool) (goal : Option Lit)
+    → IsHeld s solver marks → solver.trail.vars ≡ length solver.frame.statements
+    → All (λ step. IsFit (length solver.frame.statements) (clause_of step)) solver.steps → AreEntries solver.trail
+    → IsModelOn solver.steps goal solver.trail → AreTruths (values_of solver.trail).given truths
+    → IsModel (length solver.frame.statements) solver.steps goal truths
+model_is law s solver marks truths goal held vars fit are on of =
+    subst (λ (n : ℕ). IsModel n solver.steps goal truths) vars
+    (law solver.steps goal solver.trail truths are
+    (subst (λ (n : ℕ). All (λ step. IsFit n (clause_of step)) solver.steps) (sym vars) fit)
+    (held.scope ∙ ap whole_scope (sym vars)) on of)
 
 -- ---- completions
 

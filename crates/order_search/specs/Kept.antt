@@ -10,6 +10,7 @@ use Rattle.entity_lists.specs.Lists.{entities_of, rows_of}
 use Rattle.partial_orders.specs.Pairs.{entity_of}
 use Rattle.spec_model.specs.declared.relation.Relation.{Relation}
 use Rattle.refutation_log.specs.Steps.{clauses_of}
+use Rattle.search_trail.specs.Trails.{whole_scope}
 use Rattle.refutation_log.specs.declared.statement.Statement.{Statement}
 use Rattle.refutation_log.specs.declared.statement.Statement.TheVariants as says
 use Rattle.refutation_log.specs.declared.step.Label.{Label}
@@ -109,9 +110,10 @@ search_of s solver = record {
   log = record { answers = solver.frame.answers; statements = solver.frame.statements; steps = solver.steps };
 }
 
--- what is kept
+-- what is kept; all variables are of the scope
 pub record IsHeld (s : Subject) (solver : Solver) (brought : List Bool) : Type 0 where
   pub search : IsSearch (search_of s solver)
+  pub scope : solver.trail.scope ≡ whole_scope (length solver.frame.statements)
   pub lists : AreBrought s solver.steps brought
 
 -- ---- rows of lists

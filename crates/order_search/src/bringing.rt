@@ -79,6 +79,7 @@ fn add_list(
     requires list { IsOfList subject.now cycle }
     requires statements { solver.old.frame.statements ≡ vars_of subject.now }
     ensures frame { solver.new.frame ≡ solver.old.frame }
+    ensures scope { solver.new.trail.scope ≡ solver.old.trail.scope }
     ensures added { HasAxioms subject.now solver.old.steps solver.new.steps }
     ensures ok { OnOk result (HaveThrees subject.now solver.new.steps cycle.rel cycle.attr cycle.ent.0) }
 {
@@ -103,6 +104,7 @@ fn mark(subject: &Subject<'_>, brought: &mut Vec<bool>, cycle: Cycle)
 fn add_all(solver: &mut Solver, axioms: &Steps, guides: &mut Guides) -> Result<(), NoMemory>
     requires { All (IsFitAxiom (length solver.old.frame.statements)) axioms.now }
     ensures frame { solver.new.frame ≡ solver.old.frame }
+    ensures scope { solver.new.trail.scope ≡ solver.old.trail.scope }
     ensures ok { OnOk result (solver.new.steps ≡ solver.old.steps ++ axioms.now) }
     ensures added { (count : ℕ) × (solver.new.steps ≡ solver.old.steps ++ take count axioms.now) }
 {
@@ -119,6 +121,7 @@ fn add_all(solver: &mut Solver, axioms: &Steps, guides: &mut Guides) -> Result<(
 fn add(solver: &mut Solver, step: StepRef<'_>, guides: &mut Guides) -> Result<(), NoMemory>
     requires { IsFitAxiom (length solver.old.frame.statements) (step_of step) }
     ensures frame { solver.new.frame ≡ solver.old.frame }
+    ensures scope { solver.new.trail.scope ≡ solver.old.trail.scope }
     ensures ok { OnOk result (solver.new.steps ≡ solver.old.steps ++ step_of step.entry ∷ []) }
     ensures err { OnErr result (solver.new.steps ≡ solver.old.steps) }
 {

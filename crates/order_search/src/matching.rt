@@ -114,6 +114,7 @@ fn put_match(
     requires is_match { IsMatchFor subject.now completion.now m.now answer }
     requires statements { solver.old.frame.statements ≡ vars_of subject.now }
     ensures frame { solver.new.frame ≡ solver.old.frame }
+    ensures scope { solver.new.trail.scope ≡ solver.old.trail.scope }
     ensures ok { OnOk result (HasMatched subject.now completion.now m.now answer counted solver.old.steps solver.new.steps) }
     ensures err { OnErr result (solver.new.steps ≡ solver.old.steps) }
 {

@@ -70,6 +70,7 @@ pub(crate) fn guess(
 ) -> Result<(), NoMemory>
     requires { solver.old.frame.statements ≡ vars_of subject.now }
     ensures frame { solver.new.frame ≡ solver.old.frame }
+    ensures scope { solver.new.trail.scope ≡ solver.old.trail.scope }
     ensures steps { solver.new.steps ≡ solver.old.steps }
 {
     solver.propagate_at_root(guides);

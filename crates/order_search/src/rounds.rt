@@ -1,9 +1,10 @@
-ghost use Rattle.std.specs.Prelude.{◌≡◌, ◌+◌, ◌<◌, length, IfOk, IfSome, IfNone};
+ghost use Rattle.std.specs.Prelude.{◌≡◌, ◌+◌, ◌<◌, ℕ, length, IfOk, IfSome, IfNone};
 ghost use Rattle.currency_base.specs.Literals.{var_of};
 ghost use Rattle.refutation_log.specs.Counted.{counted_steps};
 ghost use Rattle.order_adequacy.specs.Laws.{IsModelOf};
 ghost use Rattle.order_search.specs.Kept.{AreTrue, HasAdded, IsHeld, search_of, unmarked, vars_of};
 ghost use Rattle.order_search.specs.Searches.{Tells};
+ghost use Rattle.watch_solver.specs.Decided.{IsModelOn};
 
 use crate::Outcome;
 use crate::bringing::bring_all;
@@ -16,7 +17,7 @@ use order_literals::{one_literal, pairs_are_decided};
 use solver_guides::Guides;
 use spec_model::Completion;
 use std::alloc::Global;
-use watch_solver::{Budget, Found, counted_stay_new};
+use watch_solver::{Budget, Found, counted_stay_new, whole_scope_gives_models};
 
 /// Decides, by one round after another, until there is an answer.
 pub(crate) fn decided(
@@ -63,20 +64,46 @@ fn round(
 {
     counted_stay_new();
     laws_of_literals();
-    let found = progress.solver.decide(alloc, goal, budget, guides);
-    progress.solver.is_solver();
-    match found {
-        Ok(Found::Model(truths)) => match completed(subject, progress, alloc, &truths, guides) {
-            Ok(Some(completion)) => Ok(Some(Outcome::Model { truths, completion })),
-            Ok(None) => Ok(None),
-            Err(error) => Err(error),
-        },
+    match progress.solver.decide(goal, budget, guides) {
+        Ok(Found::Model) => modelled(subject, progress, alloc, goal, guides),
         Ok(Found::Proved(place)) => Ok(Some(Outcome::Proved(place))),
         Ok(Found::Empty(place)) => Ok(Some(Outcome::Empty(place))),
         Ok(Found::Spent) => {
             progress.solver.trail().are_entries();
             Ok(Some(Outcome::Spent))
         }
+        Err(error) => Err(error),
+    }
+}
+
+// The solver's trail is a model: the completion that it says, unless a list goes round.
+fn modelled(
+    subject: &Subject<'_>,
+    progress: &mut Progress,
+    alloc: Global,
+    goal: Option<Lit>,
+    guides: &mut Guides,
+) -> Result<Option<Outcome>, NoMemory>
+    requires held { IsHeld subject.now progress.old.solver progress.old.brought.items }
+    requires model { IsModelOn progress.old.solver.steps goal progress.old.solver.trail }
+    ensures held { IsHeld subject.now progress.new.solver progress.new.brought.items }
+    ensures added { HasAdded progress.old.solver progress.new.solver }
+    ensures units { counted_steps progress.new.solver.steps ≡ counted_steps progress.old.solver.steps }
+    ensures some { (left : ℕ) → IfOk result (λ outcome. IfSome outcome (Tells (search_of subject.now
+        progress.new.solver) goal left)) }
+    ensures none { IfOk result (λ outcome. IfNone outcome
+        (unmarked progress.new.brought.items < unmarked progress.old.brought.items)) }
+{
+    whole_scope_gives_models();
+    progress.solver.is_solver();
+    progress.solver.trail().are_entries();
+    let truths = match progress.solver.truths(alloc) {
+        Ok(truths) => truths,
+        Err(error) => return Err(error),
+    };
+    match completed(subject, progress, alloc, &truths, guides) {
+        Ok(Some(completion)) => Ok(Some(Outcome::Model { truths, completion })),
+        Ok(None) => Ok(None),
         Err(error) => Err(error),
     }
 }

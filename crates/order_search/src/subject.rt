@@ -113,7 +113,7 @@ impl<'a> Subject<'a> {
         known: &Values,
         turned: bool,
     ) -> Result<Assignment, NoMemory>
-        requires { length known.now ≡ length (vars_of self.now) }
+        requires { length known.now.given ≡ length (vars_of self.now) }
         ensures { IfOk result (IsGuess (vars_of self.now)) }
     {
         start(

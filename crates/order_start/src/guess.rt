@@ -28,7 +28,7 @@ pub fn start(
     turned: bool,
 ) -> Result<Assignment, NoMemory>
     requires numbering { numbering.now ≡ numbers_of spec.now.relations wanted.now }
-    requires known { length known.now ≡ length (statements_of numbering.now) }
+    requires known { length known.now.given ≡ length (statements_of numbering.now) }
     ensures { IfOk result (IsGuess (statements_of numbering.now)) }
 {
     let source = Source {

@@ -27,7 +27,7 @@ impl<'a> Model for Listed<'a> {
 
     ghost view = { λ l. record {
       numbers = l.numbering.now;
-      known = l.known.now;
+      known = l.known.now.given;
       rel = l.rel;
       attr = l.attr;
       rows =
@@ -37,7 +37,7 @@ impl<'a> Model for Listed<'a> {
 
     ghost invariant = { λ l. IsListed (record {
       numbers = l.numbering.now;
-      known = l.known.now;
+      known = l.known.now.given;
       rel = l.rel;
       attr =
           l.attr;

@@ -32,7 +32,7 @@ impl<'a> Model for Source<'a> {
       relations = s.spec.now.relations;
       wanted = s.wanted.now;
       numbers = s.numbering.now;
-      known = s.known.now;
+      known = s.known.now.given;
     } };
 
     ghost invariant = { λ s. IsSubject (record {
@@ -40,7 +40,7 @@ impl<'a> Model for Source<'a> {
       wanted = s.wanted.now;
       numbers =
           s.numbering.now;
-      known = s.known.now;
+      known = s.known.now.given;
     }) };
 }
 

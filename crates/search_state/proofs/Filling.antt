@@ -5,7 +5,7 @@ use Rattle.std.proofs.lemmas.List.Elements.{All-map}
 use Rattle.std.proofs.lemmas.Option.{get_or_from_slice_get, slice_get_within}
 use Rattle.currency_base.specs.declared.lit.Lit.{Lit}
 use Rattle.clause_arena.specs.Arenas.{Arena}
-use Rattle.search_trail.specs.Trails.{Trail}
+use Rattle.search_trail.specs.Trails.{Trail, whole_scope}
 use Rattle.refutation_log.specs.Steps.{clause_of, clauses_of}
 use Rattle.refutation_log.specs.declared.step.Step.{Step}
 use Rattle.search_state.specs.Held.{AreHeld}
@@ -16,25 +16,27 @@ pub record AreIn (vars : ℕ) (steps : List Step) (place : ℕ) (a : Arena) (t :
   pub held : AreHeld (take place (clauses_of steps)) a t refuted
   pub trail_vars : t.vars ≡ vars
   pub ground : t.starts ≡ []
+  pub scope : t.scope ≡ whole_scope vars
   pub arena_vars : length a.watchers ≡ 2 * vars
 
 pub in_begun : (vars : ℕ) (steps : List Step) (a : Arena) (t : Trail) (refuted : Option ℕ) → AreHeld [] a t refuted
-    → t.vars ≡ vars → t.starts ≡ [] → length a.watchers ≡ 2 * vars
+    → t.vars ≡ vars → t.starts ≡ [] → t.scope ≡ whole_scope vars → length a.watchers ≡ 2 * vars
     → AreIn vars steps 0 a t refuted
-in_begun vars steps a t refuted held trail_vars ground arena_vars =
-    record { held = held; trail_vars = trail_vars; ground = ground; arena_vars = arena_vars }
+in_begun vars steps a t refuted held trail_vars ground scope arena_vars =
+    record { held = held; trail_vars = trail_vars; ground = ground; scope = scope; arena_vars = arena_vars }
 
 -- one more
 pub in_more : (vars : ℕ) (steps : List Step) (place : ℕ) (lits : List Lit) (a b : Arena) (t u : Trail)
     (refuted found : Option ℕ) → slice_get (clauses_of steps) place ≡ Some lits
     → (AreHeld (take place (clauses_of steps)) a t refuted → AreHeld (take place (clauses_of steps) ++ lits ∷ []) b u found)
-    → u.vars ≡ t.vars → u.starts ≡ [] → length b.watchers ≡ length a.watchers → AreIn vars steps place a t refuted
-    → AreIn vars steps (place + 1) b u found
-in_more vars steps place lits a b t u refuted found is put same_vars ground same_watchers before =
+    → u.vars ≡ t.vars → u.starts ≡ [] → u.scope ≡ t.scope → length b.watchers ≡ length a.watchers
+    → AreIn vars steps place a t refuted → AreIn vars steps (place + 1) b u found
+in_more vars steps place lits a b t u refuted found is put same_vars ground same_scope same_watchers before =
     record {
       held = subst (λ (cs : List (List Lit)). AreHeld cs b u found) (sym more) (put before.held);
       trail_vars = same_vars ∙ before.trail_vars;
       ground = ground;
+      scope = same_scope ∙ before.scope;
       arena_vars = same_watchers ∙ before.arena_vars;
     }
   where

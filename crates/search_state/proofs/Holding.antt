@@ -1,18 +1,19 @@
 -- What keeps an arena, a trail and the clauses that they hold together.
-use Rattle.std.proofs.Common.{◌≡◌, ◌⊎◌, ◌∙◌, ℕ, List, [], ◌∷◌, ◌++◌, Option, Some, None, is_some, true, false, Contains, length, slice_get, refl, sym, ap, subst, inl, inr, arith}
-use Rattle.std.proofs.lemmas.List.{length_push, map-append}
+use Rattle.std.proofs.Common.{◌≡◌, ◌⊎◌, ◌∙◌, ℕ, List, [], ◌∷◌, ◌++◌, Option, Some, None, is_some, true, false, Contains, length, slice_get, slice_index_or, take, refl, sym, ap, subst, inl, inr, arith}
+use Rattle.std.proofs.lemmas.List.{length-map, length_push, map-append}
 use Rattle.std.proofs.lemmas.List.Elements.{Contains-push}
 use Rattle.std.proofs.lemmas.Option.{same_Some, slice_get_within}
+use Rattle.currency_base.specs.Literals.{negation, var_of}
 use Rattle.currency_base.specs.declared.lit.Lit.{Lit}
 use Rattle.watch_links.specs.Links.{IsIn, list_of}
 use Rattle.clause_arena.specs.Arenas.{Arena, AreWithin, IsWatched, place_of}
-use Rattle.search_trail.specs.Trails.{AreEntries, Entry, Trail, assumed, implied, lits_of, undone}
+use Rattle.search_trail.specs.Trails.{AreEntries, Entry, Trail, assumed, entries_up_to, focused, implied, lits_of, rebased, undone, with_reason}
 use Rattle.refutation_log.specs.Counted.{HasTrue, IsOpen, IsUnit}
-use Rattle.watch_propagate.specs.WatchRule.{AreReordered, AreSameLits, HasAdded, HasReason, Implies, IsDueTo, IsQuiet, IsRewatched, KeepsWatch}
+use Rattle.watch_propagate.specs.WatchRule.{AreGuarded, AreReordered, AreSameLits, HasAdded, HasReason, Implies, IsDueTo, IsQuiet, IsRewatched, KeepsWatch}
 use Rattle.watch_propagate.proofs.KeptLists.{contains_at, get_end, get_left, get_push}
-use Rattle.watch_propagate.proofs.KeptRules.{keeps_assumed, keeps_begun, keeps_learned, keeps_quiet, keeps_undone}
+use Rattle.watch_propagate.proofs.KeptRules.{keeps_assumed, keeps_begun, keeps_learned, keeps_quiet, keeps_rebased, keeps_undone}
 use Rattle.watch_propagate.proofs.KeptWatchers.{added_is_watched, watched_added}
-use Rattle.watch_propagate.proofs.ReasonFacts.{reasons_added, reasons_assumed, reasons_dropped, reasons_implied, reasons_propagated, reasons_undone}
+use Rattle.watch_propagate.proofs.ReasonFacts.{lits_rebased, reasons_added, reasons_assumed, reasons_dropped, reasons_implied, reasons_propagated, reasons_rebased, reasons_undone}
 use Rattle.watch_propagate.proofs.SameFacts.{clause_there, has_true_same, reordered_then}
 use Rattle.search_state.specs.Held.{AreHeld, AreWatchedOrTrue, BeginsOpen, BeginsTrue, BeginsUnit, IsAllFalse, IsRefuted}
 use Rattle.search_state.specs.Held.{ground_lits}
@@ -109,6 +110,74 @@ held_undone clauses a t refuted level are held =
           let r = held.stuck clause e in
           subst (λ (u : Trail). IsRefuted a u clause) (sym (undone_none t level are r.starts)) r;
     }
+
+-- another scope makes no difference
+guarded_focused : (t : Trail) (scope : List ℕ) (first second : Lit) → AreGuarded t first second
+    → AreGuarded (focused t scope) first second
+guarded_focused t scope first second g = record { at_present = g.at_present; at_starts = g.at_starts }
+
+pub held_focused : (clauses : List (List Lit)) (a : Arena) (t : Trail) (refuted : Option ℕ) (scope : List ℕ)
+    → AreHeld clauses a t refuted → AreHeld clauses a (focused t scope) refuted
+held_focused clauses a t refuted scope held =
+    record {
+      reordered = held.reordered;
+      reasons = held.reasons;
+      goes_on = λ e.
+          let goes = held.goes_on e in
+          record {
+            rule = record {
+              passed = goes.rule.passed;
+              guarded = λ clause w. guarded_focused t scope w.first w.second (goes.rule.guarded clause w);
+            };
+            covered = goes.covered;
+          };
+      stuck = λ clause e.
+          let r = held.stuck clause e in
+          record {
+            starts = r.starts;
+            falsified = record {
+              lits = r.falsified.lits;
+              is_clause = r.falsified.is_clause;
+              all_false = r.falsified.all_false;
+            };
+          };
+    }
+
+-- a clause of one literal, which is true, becomes the reason of that literal
+pub held_rebased : (clauses : List (List Lit)) (a : Arena) (t : Trail) (refuted : Option ℕ) (lit : Lit) (clause : ℕ)
+    → AreEntries t → Contains (lits_of t) lit → slice_get a.clauses clause ≡ Some (lit ∷ []) → AreHeld clauses a t refuted
+    → AreHeld clauses a (rebased t (var_of lit) clause) refuted
+held_rebased clauses a t refuted lit clause are holds alone held =
+    record {
+      reordered = held.reordered;
+      reasons = reasons_rebased a t lit clause are holds alone held.reasons;
+      goes_on = λ e.
+          let goes = held.goes_on e in
+          record {
+            rule = keeps_rebased a t (var_of lit) clause goes.rule;
+            covered = covered_more a t (rebased t (var_of lit) clause)
+                (λ x c. subst (λ (ls : List Lit). Contains ls x) grounds c) goes.covered;
+          };
+      stuck = λ number e.
+          let r = held.stuck number e in
+          record {
+            starts = r.starts;
+            falsified = record {
+              lits = r.falsified.lits;
+              is_clause = r.falsified.is_clause;
+              all_false = λ l c. subst (λ (ls : List Lit). Contains ls (negation l)) same (r.falsified.all_false l c);
+            };
+          };
+    }
+  where
+    same : lits_of t ≡ lits_of (rebased t (var_of lit) clause)
+    same = sym (lits_rebased (var_of lit) clause t.entries)
+
+    grounds : ground_lits t ≡ ground_lits (rebased t (var_of lit) clause)
+    grounds =
+        ap (λ (n : ℕ). take (slice_index_or t.starts 0 n) (lits_of t))
+        (sym (length-map t.entries (with_reason (var_of lit) clause)))
+        ∙ ap (take (entries_up_to (rebased t (var_of lit) clause) 0)) same
 
 -- ---- one clause more
 

@@ -1,7 +1,7 @@
 -- An open literal's variable is free, and a clause whose others are false is its reason.
-use Rattle.std.proofs.Common.{◌≡◌, ◌<◌, ◌*◌, ◌∙◌, ℕ, Bool, true, false, not, List, Option, Some, None, All, IfSome, length, slice_get, slice_index_or, refl, sym, ap, subst, arith}
+use Rattle.std.proofs.Common.{◌≡◌, ◌⊎◌, ◌<◌, ◌*◌, ◌∙◌, ℕ, Bool, true, false, not, List, [], ◌∷◌, Contains, Option, Some, None, All, IfSome, length, slice_get, slice_index_or, refl, sym, ap, subst, inl, inr, arith}
 use Rattle.std.proofs.lemmas.List.Elements.{All-contains}
-use Rattle.std.proofs.lemmas.Option.{get_or_from_slice_get, slice_get-get_or}
+use Rattle.std.proofs.lemmas.Option.{get_or_from_slice_get, same_Some, slice_get-get_or}
 use Rattle.currency_base.specs.Literals.{is_negative, var_of}
 use Rattle.currency_base.specs.declared.lit.Lit.{Lit}
 use Rattle.clause_arena.specs.Arenas.{Arena, AreWithin}
@@ -10,7 +10,7 @@ use Rattle.refutation_log.specs.Counted.{IsOpen}
 use Rattle.watch_propagate.specs.WatchRule.{AreSameLits, HasAdded}
 use Rattle.watch_propagate.proofs.KeptLists.{contains_at, get_end}
 use Rattle.watch_propagate.proofs.WalkLits.{place_within, value_false, value_true}
-use Rattle.search_state.specs.Held.{BeginsUnit}
+use Rattle.search_state.specs.Held.{BeginsOpen, BeginsTrue, BeginsUnit}
 
 pub free_of_open : (t : Trail) (lit : Lit) → IsOpen (lits_of t) lit → IsFree t (var_of lit)
 free_of_open t lit is_open = go (value_in (lits_of t) (var_of lit)) refl
@@ -30,6 +30,24 @@ pub first_read : (truths lits : List Lit) (begins : BeginsUnit truths lits) (x d
     → begins.first ≡ x
 first_read truths lits begins x d is = sym (get_or_from_slice_get lits 0 begins.first d begins.is_first) ∙ sym is
 
+-- a clause that was put in stands there under its number
+pub put_there : (old new : Arena) (lits : List Lit) (number : ℕ) → HasAdded old new lits → number ≡ length old.clauses
+    → slice_get new.clauses number ≡ Some lits
+put_there old new lits number added is =
+    ap (slice_get new.clauses) is ∙ ap (λ (cs : List (List Lit)). slice_get cs (length old.clauses)) added.clauses
+    ∙ get_end old.clauses lits
+
+-- where the first literal is true or the first two are open, and there is one alone, that one is true
+pub one_true : (truths lits : List Lit) (x d : Lit) → length lits ≡ 1 → x ≡ slice_index_or lits 0 d
+    → BeginsTrue truths lits ⊎ BeginsOpen truths lits → Contains truths x × (lits ≡ x ∷ [])
+one_true truths [] x d one is begins = absurd (omega (arith, one))
+one_true truths (y ∷ []) x d one is (inl t) = (
+  subst (Contains truths) (sym (same_Some y t.first t.is_first) ∙ sym is) t.is_true,
+  ap (λ (z : Lit). z ∷ []) (sym is),
+)
+one_true truths (y ∷ []) x d one is (inr o) = let no : ⊥ = cc in absurd no
+one_true truths (y ∷ z ∷ rest) x d one is begins = absurd (omega (arith, one))
+
 pub reason_read : (old new : Arena) (truths lits : List Lit) (begins : BeginsUnit truths lits) (x : Lit) (number : ℕ)
     → begins.first ≡ x → HasAdded old new lits
     → number ≡ length old.clauses → IfSome (slice_get new.clauses number) (λ ls. IsReason ls truths x)
@@ -38,8 +56,7 @@ reason_read old new truths lits begins x number same added is =
     (subst (IsReason lits truths) same (record { is_in = begins.unit.is_in; others = begins.unit.others }))
   where
     there : slice_get new.clauses number ≡ Some lits
-    there = ap (slice_get new.clauses) is ∙ ap (λ (cs : List (List Lit)). slice_get cs (length old.clauses))
-        added.clauses ∙ get_end old.clauses lits
+    there = put_there old new lits number added is
 
 -- literals of the variables have their places in the arena
 pub within_by_vars : (a : Arena) (vars : ℕ) (lits : List Lit) → length a.watchers ≡ 2 * vars

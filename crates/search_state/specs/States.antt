@@ -18,7 +18,8 @@ pub record Frame : Type 0 where
   pub answers : List (List Datum)
   pub statements : List Statement
 
--- the frame and the steps of a log; the trail; and whether a step's clause was found false while nothing was assumed
+-- the frame and the steps of a log; the trail, with its scope; and whether a step's clause was found false while nothing
+-- was assumed
 pub record State : Type 0 where
   pub frame : Frame
   pub steps : List Step
@@ -66,6 +67,7 @@ pub record IsExtended (old new : State) : Type 0 where
   pub steps : new.steps ≡ old.steps
   pub refuted : new.refuted ≡ old.refuted
   pub starts : new.trail.starts ≡ old.trail.starts
+  pub scope : new.trail.scope ≡ old.trail.scope
   pub added : List Entry
   pub entries : new.trail.entries ≡ old.trail.entries ++ added
 

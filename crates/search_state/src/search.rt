@@ -1,10 +1,11 @@
-ghost use Rattle.std.specs.Prelude.{◌≡◌, ◌<◌, ◌≤◌, ◌*◌, ◌^◌, ◌∷◌, ◌++◌, ℕ, List, [], All, Contains, Some, None, length, slice_get, IfOk, OnOk};
+ghost use Rattle.std.specs.Prelude.{◌≡◌, ◌⊎◌, ◌<◌, ◌≤◌, ◌*◌, ◌^◌, ◌∷◌, ◌++◌, ℕ, List, [], All, Contains, Some, None, length, slice_get, IfOk, OnOk};
 ghost use Rattle.currency_base.specs.Lists.{OnlyOnce};
+ghost use Rattle.currency_base.specs.Literals.{var_of};
 ghost use Rattle.currency_base.specs.declared.lit.Lit.{Lit};
 ghost use Rattle.clause_arena.specs.Arenas.{AreWithin};
-ghost use Rattle.search_trail.specs.Trails.{implied, lits_of, undone};
+ghost use Rattle.search_trail.specs.Trails.{implied, lits_of, undone, whole_scope};
 ghost use Rattle.watch_propagate.specs.WatchRule.{HasAdded, IsDueTo};
-ghost use Rattle.search_state.specs.Held.{AreHeld, BeginsUnit};
+ghost use Rattle.search_state.specs.Held.{AreHeld, BeginsOpen, BeginsTrue, BeginsUnit};
 ghost use Rattle.search_state.specs.States.{IsFit};
 
 use crate::orders::{Standing, arrange};
@@ -32,6 +33,7 @@ impl Search {
         ensures held { IfOk result (λ s. AreHeld [] s.arena s.trail s.refuted) }
         ensures vars { IfOk result (λ s. s.trail.vars ≡ vars) }
         ensures ground { IfOk result (λ s. s.trail.starts ≡ []) }
+        ensures scope { IfOk result (λ s. s.trail.scope ≡ whole_scope vars) }
         ensures watchers { IfOk result (λ s. length s.arena.watchers ≡ 2 * vars) }
     {
         let Ok(arena) = Arena::new(alloc, vars) else {
@@ -91,6 +93,7 @@ impl Search {
             → AreHeld (clauses ++ self.old.lits.items ∷ []) self.new.arena self.new.trail self.new.refuted }
         ensures ground { self.new.trail.starts ≡ [] }
         ensures vars { self.new.trail.vars ≡ self.old.trail.vars }
+        ensures scope { self.new.trail.scope ≡ self.old.trail.scope }
         ensures watchers { length self.new.arena.watchers ≡ length self.old.arena.watchers }
     {
         let standing = arrange(&mut self.lits, &self.trail);
@@ -100,10 +103,31 @@ impl Search {
             return;
         }
         match standing {
-            Standing::Rests => {}
+            Standing::Rests => self.rest(number),
             Standing::Implies => self.trail.imply(&self.arena, self.lits[0], number),
             Standing::Fails => self.refuted = Some(number.0),
         }
+    }
+
+    // A clause of one literal, which is true, becomes the reason of that literal, so that what is explained by it is not
+    // explained by the chain that made it true.
+    fn rest(&mut self, number: ClauseNo)
+        requires first { BeginsTrue (lits_of self.old.trail) self.old.lits.items ⊎ BeginsOpen (lits_of self.old.trail)
+            self.old.lits.items }
+        requires within { All (λ lit. var_of lit < self.old.trail.vars) self.old.lits.items }
+        requires there { slice_get self.old.arena.clauses number.0 ≡ Some self.old.lits.items }
+        ensures held { (clauses : List (List Lit)) → AreHeld clauses self.old.arena self.old.trail self.old.refuted
+            → AreHeld clauses self.new.arena self.new.trail self.new.refuted }
+        ensures ground { self.new.trail.starts ≡ self.old.trail.starts }
+        ensures vars { self.new.trail.vars ≡ self.old.trail.vars }
+        ensures scope { self.new.trail.scope ≡ self.old.trail.scope }
+        ensures watchers { length self.new.arena.watchers ≡ length self.old.arena.watchers }
+    {
+        if self.lits.len() != 1 {
+            return;
+        }
+        self.trail.are_entries();
+        self.trail.rebase(&self.arena, self.lits[0], number);
     }
 
     /// Puts a clause in whose first literal is open and whose others are false, and makes that literal true.
@@ -135,7 +159,7 @@ pub(crate) fn go_back(trail: &mut Trail, level: u32, guides: &mut Guides)
     ensures { trail.new ≡ undone trail.old level }
 {
     for lit in trail.above(level) {
-        guides.freed(*lit);
+        guides.freed(*lit, trail.values());
     }
     trail.undo_to(level);
 }

@@ -1,6 +1,6 @@
 ghost use Rattle.std.specs.Prelude.{◌≡◌, ◌<◌, ◌≤◌, ◌^◌, ◌∷◌, ◌++◌, [], All, Contains, Some, None, true, false, length, IfOk, OnOk, OnErr, IfSome, IfNone, slice_get};
 ghost use Rattle.currency_base.specs.Literals.{var_of};
-ghost use Rattle.search_trail.specs.Trails.{AreEntries, IsFree, assumed, undone, lits_of};
+ghost use Rattle.search_trail.specs.Trails.{AreEntries, IsFree, IsScope, assumed, focused, lits_of, undone, whole_scope};
 ghost use Rattle.refutation_log.specs.Steps.{clause_of, step_of};
 ghost use Rattle.search_state.specs.States.{HasConcluded, HasLearned, HasRefuted, HasTrail, IsExtended, IsFalse, IsFit, IsGround, IsNotBelow, IsQuiet, IsState, true_lits, vars_of};
 
@@ -45,11 +45,12 @@ impl Model for State {
 }
 
 impl State {
-    /// The state where nothing is assumed, over a log. Its statements are the variables.
+    /// The state where nothing is assumed, over a log. Its statements are the variables, and all are of the scope.
     pub fn new(alloc: Global, log: Log) -> Result<State, NoMemory>
         requires few { length log.statements ≤ 2 ^ 31 }
         requires fit { All (λ step. IsFit (length log.statements) (clause_of step)) log.steps }
-        ensures { IfOk result (λ s. IsGround s (record { answers = log.answers; statements = log.statements }) log.steps) }
+        ensures ground { IfOk result (λ s. IsGround s (record { answers = log.answers; statements = log.statements }) log.steps) }
+        ensures scope { IfOk result (λ s. s.trail.scope ≡ whole_scope (length log.statements)) }
     {
         let vars = log.statements.len() as u32;
         let Ok(analysis) = Analysis::new(alloc, vars) else {
@@ -74,7 +75,14 @@ impl State {
         &self.log
     }
 
-    /// The literals that are true, and where levels begin.
+    /// How many steps there are.
+    pub fn count(&self) -> u32
+        ensures { result ≡ length self.now.steps }
+    {
+        self.search.arena.count()
+    }
+
+    /// The literals that are true, where levels begin, and the scope.
     pub fn trail(&self) -> &Trail
         ensures { result.now ≡ self.now.trail }
     {
@@ -98,11 +106,24 @@ impl State {
         self.search.trail.are_entries();
     }
 
+    /// Takes another scope, in time in proportion to it. A refusal changes nothing.
+    pub fn focus(&mut self, alloc: Global, scope: &[u32]) -> Result<(), NoMemory>
+        requires { IsScope (vars_of self.old) scope.now }
+        ensures ok { OnOk result (HasTrail self.old self.new (focused self.old.trail scope.now)) }
+        ensures err { OnErr result (self.new ≡ self.old) }
+    {
+        let Ok(()) = self.search.trail.focus(alloc, scope) else {
+            return Err(NoMemory);
+        };
+        Ok(())
+    }
+
     /// Puts a step after the others, where nothing is assumed. A refusal changes nothing.
     pub fn add(&mut self, step: StepRef<'_>) -> Result<(), NoMemory>
         requires ground { self.old.trail.starts ≡ [] }
         requires fit { IsFit (vars_of self.old) (clause_of (step_of step)) }
         ensures ok { OnOk result (IsGround self.new self.old.frame (self.old.steps ++ step_of step.entry ∷ [])) }
+        ensures scope { self.new.trail.scope ≡ self.old.trail.scope }
         ensures err { OnErr result (self.new ≡ self.old) }
     {
         let Ok(()) = append(&mut self.log.steps, &mut self.search, step) else {
@@ -186,6 +207,7 @@ impl State {
     pub fn refute(&mut self, conflict: u32, guides: &mut Guides) -> Result<u32, NoMemory>
         requires conflict { IsFalse self.old conflict }
         ensures frame { self.new.frame ≡ self.old.frame }
+        ensures scope { self.new.trail.scope ≡ self.old.trail.scope }
         ensures ok { OnOk result (HasRefuted self.old self.new) }
         ensures place { IfOk result (λ place. place ≡ length self.old.steps) }
         ensures err { OnErr result (self.new.steps ≡ self.old.steps) }
@@ -210,6 +232,7 @@ impl State {
         requires ground { self.old.trail.starts ≡ [] }
         requires holds { Contains (true_lits self.old) lit }
         ensures frame { self.new.frame ≡ self.old.frame }
+        ensures scope { self.new.trail.scope ≡ self.old.trail.scope }
         ensures ok { OnOk result (HasConcluded self.old self.new (lit ∷ [])) }
         ensures place { IfOk result (λ place. place ≡ length self.old.steps) }
         ensures err { OnErr result (self.new.steps ≡ self.old.steps) }

@@ -1,5 +1,6 @@
 ghost use Rattle.std.specs.Prelude.{◌≡◌, ◌≤◌, ◌*◌, ◌^◌, ◌∷◌, ◌++◌, ℕ, List, [], All, true, false, length, IfOk, OnOk, OnErr};
 ghost use Rattle.currency_base.specs.declared.lit.Lit.{Lit};
+ghost use Rattle.search_trail.specs.Trails.{whole_scope};
 ghost use Rattle.refutation_log.specs.Steps.{clause_of, clauses_of, step_of};
 ghost use Rattle.refutation_log.specs.declared.step.Step.TheVariants.{Learn};
 ghost use Rattle.search_state.specs.Held.{AreHeld};
@@ -18,6 +19,7 @@ pub(crate) fn filled(alloc: Global, vars: u32, steps: &Steps) -> Result<Search, 
     ensures held { IfOk result (λ s. AreHeld (clauses_of steps.now) s.arena s.trail s.refuted) }
     ensures vars { IfOk result (λ s. s.trail.vars ≡ vars) }
     ensures ground { IfOk result (λ s. s.trail.starts ≡ []) }
+    ensures scope { IfOk result (λ s. s.trail.scope ≡ whole_scope vars) }
     ensures watchers { IfOk result (λ s. length s.arena.watchers ≡ 2 * vars) }
 {
     let mut search = match Search::new(alloc, vars) {
@@ -48,6 +50,7 @@ pub(crate) fn append(
         → AreHeld (clauses ++ clause_of (step_of step.entry) ∷ []) search.new.arena search.new.trail search.new.refuted) }
     ensures ground { search.new.trail.starts ≡ [] }
     ensures vars { search.new.trail.vars ≡ search.old.trail.vars }
+    ensures scope { search.new.trail.scope ≡ search.old.trail.scope }
     ensures watchers { length search.new.arena.watchers ≡ length search.old.arena.watchers }
     ensures err_steps { OnErr result (steps.new ≡ steps.old) }
     ensures err_held { OnErr result ((clauses : List (List Lit)) → AreHeld clauses search.old.arena search.old.trail
@@ -82,6 +85,7 @@ pub(crate) fn conclude(
         → AreHeld (clauses ++ analysis.now.lits ∷ []) search.new.arena search.new.trail search.new.refuted) }
     ensures ground { search.new.trail.starts ≡ [] }
     ensures vars { search.new.trail.vars ≡ search.old.trail.vars }
+    ensures scope { search.new.trail.scope ≡ search.old.trail.scope }
     ensures watchers { length search.new.arena.watchers ≡ length search.old.arena.watchers }
     ensures place { IfOk result (λ place. place ≡ length steps.old) }
     ensures err_steps { OnErr result (steps.new ≡ steps.old) }

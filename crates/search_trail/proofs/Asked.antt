@@ -35,10 +35,12 @@ module _ (values : List (Option Bool)) (lits : List Lit) (places reasons starts 
       ap reason_at there ∙ sym (reason_there reasons lits var b (value_known var (Some b) at))
 
   -- the place of a variable that has a value
-  pub place_known : (var n : ℕ) → var < length values → n ≡ get_or places var n
-      → (IsFree (record { vars = length values; entries = entries_of reasons lits; starts = starts; gone = gone }) var → ⊥)
-      → StandsAt (record { vars = length values; entries = entries_of reasons lits; starts = starts; gone = gone }) var n
-  place_known var n within read given =
+  pub place_known : (var n : ℕ) (scope : List ℕ) → var < length values → n ≡ get_or places var n
+      → (IsFree (record { vars = length values; entries = entries_of reasons lits; starts = starts; gone = gone; scope = scope })
+      var → ⊥)
+      → StandsAt (record { vars = length values; entries = entries_of reasons lits; starts = starts; gone = gone; scope = scope })
+      var n
+  place_known var n scope within read given =
       let there : n ≡ slice_index_or places var 0 = get_or_read places var n (omega (arith, within, is.places_length)) read 0 in
       let found = place_of lits var (λ none. given (ap (λ (ls : List Lit). value_in ls var)
       (lits_of_entries reasons lits) ∙ none)) in
@@ -52,10 +54,10 @@ module _ (values : List (Option Bool)) (lits : List Lit) (places reasons starts 
       }
 
   -- and it is the one where the variable stands
-  pub place_read : (var place n : ℕ) → var < length values → n ≡ get_or places var n
-      → StandsAt (record { vars = length values; entries = entries_of reasons lits; starts = starts; gone = gone })
+  pub place_read : (var place n : ℕ) (scope : List ℕ) → var < length values → n ≡ get_or places var n
+      → StandsAt (record { vars = length values; entries = entries_of reasons lits; starts = starts; gone = gone; scope = scope })
       var place → n ≡ place
-  place_read var place n within read stands =
+  place_read var place n scope within read stands =
       let there : n ≡ slice_index_or places var 0 = get_or_read places var n (omega (arith, within, is.places_length)) read 0 in
       there ∙ ap (λ v. slice_index_or places v 0) (sym stands.is_of)
       ∙ is.places_are place stands.entry.lit (lit_at reasons lits place stands.entry stands.is_entry)

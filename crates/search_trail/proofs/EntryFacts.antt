@@ -7,7 +7,7 @@ use Rattle.std.proofs.lemmas.Option.{slice_get-map}
 use Rattle.currency_base.specs.Lists.{OnlyOnce}
 use Rattle.currency_base.specs.Literals.{var_of}
 use Rattle.currency_base.specs.declared.lit.Lit.{Lit}
-use Rattle.search_trail.specs.Trails.{Entry, value_in, reason_in}
+use Rattle.search_trail.specs.Trails.{Entry, value_in, reason_in, with_reason}
 use Rattle.search_trail.specs.Kept.{Once, entries_of, reason_at}
 use Rattle.search_trail.proofs.LitFacts.{none_here, none_past, same_place}
 
@@ -59,6 +59,32 @@ entries_more reasons lits lit n reason fresh h is =
     entries_push (slice_set reasons (var_of lit) n) lits lit
     ∙ ap (λ (e : Entry). entries_of (slice_set reasons (var_of lit) n) lits ++ e ∷ []) last
     ∙ ap (λ (es : List Entry). es ++ record { lit = lit; reason = reason } ∷ []) (entries_set reasons (var_of lit) n lits fresh)
+
+-- another reason for the literal of a variable
+pub entries_rebased : (reasons : List ℕ) (lits : List Lit) (var n : ℕ) → var < length reasons → reason_at n ≡ Some n
+    → entries_of (slice_set reasons var n) lits ≡ map (with_reason var n) (entries_of reasons lits)
+entries_rebased reasons [] var n within is = refl
+entries_rebased reasons (x ∷ xs) var n within is =
+    ap (λ (e : Entry). e ∷ entries_of (slice_set reasons var n) xs) (here (cases_eq (var_of x) var))
+    ∙ ap (λ (es : List Entry). with_reason var n (entry_of reasons x) ∷ es) (entries_rebased reasons xs var n within is)
+  where
+    here : (var_of x ≡ var) ⊎ (var_of x ≡ var → ⊥) → entry_of (slice_set reasons var n) x ≡ with_reason var n (entry_of reasons x)
+    here (inl e) =
+        let read : slice_index_or (slice_set reasons var n) (var_of x) 4294967295 ≡ n =
+        ap (λ (v : ℕ). slice_index_or (slice_set reasons var n) v 4294967295) e
+        ∙ get_or-set_same reasons var n 4294967295 within in
+        let now : entry_of (slice_set reasons var n) x ≡ record { lit = x; reason = Some n } =
+        ap (λ (r : Option ℕ). let d : Entry = record { lit = x; reason = r } in d) (ap reason_at read ∙ is) in
+        let other : with_reason var n (entry_of reasons x) ≡ record { lit = x; reason = Some n } =
+        rw (eq-eqb (var_of x) var e) refl in
+        now ∙ sym other
+    here (inr d) =
+        let read : slice_index_or (slice_set reasons var n) (var_of x) 4294967295 ≡ slice_index_or reasons (var_of x) 4294967295 =
+        get_or-set_other reasons var (var_of x) n 4294967295 d in
+        let now : entry_of (slice_set reasons var n) x ≡ entry_of reasons x =
+        ap (λ (m : ℕ). let e : Entry = record { lit = x; reason = reason_at m } in e) read in
+        let other : with_reason var n (entry_of reasons x) ≡ entry_of reasons x = rw (ne_eqb (var_of x) var d) refl in
+        now ∙ sym other
 
 -- the literal at a place is that of the entry there
 pub lit_at : (reasons : List ℕ) (lits : List Lit) (place : ℕ) (e : Entry) → slice_get (entries_of reasons lits)

@@ -1,15 +1,16 @@
 -- The parts of a trail fit each other: at the start, with one more literal, and without the levels above one.
 use Rattle.std.proofs.Common.{◌≡◌, ◌⊎◌, ◌<◌, ◌≤◌, ◌+◌, ◌^◌, ◌∙◌, min, ℕ, Bool, not, List, [], ◌∷◌, ◌++◌, Option, Some, None, All, length, take, drop, replicate, slice_get, slice_set, slice_index_or, sym, ap, subst, inl, inr, arith}
+use Rattle.std.proofs.lemmas.Bool.{cases_eq}
 use Rattle.std.proofs.lemmas.List.{get_or-set_other, get_or-set_same, length-set, length-replicate, length-take, take-append-drop}
 use Rattle.std.proofs.lemmas.List.Elements.{All-push, All-take, All-nil}
 use Rattle.std.proofs.lemmas.List.FromFn.{length-map-range_with_len}
 use Rattle.currency_base.specs.Literals.{var_of, is_negative}
 use Rattle.currency_base.specs.declared.lit.Lit.{Lit}
-use Rattle.search_trail.specs.Trails.{AreEntries, value_in}
+use Rattle.search_trail.specs.Trails.{AreEntries, Ascend, value_in}
 use Rattle.search_trail.specs.Kept.{IsTrail, Once, entries_of, freed}
 use Rattle.search_trail.proofs.LitFacts.{once_push, once_left, has_value, room_for, few_lits}
 use Rattle.search_trail.proofs.EntryFacts.{as_many, all_within, entries_once, lit_at, no_reason, reason_of_entry}
-use Rattle.search_trail.proofs.LevelFacts.{Ascend, AreBelow, get_take, get_taken, get_push, get_kept, get_last, length_more, few_starts, ascend_push, below_push, opened_below}
+use Rattle.search_trail.proofs.LevelFacts.{AreBelow, get_take, get_taken, get_push, get_kept, get_last, length_more, few_starts, ascend_push, below_push, opened_below}
 use Rattle.search_trail.proofs.ValueLists.{values_by, no_values, values_push, values_freed}
 
 -- no literal
@@ -172,9 +173,46 @@ module _ (values : List (Option Bool)) (lits : List Lit) (places reasons starts 
         starts_fit = omega (arith, long, is.starts_fit, starts_grow);
       }
 
+  -- another reason for a variable
+  pub fits_rebased : (var reason : ℕ) → var < length values → reason < 4294967295
+      → IsTrail values lits places (slice_set reasons var reason) starts gone lits_room starts_room
+  fits_rebased var reason inside few =
+      record {
+        values_are = is.values_are;
+        few = is.few;
+        places_length = is.places_length;
+        reasons_length = length-set reasons var reason ∙ is.reasons_length;
+        places_are = is.places_are;
+        within = is.within;
+        once = is.once;
+        ascend = is.ascend;
+        begun = is.begun;
+        assumed = λ place lit at none. go place lit at none (cases_eq (var_of lit) var);
+        gone_within = is.gone_within;
+        lits_fit = is.lits_fit;
+        starts_fit = is.starts_fit;
+      }
+    where
+      go : (place : ℕ) (lit : Lit) → slice_get lits place ≡ Some lit
+          → slice_index_or (slice_set reasons var reason) (var_of lit) 4294967295 ≡ 4294967295
+          → (var_of lit ≡ var) ⊎ (var_of lit ≡ var → ⊥) → (i : ℕ) × (slice_get starts i ≡ Some place)
+      go place lit at none (inl e) =
+          let read : slice_index_or (slice_set reasons var reason) (var_of lit) 4294967295 ≡ reason =
+          ap (λ (v : ℕ). slice_index_or (slice_set reasons var reason) v 4294967295) e
+          ∙ get_or-set_same reasons var reason 4294967295 (omega (arith, inside, is.reasons_length)) in
+          absurd (omega (arith, read, none, few))
+      go place lit at none (inr d) =
+          is.assumed place lit at (sym (get_or-set_other reasons var (var_of lit) reason 4294967295 d) ∙ none)
+
   -- what a caller learns
-  pub fits_entries : AreEntries (record { vars = length values; entries = entries_of reasons lits; starts = starts; gone = gone })
-  fits_entries =
+  pub fits_entries : (scope : List ℕ) → AreEntries (record {
+    vars = length values;
+    entries = entries_of reasons lits;
+    starts = starts;
+    gone = gone;
+    scope = scope;
+  })
+  fits_entries scope =
       record {
         few = is.few;
         within = all_within reasons (length values) lits is.within;

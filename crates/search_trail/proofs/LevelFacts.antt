@@ -6,14 +6,11 @@ use Rattle.std.specs.List.Sorted.{IsNonDecreasing, IsPartitionPoint}
 use Rattle.std.proofs.lemmas.List.{length-take, take-append-drop}
 use Rattle.std.proofs.lemmas.List.Sums.{sum_by-append, sum_by-cons}
 use Rattle.std.proofs.lemmas.Option.{slice_get_within, slice_get-get_or, get_or_from_slice_get}
+use Rattle.search_trail.specs.Trails.{Ascend}
 
 -- how many levels begin up to a place
 abbrev pub level_of : List ℕ → ℕ → ℕ
 level_of starts place = count_by (λ start. nat_le start place) starts
-
--- starts ascend
-abbrev pub Ascend : List ℕ → Type 0
-Ascend starts = (i j low high : ℕ) → i < j → slice_get starts i ≡ Some low → slice_get starts j ≡ Some high → low < high
 
 abbrev pub AreBelow : List ℕ → ℕ → Type 0
 AreBelow starts bound = (i start : ℕ) → slice_get starts i ≡ Some start → start < bound

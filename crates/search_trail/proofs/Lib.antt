@@ -2,6 +2,8 @@ mod LitFacts
 mod EntryFacts
 mod ValueLists
 mod LevelFacts
+pub mod Scopes
+mod Marks
 mod Fits
 mod Asked
 mod Steps

@@ -3,14 +3,15 @@ use Rattle.std.specs.Prelude.{◌≡◌, ◌==◌, ◌<◌, ◌≤◌, ⊤, ℕ,
 use Rattle.std.specs.List.{range_with_len}
 use Rattle.currency_base.specs.Literals.{var_of}
 use Rattle.currency_base.specs.declared.lit.Lit.{Lit}
-use Rattle.search_trail.specs.Trails.{Entry, value_in}
+use Rattle.search_trail.specs.Trails.{Entry, IsScope, value_in}
 
--- the values by variable, and the mark: the first variable that has none, or the end
-pub record AreGiven (given : List (Option Bool)) (low : ℕ) : Type 0 where
+-- the values by variable, the scope, and the mark: the first place of the scope whose variable has no value, or the end
+pub record AreGiven (given : List (Option Bool)) (scope : List ℕ) (low : ℕ) : Type 0 where
   pub few : length given ≤ 2147483648
-  pub low_within : low ≤ length given
-  pub free : low < length given → slice_get given low ≡ Some None
-  pub below : (i : ℕ) → i < low → slice_get given i ≡ Some None → ⊥
+  pub is_scope : IsScope (length given) scope
+  pub low_within : low ≤ length scope
+  pub free : (var : ℕ) → slice_get scope low ≡ Some var → slice_get given var ≡ Some None
+  pub below : (i var : ℕ) → i < low → slice_get scope i ≡ Some var → slice_get given var ≡ Some None → ⊥
 
 -- the clause that a number stands for; the greatest of 32 bits stands for none
 abbrev pub reason_at : ℕ → Option ℕ

@@ -1,6 +1,6 @@
 -- Trails: the literals that are true, in the order in which they came, level by level.
 use Rattle.std.specs.Prelude.{◌≡◌, ◌≢◌, ◌==◌, ◌<◌, ◌≤◌, ◌+◌, min, ℕ, Bool, not, if◌then◌else◌, List, [], ◌∷◌, ◌++◌, All, Contains, Option, Some, None, length, map, take, slice_get, slice_index_or}
-use Rattle.std.specs.List.{count_by, range_with_len}
+use Rattle.std.specs.List.{count_by, list_any, range_with_len}
 use Rattle.currency_base.specs.Lists.{OnlyOnce}
 use Rattle.currency_base.specs.Literals.{var_of, is_negative, negation}
 use Rattle.currency_base.specs.declared.lit.Lit.{Lit}
@@ -12,12 +12,13 @@ pub record Entry : Type 0 where
   pub reason : Option ℕ
 
 -- how many variables there are; the entries, in the order in which they came; where each level above 0 begins, the lowest level
--- first; and how many entries have been gone through
+-- first; how many entries have been gone through; and the scope, the variables that a search gives values, ascending
 pub record Trail : Type 0 where
   pub vars : ℕ
   pub entries : List Entry
   pub starts : List ℕ
   pub gone : ℕ
+  pub scope : List ℕ
 
 -- the literals that are true, in the order in which they came
 abbrev pub lits_of : Trail → List Lit
@@ -30,18 +31,51 @@ abbrev pub value_in : List Lit → ℕ → Option Bool
 value_in [] var = None
 value_in (lit ∷ lits) var = if var_of lit == var then Some (not (is_negative lit)) else value_in lits var
 
--- the value of each variable
-abbrev pub values_of : Trail → List (Option Bool)
-values_of t = map (value_in (lits_of t)) (range_with_len 0 t.vars)
+-- the value of each variable, if it has one, and the scope
+pub record ScopedValues : Type 0 where
+  pub given : List (Option Bool)
+  pub scope : List ℕ
+
+-- what a trail says of its variables
+abbrev pub values_of : Trail → ScopedValues
+values_of t = record { given = map (value_in (lits_of t)) (range_with_len 0 t.vars); scope = t.scope }
 
 -- a variable has no value
 abbrev pub IsFree : Trail → ℕ → Type 0
 IsFree t var = value_in (lits_of t) var ≡ None
 
--- the first variable with no value
-pub record IsFirstFree (values : List (Option Bool)) (var : ℕ) : Type 0 where
-  pub free : slice_get values var ≡ Some None
-  pub earlier : (i : ℕ) → i < var → slice_get values i ≡ Some None → ⊥
+-- ---- scopes
+
+-- numbers ascend
+abbrev pub Ascend : List ℕ → Type 0
+Ascend xs = (i j low high : ℕ) → i < j → slice_get xs i ≡ Some low → slice_get xs j ≡ Some high → low < high
+
+-- some of so many variables, ascending
+pub record IsScope (vars : ℕ) (scope : List ℕ) : Type 0 where
+  pub ascend : Ascend scope
+  pub within : (i var : ℕ) → slice_get scope i ≡ Some var → var < vars
+
+-- all of so many variables
+abbrev pub whole_scope : ℕ → List ℕ
+whole_scope vars = range_with_len 0 vars
+
+-- a variable is of the scope
+abbrev pub is_in_scope : List ℕ → ℕ → Bool
+is_in_scope scope var = list_any (λ x. x == var) scope
+
+-- a variable of the scope has no value
+pub record IsFreeInScope (values : ScopedValues) (var : ℕ) : Type 0 where
+  pub is_in : Contains values.scope var
+  pub free : slice_get values.given var ≡ Some None
+
+-- no variable of the scope is free
+abbrev pub HasNoFree : ScopedValues → Type 0
+HasNoFree values = (var : ℕ) → IsFreeInScope values var → ⊥
+
+-- the first variable of the scope with no value
+pub record IsFirstFree (values : ScopedValues) (var : ℕ) : Type 0 where
+  pub is_free : IsFreeInScope values var
+  pub earlier : (other : ℕ) → other < var → IsFreeInScope values other → ⊥
 
 -- ---- levels and reasons
 
@@ -78,6 +112,18 @@ assumed t lit = record t {
 -- the trail with a literal that a clause implies
 abbrev pub implied : Trail → Lit → ℕ → Trail
 implied t lit clause = record t { entries = t.entries ++ record { lit = lit; reason = Some clause } ∷ [] }
+
+-- the trail with another scope
+abbrev pub focused : Trail → List ℕ → Trail
+focused t scope = record t { scope = scope }
+
+-- an entry, with a clause as its reason if it is of a variable
+abbrev pub with_reason : ℕ → ℕ → Entry → Entry
+with_reason var clause e = if var_of e.lit == var then record { lit = e.lit; reason = Some clause } else e
+
+-- the trail where a clause has become the reason of a variable's literal
+abbrev pub rebased : Trail → ℕ → ℕ → Trail
+rebased t var clause = record t { entries = map (with_reason var clause) t.entries }
 
 -- the trail with one more entry gone through
 abbrev pub passed : Trail → Trail

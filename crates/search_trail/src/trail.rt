@@ -1,9 +1,9 @@
-ghost use Rattle.std.specs.Prelude.{◌≡◌, ◌<◌, ◌≤◌, ◌^◌, ◌∷◌, ◌++◌, ℕ, [], All, Some, nat_le, not, length, option_map, slice_get, slice_set, slice_index_or, vec_len, vec_capacity, drop, IfOk, IfSome};
+ghost use Rattle.std.specs.Prelude.{◌≡◌, ◌<◌, ◌≤◌, ◌^◌, ◌∷◌, ◌++◌, ℕ, [], Contains, Some, nat_le, not, length, option_map, slice_get, slice_set, slice_index_or, vec_len, vec_capacity, drop, IfOk, IfSome, OnOk, OnErr};
 ghost use Rattle.std.specs.List.{count_by};
 ghost use Rattle.std.specs.List.Sorted.{IsNonDecreasing};
 ghost use Rattle.currency_base.specs.Literals.{var_of, is_negative};
-ghost use Rattle.search_trail.specs.Trails.{AreEntries, IsFree, IsReason, StandsAt, assumed, entries_up_to, implied, level_at, lits_of, reason_in, undone, values_of, passed};
-ghost use Rattle.search_trail.specs.Kept.{freed, reason_at};
+ghost use Rattle.search_trail.specs.Trails.{AreEntries, IsFree, IsReason, IsScope, StandsAt, assumed, entries_up_to, focused, implied, level_at, lits_of, passed, reason_in, rebased, undone, values_of, whole_scope};
+ghost use Rattle.search_trail.specs.Kept.{reason_at};
 
 use crate::Values;
 use clause_arena::{Arena, ClauseNo};
@@ -12,8 +12,8 @@ use std::alloc::Global;
 use std::marker::Model;
 
 /// The literals that are true, in the order in which they came: each was assumed, and so opened a level, or was
-/// implied by a clause. Contracts see the entries, where the levels begin, and how many of them have been gone
-/// through. Only `new` takes memory.
+/// implied by a clause. Contracts see the entries, where the levels begin, how many of them have been gone through, and
+/// the scope. Only `new` and `focus` take memory.
 #[derive(Drop)]
 pub struct Trail {
     values: Values,
@@ -36,21 +36,22 @@ impl Model for Trail {
     ghost use Rattle.search_trail.specs.Kept.{IsTrail, entries_of};
 
     ghost view = { λ t. record {
-      vars = length t.values;
+      vars = length t.values.given;
       entries = entries_of t.reasons.items t.lits.items;
       starts = t.starts.items;
       gone = t.gone;
+      scope = t.values.scope;
     } };
 
-    ghost invariant = { λ t. IsTrail t.values t.lits.items t.places.items t.reasons.items t.starts.items t.gone
+    ghost invariant = { λ t. IsTrail t.values.given t.lits.items t.places.items t.reasons.items t.starts.items t.gone
         (vec_capacity t.lits) (vec_capacity t.starts) };
 }
 
 impl Trail {
-    /// No literal is true, of so many variables.
+    /// No literal is true, of so many variables, all of which are of the scope.
     pub fn new(alloc: Global, vars: u32) -> Result<Trail, NoMemory>
         requires { vars ≤ 2 ^ 31 }
-        ensures { IfOk result (λ t. t ≡ record { vars = vars; entries = []; starts = []; gone = 0 }) }
+        ensures { IfOk result (λ t. t ≡ record { vars = vars; entries = []; starts = []; gone = 0; scope = whole_scope vars }) }
     {
         let Ok(values) = Values::new(alloc, vars) else {
             return Err(NoMemory);
@@ -77,7 +78,7 @@ impl Trail {
         })
     }
 
-    /// The value of each variable.
+    /// The value of each variable, and the scope.
     pub fn values(&self) -> &Values
         ensures { result.now ≡ values_of self.now }
     {
@@ -167,6 +168,20 @@ impl Trail {
         put_lit(&mut self.values, &mut self.lits, lit);
     }
 
+    /// Makes a clause of one literal, which is true, the reason of that literal in place of the one that it has. Takes
+    /// constant time.
+    pub fn rebase(&mut self, arena: &Arena, lit: Lit, clause: ClauseNo)
+        requires within { var_of lit < self.old.vars }
+        requires holds { Contains (lits_of self.old) lit }
+        requires alone { slice_get arena.now.clauses clause.0 ≡ Some (lit ∷ []) }
+        requires there { clause.0 < length arena.now.clauses }
+        ensures { self.new ≡ rebased self.old (var_of lit) clause.0 }
+    {
+        // clauses are fewer than u32::MAX, which stands for none
+        let _count = arena.count();
+        self.reasons[lit.var() as usize] = clause.0;
+    }
+
     /// Takes away the levels above one.
     pub fn undo_to(&mut self, level: u32)
         requires { level ≤ length self.old.starts }
@@ -174,11 +189,20 @@ impl Trail {
     {
         if (level as usize) < self.starts.len() {
             let cut = self.starts[level as usize] as usize;
-            free_all(&mut self.values, &self.lits[cut..]);
+            self.values.take_back(&self.lits[cut..]);
             self.lits.truncate(cut);
             self.starts.truncate(level as usize);
             self.gone = self.gone.min(cut);
         }
+    }
+
+    /// Takes another scope, in time in proportion to it. A refusal changes nothing.
+    pub fn focus(&mut self, alloc: Global, vars: &[u32]) -> Result<(), NoMemory>
+        requires { IsScope self.old.vars vars.now }
+        ensures ok { OnOk result (self.new ≡ focused self.old vars.now) }
+        ensures err { OnErr result (self.new ≡ self.old) }
+    {
+        self.values.focus(alloc, vars)
     }
 
     /// The first literal that has not been gone through, if there is one.
@@ -253,9 +277,12 @@ fn push_start(starts: &mut Vec<u32>, start: u32)
 
 // One more true literal; there is room for it.
 fn put_lit(values: &mut Values, lits: &mut Vec<Lit>, lit: Lit)
-    requires within { var_of lit < length values.old }
+    requires within { var_of lit < length values.old.given }
     requires room { vec_len lits.old < vec_capacity lits.old }
-    ensures values { values.new ≡ slice_set values.old (var_of lit) (Some (not (is_negative lit))) }
+    ensures values { values.new ≡ record values.old {
+      given = slice_set values.old.given (var_of lit)
+          (Some (not (is_negative lit)));
+    } }
     ensures items { lits.new.items ≡ lits.old.items ++ lit ∷ [] }
     ensures capacity { vec_capacity lits.old ≤ vec_capacity lits.new }
 {
@@ -263,14 +290,4 @@ fn put_lit(values: &mut Values, lits: &mut Vec<Lit>, lit: Lit)
     let Ok(()) = lits.push(lit) else {
         unreachable!();
     };
-}
-
-// Takes the values of literals back.
-fn free_all(values: &mut Values, lits: &[Lit])
-    requires { All (λ lit. var_of lit < length values.old) lits.now }
-    ensures { values.new ≡ freed values.old lits.now }
-{
-    for lit in lits {
-        values.take_back(lit.var());
-    }
 }

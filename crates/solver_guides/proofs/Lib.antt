@@ -1,3 +1,4 @@
 pub mod FirstFrees
+pub mod Marked
 pub mod Taken
 pub mod Turns

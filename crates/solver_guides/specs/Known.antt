@@ -1,5 +1,6 @@
 -- Known: what guides of each kind know.
-use Rattle.std.specs.Prelude.{◌+◌, ◌-◌, ◌/◌, ◌^◌, ℕ, Bool, List, if◌then◌else◌, map, min, nat_lt, slice_index_or, slice_set}
+use Rattle.std.specs.Prelude.{◌+◌, ◌-◌, ◌/◌, ◌^◌, ℕ, Bool, true, List, [], ◌∷◌, if◌then◌else◌, map, min, nat_lt, slice_index_or, slice_set}
+use Rattle.search_trail.specs.Trails.{is_in_scope}
 use Rattle.solver_guides.specs.declared.activity.Activity.{Activity}
 use Rattle.solver_guides.specs.declared.first_free.FirstFree.{FirstFree}
 use Rattle.solver_guides.specs.declared.keep_phase.KeepPhase.{KeepPhase}
@@ -21,13 +22,22 @@ state_of g = g.state
 abbrev pub counts_of : Activity → List ℕ
 counts_of g = g.tree.counts
 
--- which variables are present: each that is free is, and one that has a value may be
+-- which variables are present: each of the scope that is free is, and others may be
 abbrev pub present_of : Activity → List Bool
 present_of g = g.tree.present
 
 -- the value that each variable had when it was last freed
 abbrev pub truths_of : Activity → List Bool
 truths_of g = g.phases.items
+
+-- some variables are made present, or taken off
+abbrev pub marked : List Bool → List ℕ → Bool → List Bool
+marked present [] now = present
+marked present (var ∷ vars) now = marked (slice_set present var now) vars now
+
+-- a variable is made present where it is of the scope
+abbrev pub put_back : List Bool → List ℕ → ℕ → List Bool
+put_back present scope var = if is_in_scope scope var then slice_set present var true else present
 
 -- how much a conflict adds to the count of a variable
 abbrev pub bump_of : Activity → ℕ

@@ -3,6 +3,7 @@ use Rattle.std.specs.Prelude.{◌≡◌, ◌<◌, ◌+◌, ℕ, Bool, true, List
 use Rattle.std.specs.declared.alloc.Global.{Global}
 use Rattle.std.specs.declared.dyn_box.DynBox.{DynBox}
 use Rattle.currency_base.specs.declared.lit.Lit.{Lit}
+use Rattle.search_trail.specs.Trails.{ScopedValues}
 use Rattle.solver_guides.specs.declared.ring.Guides.{Guides}
 
 -- how many guides there are
@@ -22,12 +23,12 @@ abbrev pub next_place : ℕ → ℕ → ℕ
 next_place count place = if nat_lt (place + 1) count then place + 1 else 0
 
 -- what the guide at a place chooses, where there is one
-abbrev pub choice_at : {B : Type 0} → (B → List (Option Bool) → Option Lit) → List B → ℕ → List (Option Bool) → Option Lit
+abbrev pub choice_at : {B : Type 0} → (B → ScopedValues → Option Lit) → List B → ℕ → ScopedValues → Option Lit
 choice_at choice guides place values = option_and_then (λ guide. choice guide values) (slice_get guides place)
 
 -- what the guide chooses whose turn it is; none where there is no guide
-abbrev pub current_choice : {X : Type 0} {P : X → Type 0} → (DynBox X Global P → List (Option Bool) → Option Lit)
-    → Guides X P → List (Option Bool) → Option Lit
+abbrev pub current_choice : {X : Type 0} {P : X → Type 0} → (DynBox X Global P → ScopedValues → Option Lit)
+    → Guides X P → ScopedValues → Option Lit
 current_choice choice ring values = choice_at choice (guides_of ring) (place_of ring) values
 
 -- each of so many guides has made room for so many variables

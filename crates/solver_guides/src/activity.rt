@@ -1,20 +1,20 @@
 ghost use Rattle.std.specs.Prelude.{◌≡◌, ◌==◌, ◌<◌, ◌≤◌, ◌^◌, [], None, true, false, length, not, replicate, slice_set, IfSome, OnOk, OnErr};
 ghost use Rattle.currency_base.specs.Literals.{var_of, is_negative};
-ghost use Rattle.solver_guides.specs.Choices.{greatest_choice, greatest_from};
-ghost use Rattle.solver_guides.specs.Known.{bump_after, bump_of, counts_after, counts_of, grown, present_of, raised, truths_of};
+ghost use Rattle.solver_guides.specs.Choices.{greatest_choice, greatest_of};
+ghost use Rattle.solver_guides.specs.Known.{bump_after, bump_of, counts_after, counts_of, grown, marked, present_of, put_back, raised, truths_of};
 
 use crate::Guide;
-use crate::choices::{as_in, copied, is_free, set_phase};
+use crate::choices::{as_in, copied, is_pick, set_phase};
 use count_tree::CountTree;
 use currency_base::{Assignment, Lit, NoMemory};
 use search_trail::Values;
 use std::alloc::Global;
 
-/// Picks the free variable that was seen most in conflicts, late ones more than early ones, with the value that it had
-/// when it was last freed. A variable that it was not fitted for counts as never seen.
+/// Picks the free variable of the scope that was seen most in conflicts, late ones more than early ones, with the value
+/// that it had when it was last freed. A variable that it was not fitted for is never picked.
 #[derive(Drop)]
 pub struct Activity {
-    // a variable is present from when it is freed until it is met at the root with a value
+    // a variable of the scope is present from when it is freed until it is met at the root with a value
     tree: CountTree,
     phases: Vec<bool>,
     bump: u64,
@@ -104,14 +104,34 @@ impl Guide for Activity {
         self.bump = bump / (1 << SCALE);
     }
 
-    fn freed(&mut self, lit: Lit)
-        ensures present { present_of self.new ≡ slice_set (present_of self.old) (var_of lit) true }
+    fn freed(&mut self, lit: Lit, values: &Values)
+        ensures present { present_of self.new ≡ put_back (present_of self.old) values.now.scope (var_of lit) }
         ensures truths { truths_of self.new ≡ slice_set (truths_of self.old) (var_of lit) (not (is_negative lit)) }
         ensures counts { counts_of self.new ≡ counts_of self.old }
         ensures bump { bump_of self.new ≡ bump_of self.old }
     {
         set_phase(&mut self.phases, lit);
-        put_back(&mut self.tree, lit.var());
+        if values.has(lit.var()) {
+            mark(&mut self.tree, lit.var(), true);
+        }
+    }
+
+    fn leave(&mut self, scope: &[u32])
+        ensures present { present_of self.new ≡ marked (present_of self.old) scope.now false }
+        ensures truths { truths_of self.new ≡ truths_of self.old }
+        ensures counts { counts_of self.new ≡ counts_of self.old }
+        ensures bump { bump_of self.new ≡ bump_of self.old }
+    {
+        mark_all(&mut self.tree, scope, false);
+    }
+
+    fn enter(&mut self, scope: &[u32])
+        ensures present { present_of self.new ≡ marked (present_of self.old) scope.now true }
+        ensures truths { truths_of self.new ≡ truths_of self.old }
+        ensures counts { counts_of self.new ≡ counts_of self.old }
+        ensures bump { bump_of self.new ≡ bump_of self.old }
+    {
+        mark_all(&mut self.tree, scope, true);
     }
 
     fn restarted(&mut self)
@@ -129,24 +149,37 @@ fn raise(tree: &mut CountTree, var: u32, bump: u64)
     tree.set_count(var, count.saturating_add(bump));
 }
 
-// A variable is free again, where it is in range.
-fn put_back(tree: &mut CountTree, var: u32)
+// Makes a variable present or takes it off, where it is in range.
+fn mark(tree: &mut CountTree, var: u32, present: bool)
     ensures counts { tree.new.counts ≡ tree.old.counts }
-    ensures present { tree.new.present ≡ slice_set tree.old.present var true }
+    ensures present { tree.new.present ≡ slice_set tree.old.present var present }
 {
     if var < tree.len() {
-        tree.set_present(var, true);
+        tree.set_present(var, present);
     }
 }
 
-// The free variable with the greatest count, of those that are present. What has a value is taken off on the way.
+// Makes variables present or takes them off, where they are in range.
+fn mark_all(tree: &mut CountTree, vars: &[u32], present: bool)
+    ensures counts { tree.new.counts ≡ tree.old.counts }
+    ensures present { tree.new.present ≡ marked tree.old.present vars.now present }
+{
+    for var in vars {
+        mark(tree, *var, present);
+    }
+}
+
+// The free variable of the scope with the greatest count, of those that are present. What has a value or is beyond the
+// scope is taken off on the way.
 fn greatest_free(tree: &mut CountTree, values: &Values) -> Option<u32>
-    ensures found { result ≡ greatest_from tree.old.counts 0 tree.old.present values.now None }
+    ensures found { result ≡ greatest_of tree.old.counts tree.old.present values.now.given values.now.scope None }
     ensures few { IfSome result (λ var. var < 2 ^ 31) }
     ensures counts { tree.new.counts ≡ tree.old.counts }
 {
+    // the scope ascends
+    let _scope = values.scope();
     while let Some(var) = tree.greatest() {
-        if is_free(values, var) {
+        if is_pick(values, var) {
             return Some(var);
         }
         // the two lists of the tree are of one length

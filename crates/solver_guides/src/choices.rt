@@ -1,6 +1,6 @@
 ghost use Rattle.std.specs.Prelude.{◌≡◌, ◌<◌, ◌^◌, true, false, not, slice_index_or, slice_set, IfOk};
 ghost use Rattle.currency_base.specs.Literals.{var_of, is_negative};
-ghost use Rattle.solver_guides.specs.Choices.{as_in, first_free_as, is_free};
+ghost use Rattle.solver_guides.specs.Choices.{as_in, first_free_as, is_free, is_pick};
 
 use currency_base::{Assignment, Lit, NoMemory};
 use search_trail::Values;
@@ -37,19 +37,27 @@ pub(crate) fn as_in(truths: &[bool], var: u32) -> Lit
 }
 
 // Is it one of the variables, with no value?
-pub(crate) fn is_free(values: &Values, var: u32) -> bool
-    ensures same { result ≡ is_free values.now var }
+fn is_free(values: &Values, var: u32) -> bool
+    ensures same { result ≡ is_free values.now.given var }
     ensures few { result ≡ true → var < 2 ^ 31 }
 {
     var < values.len() && values.value(var).is_none()
 }
 
-// The first free variable, with its value in a list.
+// Is it a variable of the scope, with no value?
+pub(crate) fn is_pick(values: &Values, var: u32) -> bool
+    ensures same { result ≡ is_pick values.now var }
+    ensures few { result ≡ true → var < 2 ^ 31 }
+{
+    is_free(values, var) && values.has(var)
+}
+
+// The first free variable of the scope, with its value in a list.
 pub(crate) fn first_free_as(truths: &[bool], values: &Values) -> Option<Lit>
     ensures { result ≡ first_free_as truths.now values.now }
 {
-    // variables are few enough for literals
-    let _count = values.len();
+    // the scope ascends, and variables are few enough for literals
+    let _scope = values.scope();
     match values.first_free() {
         Some(var) => Some(as_in(truths, var)),
         None => None,

@@ -8,7 +8,7 @@ use currency_base::{Assignment, Lit, NoMemory};
 use search_trail::Values;
 use std::alloc::Global;
 
-/// Picks the first free variable, with its value in the first guess at a model. Takes one byte for each variable.
+/// Picks the first free variable of the scope, with its value in the first guess at a model. Takes one byte for each variable.
 #[derive(Drop)]
 pub struct FirstFree {
     start: Vec<bool>,
@@ -53,7 +53,15 @@ impl Guide for FirstFree {
         ensures { start_of self.new ≡ start_of self.old }
     {}
 
-    fn freed(&mut self, _lit: Lit)
+    fn freed(&mut self, _lit: Lit, _values: &Values)
+        ensures { start_of self.new ≡ start_of self.old }
+    {}
+
+    fn leave(&mut self, _scope: &[u32])
+        ensures { start_of self.new ≡ start_of self.old }
+    {}
+
+    fn enter(&mut self, _scope: &[u32])
         ensures { start_of self.new ≡ start_of self.old }
     {}
 

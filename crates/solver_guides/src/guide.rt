@@ -1,21 +1,22 @@
-ghost use Rattle.std.specs.Prelude.{◌≡◌, ℕ, Bool, true, List, Option, length, OnOk};
+ghost use Rattle.std.specs.Prelude.{◌≡◌, ℕ, Bool, true, Option, length, OnOk};
 ghost use Rattle.currency_base.specs.declared.lit.Lit.{Lit};
+ghost use Rattle.search_trail.specs.Trails.{ScopedValues};
 
 use currency_base::{Assignment, Lit, NoMemory};
 use search_trail::Values;
 use std::alloc::Global;
 
-/// What picks the literals that a search assumes. A guide may be wrong: it may pick nothing, a variable that has a
-/// value, or one that is none of the search's.
+/// What picks the literals that a search assumes, of variables of its scope. A guide may be wrong: it may pick nothing, a
+/// variable that has a value, one beyond the scope, or one that is none of the search's.
 pub trait Guide: Drop {
-    /// What it picks for the values of the variables.
-    ghost choice: { Self → List (Option Bool) → Option Lit };
+    /// What it picks for the values of the variables, and the scope.
+    ghost choice: { Self → ScopedValues → Option Lit };
 
     /// Has it made room for so many variables?
     ghost has_room: { Self → ℕ → Bool };
 
-    /// Makes room for the variables of `start`, a first guess at a model. A guide that is refused memory is dropped by
-    /// the ring.
+    /// Makes room for the variables of `start`, a first guess at a model, which are all of the scope. A guide that is
+    /// refused memory is dropped by the ring.
     fn fit(&mut self, alloc: Global, start: &Assignment) -> Result<(), NoMemory>
         ensures { OnOk result (has_room self.new (length start.now) ≡ true) };
 
@@ -26,8 +27,14 @@ pub trait Guide: Drop {
     /// A variable of a conflict.
     fn saw(&mut self, var: u32);
 
-    /// A literal that was true is free again.
-    fn freed(&mut self, lit: Lit);
+    /// A literal that is true in these values is free from now on.
+    fn freed(&mut self, lit: Lit, values: &Values);
+
+    /// The search leaves a scope for another one. Takes time in proportion to it.
+    fn leave(&mut self, scope: &[u32]);
+
+    /// The search enters a scope, of whose variables it assumes literals from now on. Takes time in proportion to it.
+    fn enter(&mut self, scope: &[u32]);
 
     /// The search begins again from the goal.
     fn restarted(&mut self);

@@ -9,8 +9,8 @@ use currency_base::{Assignment, Lit, NoMemory};
 use search_trail::Values;
 use std::alloc::Global;
 
-/// Picks the first free variable, with the value that it had when it was last freed, at first that of the first guess
-/// at a model. Takes one byte for each variable.
+/// Picks the first free variable of the scope, with the value that it had when it was last freed, at first that of the
+/// first guess at a model. Takes one byte for each variable.
 #[derive(Drop)]
 pub struct KeepPhase {
     phases: Vec<bool>,
@@ -55,11 +55,19 @@ impl Guide for KeepPhase {
         ensures { phases_of self.new ≡ phases_of self.old }
     {}
 
-    fn freed(&mut self, lit: Lit)
+    fn freed(&mut self, lit: Lit, _values: &Values)
         ensures { phases_of self.new ≡ slice_set (phases_of self.old) (var_of lit) (not (is_negative lit)) }
     {
         set_phase(&mut self.phases, lit);
     }
+
+    fn leave(&mut self, _scope: &[u32])
+        ensures { phases_of self.new ≡ phases_of self.old }
+    {}
+
+    fn enter(&mut self, _scope: &[u32])
+        ensures { phases_of self.new ≡ phases_of self.old }
+    {}
 
     fn restarted(&mut self)
         ensures { phases_of self.new ≡ phases_of self.old }

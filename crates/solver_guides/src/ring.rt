@@ -1,10 +1,11 @@
-ghost use Rattle.std.specs.Prelude.{◌≡◌, ◌<◌, ◌≤◌, ℕ, Bool, List, Option, Some, None, [], true, length, slice_get, vec_len};
+ghost use Rattle.std.specs.Prelude.{◌≡◌, ◌<◌, ◌≤◌, ℕ, Some, [], true, length, vec_len};
 ghost use Rattle.currency_base.specs.Literals.{var_of};
+ghost use Rattle.search_trail.specs.Trails.{IsFreeInScope, ScopedValues};
 ghost use Rattle.solver_guides.specs.Choices.{first_free_as, free_choice};
 ghost use Rattle.solver_guides.specs.Rings.{HaveRoom, choice_at, count_of, current_choice, guides_of, next_place, place_of};
 
 use crate::Guide;
-use crate::choices::{first_free_as, is_free};
+use crate::choices::{first_free_as, is_pick};
 use currency_base::{Assignment, Lit};
 use search_trail::Values;
 use std::alloc::Global;
@@ -58,7 +59,7 @@ impl Guides {
         requires { place < count_of self.old }
         ensures count { count_of self.new ≡ 1 }
         ensures place { place_of self.new ≡ 0 }
-        ensures kept { (values : List (Option Bool)) → current_choice (λ guide. choice guide) self.new values ≡
+        ensures kept { (values : ScopedValues) → current_choice (λ guide. choice guide) self.new values ≡
             choice_at (λ guide. choice guide) (guides_of self.old) place values }
     {
         self.guides.swap(0, place);
@@ -84,11 +85,11 @@ impl Guides {
         self.at = 0;
     }
 
-    /// A literal of a free variable: what the guide picks whose turn it is, where that is one, else the negation of
-    /// the first free variable.
+    /// A literal of a free variable of the scope: what the guide picks whose turn it is, where that is one, else the
+    /// negation of the first such variable.
     pub fn pick(&mut self, values: &Values) -> Lit
-        requires { (var : ℕ) × (slice_get values.now var ≡ Some None) }
-        ensures free { slice_get values.now (var_of result) ≡ Some None }
+        requires { (var : ℕ) × IsFreeInScope values.now var }
+        ensures free { IsFreeInScope values.now (var_of result) }
         ensures whose { Some result ≡ free_choice values.now (current_choice (λ guide. choice guide) self.old values.now) }
         ensures count { count_of self.new ≡ count_of self.old }
         ensures place { place_of self.new ≡ place_of self.old }
@@ -108,14 +109,34 @@ impl Guides {
         }
     }
 
-    /// A literal that was true is free again: each guide is told, so that what it knows of free variables stays whole
-    /// while another one has its turn.
-    pub fn freed(&mut self, lit: Lit)
+    /// A literal that is true in these values is free from now on: each guide is told, so that what it knows of free
+    /// variables stays whole while another one has its turn.
+    pub fn freed(&mut self, lit: Lit, values: &Values)
         ensures count { count_of self.new ≡ count_of self.old }
         ensures place { place_of self.new ≡ place_of self.old }
     {
         for place in 0..self.guides.len() {
-            self.guides[place].freed(lit);
+            self.guides[place].freed(lit, values);
+        }
+    }
+
+    /// The search leaves a scope: each guide is told.
+    pub fn leave(&mut self, scope: &[u32])
+        ensures count { count_of self.new ≡ count_of self.old }
+        ensures place { place_of self.new ≡ place_of self.old }
+    {
+        for place in 0..self.guides.len() {
+            self.guides[place].leave(scope);
+        }
+    }
+
+    /// The search enters a scope: each guide is told.
+    pub fn enter(&mut self, scope: &[u32])
+        ensures count { count_of self.new ≡ count_of self.old }
+        ensures place { place_of self.new ≡ place_of self.old }
+    {
+        for place in 0..self.guides.len() {
+            self.guides[place].enter(scope);
         }
     }
 
@@ -194,24 +215,24 @@ fn next_place(count: usize, place: usize) -> usize
     }
 }
 
-// A choice of a free variable stays, else the first free variable is negated.
+// A choice of a free variable of the scope stays, else the first such variable is negated.
 fn free_choice(values: &Values, choice: Option<Lit>) -> Lit
-    requires { (var : ℕ) × (slice_get values.now var ≡ Some None) }
-    ensures free { slice_get values.now (var_of result) ≡ Some None }
+    requires { (var : ℕ) × IsFreeInScope values.now var }
+    ensures free { IsFreeInScope values.now (var_of result) }
     ensures same { Some result ≡ free_choice values.now choice }
 {
     if let Some(lit) = choice {
-        if is_free(values, lit.var()) {
+        if is_pick(values, lit.var()) {
             return lit;
         }
     }
     first_negated(values)
 }
 
-// The first free variable, negated.
+// The first free variable of the scope, negated.
 fn first_negated(values: &Values) -> Lit
-    requires { (var : ℕ) × (slice_get values.now var ≡ Some None) }
-    ensures free { slice_get values.now (var_of result) ≡ Some None }
+    requires { (var : ℕ) × IsFreeInScope values.now var }
+    ensures free { IsFreeInScope values.now (var_of result) }
     ensures same { Some result ≡ first_free_as [] values.now }
 {
     match first_free_as(&[], values) {

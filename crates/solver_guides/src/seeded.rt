@@ -7,8 +7,8 @@ use currency_base::{Assignment, Lit, NoMemory};
 use search_trail::Values;
 use std::alloc::Global;
 
-/// Picks any variable with any sign, by numbers that follow from a first one: a linear congruential generator with the
-/// multiplier and the increment of Knuth's MMIX. The same number gives the same picks.
+/// Picks any variable of the scope with any sign, by numbers that follow from a first one: a linear congruential
+/// generator with the multiplier and the increment of Knuth's MMIX. The same number gives the same picks.
 #[derive(Drop)]
 pub struct Seeded {
     state: u64,
@@ -46,7 +46,15 @@ impl Guide for Seeded {
         ensures { state_of self.new ≡ state_of self.old }
     {}
 
-    fn freed(&mut self, _lit: Lit)
+    fn freed(&mut self, _lit: Lit, _values: &Values)
+        ensures { state_of self.new ≡ state_of self.old }
+    {}
+
+    fn leave(&mut self, _scope: &[u32])
+        ensures { state_of self.new ≡ state_of self.old }
+    {}
+
+    fn enter(&mut self, _scope: &[u32])
         ensures { state_of self.new ≡ state_of self.old }
     {}
 
@@ -64,14 +72,14 @@ fn next_state(state: u64) -> u64
         .wrapping_add(1442695040888963407)
 }
 
-// The literal of a state: its upper 31 bits are the variable, bit 32 the sign.
+// The literal of a state: its upper 31 bits are the variable's place in the scope, bit 32 the sign.
 fn seeded_choice(state: u64, values: &Values) -> Option<Lit>
     ensures { result ≡ seeded_choice state values.now }
 {
-    let vars = values.len();
-    if vars == 0 {
+    let scope = values.scope();
+    if scope.is_empty() {
         return None;
     }
-    let var = state / 8589934592 % u64::from(vars);
-    Some(Lit::new(var as u32, state / 4294967296 % 2 == 0))
+    let place = state / 8589934592 % scope.len() as u64;
+    Some(Lit::new(scope[place as usize], state / 4294967296 % 2 == 0))
 }

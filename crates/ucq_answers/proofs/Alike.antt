@@ -3,7 +3,7 @@ use Rattle.std.proofs.Common.{◌≡◌, ◌-◌, ◌<◌, ◌≤◌, ◌⊎◌,
 use Rattle.std.specs.Cmp.{IsStrictWeakOrder}
 use Rattle.std.specs.Cmp.Lexicographic.{options_total}
 use Rattle.std.specs.List.{Contains}
-use Rattle.std.specs.List.Sorted.{IsNonDecreasingBy}
+use Rattle.std.specs.List.Sorted.{IsNonDecreasingBy, IsSortedBy}
 use Rattle.std.specs.Option.{option_cmp}
 use Rattle.std.specs.Ordering.{ordering_index}
 use Rattle.std.proofs.lemmas.Bool.{cases_lt, ltb-true, leb-false}
@@ -19,9 +19,9 @@ pub lower_orders : (tuples : List (List Value)) (place : ℕ) → IsStrictWeakOr
 lower_orders tuples place = ranks_by (options_total value_total) (key_of tuples place)
 
 pub ranks_rise : (tuples : List (List Value)) (place : ℕ) (ents : List EntId) (value : Value)
-    → IsByValue tuples place ents → IsNonDecreasingBy (rank_to tuples place value) ents
-ranks_rise tuples place ents value is = searchable_from_sorted (options_total value_total) (key_of tuples place) ents
-    (Some value) is.sorted
+    → IsSortedBy (is_lower tuples place) ents → IsNonDecreasingBy (rank_to tuples place value) ents
+ranks_rise tuples place ents value sorted = searchable_from_sorted (options_total value_total) (key_of tuples place) ents
+    (Some value) sorted
 
 -- where the tuples of a value start and end
 
@@ -39,7 +39,7 @@ in_order tuples place value ents start end inside starts ends = by (cases_lt end
         absurd (omega (arith, low, high))
 
 -- an item from a first place on, and before a last one
-read_range : {A : Type 0} (xs : List A) (start end k : ℕ) (x : A) → start ≤ k → k < end → end ≤ length xs
+pub read_range : {A : Type 0} (xs : List A) (start end k : ℕ) (x : A) → start ≤ k → k < end → end ≤ length xs
     → get_or xs k x ≡ x → Contains (slice_range xs start end) x
 read_range [] start end k x from below inside at = absurd (omega (arith, from, below, inside))
 read_range (y ∷ xs) zero zero k x from below inside at = absurd (omega (arith, below))

@@ -1,5 +1,5 @@
 -- How answers are added, one candidate after another.
-use Rattle.std.proofs.Common.{◌≡◌, ◌<◌, ◌⊎◌, inl, inr, ℕ, Bool, true, false, List, [], ◌∷◌, ◌++◌, length, Option, None, Some, option_and_then, slice_get, refl, sym, ap, subst, ◌∙◌, IsTrue, ◌↔◌}
+use Rattle.std.proofs.Common.{◌≡◌, ◌<◌, ◌⊎◌, inl, inr, ℕ, Bool, true, false, List, [], ◌∷◌, ◌++◌, length, Option, None, Some, refl, sym, ap, subst, ◌∙◌, IsTrue, ◌↔◌}
 use Rattle.std.specs.BTreeSet.{insert_key}
 use Rattle.std.specs.Cmp.Lexicographic.{slice_cmp}
 use Rattle.std.specs.List.{Contains}
@@ -10,12 +10,12 @@ use Rattle.currency_base.specs.Values.{value_cmp}
 use Rattle.currency_base.specs.declared.ids.EntId.{EntId}
 use Rattle.currency_base.specs.declared.value.Value.{Value}
 use Rattle.query_model.specs.declared.query.Atom.{Atom}
-use Rattle.query_model.specs.declared.query.Test.{Test}
-use Rattle.ucq_answers.specs.Found.{Adds, Bounded}
+use Rattle.query_plan.specs.Plans.{Conditioned}
+use Rattle.ucq_answers.specs.Found.{Adds, Bounded, IsHeadAt}
 use Rattle.ucq_answers.specs.Lookups.{AreCandidates}
-use Rattle.ucq_answers.specs.Partly.{IsHeadOfSome, IsSolution, fit, head_at, tuples_of}
+use Rattle.ucq_answers.specs.Partly.{IsHeadOfSome, IsSolution, head_at, joined_at, tuples_of}
 use Rattle.ucq_answers.proofs.Among.{Among, from_contains, in_inserted, kept_inserted, of_inserted, to_contains}
-use Rattle.ucq_answers.proofs.Searching.{solved_more}
+use Rattle.ucq_answers.proofs.Searching.{begins, solved_more}
 
 -- ---- what is added
 
@@ -97,28 +97,32 @@ adds_one P old new tuple is_full bound after tells meant only =
     by other (inl was) = inl (to_contains old.tuples other was)
     by other (inr same) = inr (subst P same meant)
 
+-- one tuple that is there by now
+pub adds_known : (P : List Value → Type 0) (old : Bounded) (tuple : List Value) → Contains old.tuples tuple
+    → ((other : List Value) → P other → tuple ≡ other) → Adds P old old false
+adds_known P old tuple there only =
+    record {
+      at_most = refl;
+      kept = λ other was. was;
+      sound = λ other was. inl was;
+      complete = λ opened other is. subst (Contains old.tuples) (only other is) there;
+      full = λ closed. absurd (false≢true closed);
+    }
+
 -- ---- one candidate after another
 
--- the tuple is the head of a solution that begins with the tuple at this place
-pub record IsHeadAt (instance : List (List (List Value))) (tests : List Test) (head : List ℕ) (atom : Atom)
-    (rest : List Atom) (b : List (Option Value)) (ent : EntId)
-    (tuple : List Value) : Type 0 where
-  pub next : List (Option Value)
-  pub fits : Some next ≡ option_and_then (λ t. fit b atom.terms t) (slice_get (tuples_of instance atom) ent.0)
-  pub head_below : IsHeadOfSome instance tests head rest next tuple
-
 -- at one of these places
-pub record IsHeadBelow (instance : List (List (List Value))) (tests : List Test) (head : List ℕ) (atom : Atom)
+pub record IsHeadBelow (instance : List (List (List Value))) (conditions : Conditioned) (head : List ℕ) (atom : Atom)
     (rest : List Atom) (b : List (Option Value)) (ents : List EntId)
     (tuple : List Value) : Type 0 where
   pub ent : EntId
   pub is_ent : Contains ents ent
-  pub at : IsHeadAt instance tests head atom rest b ent tuple
+  pub at : IsHeadAt instance conditions head atom rest b ent tuple
 
 -- an atom and those after it are searched for the heads of solutions that go on from some values
 pub record Going : Type 0 where
   pub instance : List (List (List Value))
-  pub tests : List Test
+  pub conditions : Conditioned
   pub head : List ℕ
   pub steps : List Atom
   pub atom : Atom
@@ -126,19 +130,19 @@ pub record Going : Type 0 where
   pub b : List (Option Value)
 
 abbrev pub HeadAt : Going → EntId → List Value → Type 0
-HeadAt g ent tuple = IsHeadAt g.instance g.tests g.head g.atom g.rest g.b ent tuple
+HeadAt g ent tuple = IsHeadAt g.instance g.conditions g.head g.atom g.rest g.b ent tuple
 
 abbrev pub HeadBelow : Going → List EntId → List Value → Type 0
-HeadBelow g ents tuple = IsHeadBelow g.instance g.tests g.head g.atom g.rest g.b ents tuple
+HeadBelow g ents tuple = IsHeadBelow g.instance g.conditions g.head g.atom g.rest g.b ents tuple
 
 abbrev pub HeadOf : Going → List Value → Type 0
-HeadOf g tuple = IsHeadOfSome g.instance g.tests g.head g.steps g.b tuple
+HeadOf g tuple = IsHeadOfSome g.instance g.conditions g.head g.steps g.b tuple
 
 abbrev pub HeadAfter : Going → List (Option Value) → List Value → Type 0
-HeadAfter g next tuple = IsHeadOfSome g.instance g.tests g.head g.rest next tuple
+HeadAfter g next tuple = IsHeadOfSome g.instance g.conditions g.head g.rest next tuple
 
 abbrev pub fit_at : Going → EntId → Option (List (Option Value))
-fit_at g ent = option_and_then (λ t. fit g.b g.atom.terms t) (slice_get (tuples_of g.instance g.atom) ent.0)
+fit_at g ent = joined_at g.conditions.equalities g.instance g.atom g.b ent
 
 pub none_below : (g : Going) (tuple : List Value) → HeadBelow g [] tuple → ⊥
 none_below g tuple is = from_contains [] is.ent is.is_ent
@@ -167,93 +171,76 @@ of_below g ents last tuple is = by (Contains-push_cases ents last is.ent is.is_e
     by (inl before) = inl record { ent = is.ent; is_ent = before; at = is.at }
     by (inr same) = inr (subst (λ e. HeadAt g e tuple) (sym same) is.at)
 
--- a candidate that the atom does not fit
-pub step_none : (g : Going) (ents now : List EntId) (last : EntId) (old new : Bounded) → now ≡ ents ++ last ∷ []
-    → None ≡ fit_at g last → Adds (HeadBelow g ents) old new false
-    → Adds (HeadBelow g now) old new false
-step_none g ents now last old new is none adds =
-    subst (λ l. Adds (HeadBelow g l) old new false) (sym is)
-    (adds_same (HeadBelow g ents) (HeadBelow g (ents ++ last ∷ [])) old new false adds
-    (λ tuple. more_below g ents (last ∷ []) tuple)
-    (λ opened tuple there. by tuple (of_below g ents last tuple there)))
-  where
-    by : (tuple : List Value) → HeadBelow g ents tuple ⊎ HeadAt g last tuple → HeadBelow g ents tuple
-    by tuple (inl before) = before
-    by tuple (inr here) = absurd (none_at g last tuple none here)
+-- a tuple that the atom does not fit
+pub at_none : (g : Going) (ent : EntId) (old : Bounded) → None ≡ fit_at g ent → Adds (HeadAt g ent) old old false
+at_none g ent old none = adds_none (HeadAt g ent) old (λ tuple is. none_at g ent tuple none is)
 
 -- one that it fits, from which all is collected
-pub step_some : (g : Going) (ents now : List EntId) (last : EntId) (next : List (Option Value))
-    (old mid new : Bounded) (is_full : Bool) → now ≡ ents ++ last ∷ [] → Some next ≡ fit_at g last
-    → is_full ≡ false → Adds (HeadBelow g ents) old mid false → Adds (HeadAfter g next) mid new is_full
-    → Adds (HeadBelow g now) old new false
-step_some g ents now last next old mid new is_full is own opened adds rest =
-    subst (λ l. Adds (HeadBelow g l) old new false) (sym is)
-    (adds_also (HeadBelow g ents) (HeadAfter g next) (HeadBelow g (ents ++ last ∷ [])) old mid new false adds
-    (subst (Adds (HeadAfter g next) mid new) opened rest) to
-    (λ _ tuple there. from tuple (of_below g ents last tuple there)))
-  where
-    to : (tuple : List Value) → HeadBelow g ents tuple ⊎ HeadAfter g next tuple → HeadBelow g (ents ++ last ∷ []) tuple
-    to tuple (inl before) = more_below g ents (last ∷ []) tuple before
-    to tuple (inr here) = last_below g ents last tuple record { next = next; fits = own; head_below = here }
+pub at_some : (g : Going) (ent : EntId) (next : List (Option Value)) (old new : Bounded) (is_full : Bool)
+    → Some next ≡ fit_at g ent → Adds (HeadAfter g next) old new is_full → Adds (HeadAt g ent) old new is_full
+at_some g ent next old new is_full own adds =
+    adds_same (HeadAfter g next) (HeadAt g ent) old new is_full adds
+    (λ tuple is. record { next = next; fits = own; head_below = is })
+    (λ opened tuple is. after_at g ent next tuple own is)
 
-    from : (tuple : List Value) → HeadBelow g ents tuple ⊎ HeadAt g last tuple → HeadBelow g ents tuple ⊎ HeadAfter g next tuple
-    from tuple (inl before) = inl before
-    from tuple (inr here) = inr (after_at g last next tuple own here)
+-- one candidate more
+pub step_more : (g : Going) (ents now : List EntId) (last : EntId) (old mid new : Bounded) (is_full : Bool)
+    → now ≡ ents ++ last ∷ [] → is_full ≡ false → Adds (HeadBelow g ents) old mid false → Adds (HeadAt g last) mid new is_full
+    → Adds (HeadBelow g now) old new false
+step_more g ents now last old mid new is_full is opened adds rest =
+    subst (λ l. Adds (HeadBelow g l) old new false) (sym is)
+    (adds_also (HeadBelow g ents) (HeadAt g last) (HeadBelow g (ents ++ last ∷ [])) old mid new false adds
+    (subst (Adds (HeadAt g last) mid new) opened rest) to (λ _ tuple there. of_below g ents last tuple there))
+  where
+    to : (tuple : List Value) → HeadBelow g ents tuple ⊎ HeadAt g last tuple → HeadBelow g (ents ++ last ∷ []) tuple
+    to tuple (inl before) = more_below g ents (last ∷ []) tuple before
+    to tuple (inr here) = last_below g ents last tuple here
 
 at_head : (g : Going) (ent : EntId) (tuple : List Value) → g.steps ≡ g.atom ∷ g.rest → HeadAt g ent tuple → HeadOf g tuple
 at_head g ent tuple steps is =
     record {
       values = is.head_below.values;
-      solution = subst (λ l. IsSolution g.instance g.tests l g.b is.head_below.values) (sym steps)
-          (solved_more g.instance g.tests g.atom g.rest g.b is.next is.head_below.values ent is.fits is.head_below.solution);
+      solution = subst (λ l. IsSolution g.instance g.conditions l g.b is.head_below.values) (sym steps)
+          (solved_more g.instance g.conditions g.atom g.rest g.b is.next is.head_below.values ent is.fits is.head_below.solution);
       is_head = is.head_below.is_head;
     }
 
 -- too many were found
-pub stopped : (g : Going) (ents : List EntId) (last : EntId) (next : List (Option Value)) (old mid new : Bounded)
-    (is_full : Bool) → g.steps ≡ g.atom ∷ g.rest → Some next ≡ fit_at g last
-    → is_full ≡ true → Adds (HeadBelow g ents) old mid false → Adds (HeadAfter g next) mid new is_full
+pub stopped : (g : Going) (ents : List EntId) (last : EntId) (old mid new : Bounded)
+    (is_full : Bool) → g.steps ≡ g.atom ∷ g.rest
+    → is_full ≡ true → Adds (HeadBelow g ents) old mid false → Adds (HeadAt g last) mid new is_full
     → Adds (HeadOf g) old new true
-stopped g ents last next old mid new is_full steps own closed adds rest =
-    adds_also (HeadBelow g ents) (HeadAfter g next) (HeadOf g) old mid new true adds
-    (subst (Adds (HeadAfter g next) mid new) closed rest) to
+stopped g ents last old mid new is_full steps closed adds rest =
+    adds_also (HeadBelow g ents) (HeadAt g last) (HeadOf g) old mid new true adds
+    (subst (Adds (HeadAt g last) mid new) closed rest) to
     (λ opened. absurd (false≢true (sym opened)))
   where
-    to : (tuple : List Value) → HeadBelow g ents tuple ⊎ HeadAfter g next tuple → HeadOf g tuple
+    to : (tuple : List Value) → HeadBelow g ents tuple ⊎ HeadAt g last tuple → HeadOf g tuple
     to tuple (inl before) = at_head g before.ent tuple steps before.at
-    to tuple (inr here) = at_head g last tuple steps record { next = next; fits = own; head_below = here }
+    to tuple (inr here) = at_head g last tuple steps here
 
 -- all candidates were tried
 pub all_tried : (g : Going) (ents now : List EntId) (old new : Bounded) → g.steps ≡ g.atom ∷ g.rest → now ≡ ents
-    → AreCandidates (tuples_of g.instance g.atom) g.atom.terms g.b ents
+    → AreCandidates (tuples_of g.instance g.atom) g.conditions.tests g.atom.terms g.b ents
     → Adds (HeadBelow g now) old new false → Adds (HeadOf g) old new false
 all_tried g ents now old new steps same are adds =
     adds_same (HeadBelow g ents) (HeadOf g) old new false (subst (λ l. Adds (HeadBelow g l) old new false) same adds)
     (λ tuple is. at_head g is.ent tuple steps is.at) (λ opened tuple is. begin tuple is.values
-    (subst (λ l. IsSolution g.instance g.tests l g.b is.values) steps is.solution) is.is_head)
+    (subst (λ l. IsSolution g.instance g.conditions l g.b is.values) steps is.solution) is.is_head)
   where
-    begin : (tuple : List Value) (c : List (Option Value)) → IsSolution g.instance g.tests (g.atom ∷ g.rest) g.b c
+    begin : (tuple : List Value) (c : List (Option Value)) → IsSolution g.instance g.conditions (g.atom ∷ g.rest) g.b c
         → head_at c g.head ≡ Some tuple → HeadBelow g ents tuple
     begin tuple c solution is =
-        let own = solution.reached.1 in
-        let ent : EntId = record { 0 = own.place } in
-        let fits : fit_at g ent ≡ Some solution.reached.0 = ap (option_and_then (λ t. fit g.b g.atom.terms t))
-        own.is_tuple ∙ own.fits in
+        let first = begins g.instance g.conditions g.atom g.rest g.b ents c are solution in
+        let rest : IsSolution g.instance g.conditions g.rest solution.reached.0 c =
+        record { reached = solution.reached.2; passed = solution.passed } in
         record {
-          ent = ent;
-          is_ent = are own.place own.tuple solution.reached.0 own.is_tuple own.fits;
+          ent = first.0;
+          is_ent = first.1;
           at = record {
             next = solution.reached.0;
-            fits = sym fits;
-            head_below = record {
-              values = c;
-              solution = record {
-                reached = solution.reached.2;
-                passed =
-                    solution.passed;
-              };
-              is_head = is;
-            };
+            fits = sym first.2;
+            head_below = record { values = c; solution = rest; is_head = is };
           };
         }
 
@@ -262,6 +249,6 @@ pub none_left : (g : Going) (old : Bounded) → g.steps ≡ [] → None ≡ head
 none_left g old none lacks =
     adds_none (HeadOf g) old
     (λ tuple is.
-    let last : IsSolution g.instance g.tests [] g.b is.values =
-    subst (λ l. IsSolution g.instance g.tests l g.b is.values) none is.solution in
+    let last : IsSolution g.instance g.conditions [] g.b is.values =
+    subst (λ l. IsSolution g.instance g.conditions l g.b is.values) none is.solution in
     none-some tuple (lacks ∙ ap (λ d. head_at d g.head) last.reached ∙ is.is_head))

@@ -8,8 +8,9 @@ mod GoingOn
 mod Listed
 mod Matches
 mod Meaning
-mod Planning
+mod Narrowing
 mod Searching
+mod Spreading
 mod Union
 mod Values
 mod Zipped

@@ -1,27 +1,28 @@
 -- How the entities of a match are found, and what answers by a disjunct are.
-use Rattle.std.proofs.Common.{◌≡◌, ℕ, zero, suc, Bool, List, [], ◌∷◌, map, length, replicate, Option, None, Some, option_and_then, slice_get, refl, sym, ap, subst, ◌∙◌, arith}
+use Rattle.std.proofs.Common.{◌≡◌, ℕ, zero, suc, Bool, List, [], ◌∷◌, map, length, replicate, Option, None, Some, option_and_then, option_map, slice_get, refl, sym, ap, subst, ◌∙◌, arith}
 use Rattle.std.specs.List.{All, AllZip}
-use Rattle.std.specs.List.Sorted.{IsPermutation}
 use Rattle.std.proofs.lemmas.List.{length-map}
 use Rattle.std.proofs.lemmas.List.Elements.{All-contains}
 use Rattle.std.proofs.lemmas.Option.{none-some, option_and_then_some, same_Some, slice_get-get_or}
 use Rattle.currency_base.specs.declared.ids.EntId.{EntId}
 use Rattle.currency_base.specs.declared.value.Value.{Value}
-use Rattle.query_model.specs.Answers.{AtomHolds, AtomMatches, IsHead, Meets}
-use Rattle.query_model.specs.Fitting.{IsDisjunct}
+use Rattle.query_model.specs.Answers.{AtomHolds, AtomMatches, IsHead, Meets, TestHolds}
 use Rattle.query_model.specs.declared.query.Atom.{Atom}
 use Rattle.query_model.specs.declared.query.Disjunct.{Disjunct}
 use Rattle.query_model.specs.declared.query.Match.{Match}
 use Rattle.query_model.specs.declared.query.Term.{Term}
 use Rattle.query_model.specs.declared.query.Term.TheVariants.{Var}
 use Rattle.query_model.specs.declared.query.Test.{Test}
+use Rattle.query_plan.specs.Implied.{AreContrary, Equated}
+use Rattle.query_plan.specs.Plans.{Conditioned}
 use Rattle.ucq_answers.specs.Found.{Adds, Bounded, FitsAt, HasUnfit, IsAnswerBy, IsFound, IsMatchBy, IsMet, IsMetFound}
 use Rattle.ucq_answers.specs.Lookups.{AreCandidates}
-use Rattle.ucq_answers.specs.Partly.{IsFit, IsHeadOfSome, IsSolution, bind, bind_all, fit, head_at, tuples_of, values_of}
+use Rattle.ucq_answers.specs.Partly.{IsFit, IsHeadOfSome, bind, bind_all, fit, head_at, spread, tuples_of, values_of}
 use Rattle.ucq_answers.proofs.Collecting.{adds_same}
-use Rattle.ucq_answers.proofs.GoingOn.{AreFitted, CanBind, Extends, IsFitted, all_fitted, all_on, can_fit, extends_same}
-use Rattle.ucq_answers.proofs.Meaning.{full, full_extends, full_get, full_head, get_full, head_full, many_none, met_solution, nothing_extends, solution_met, tuple_fitted, fitted_tuple}
+use Rattle.ucq_answers.proofs.GoingOn.{AreFitted, CanBind, Extends, IsFitted, all_fitted, all_on, can_fit, extends_on, extends_same}
+use Rattle.ucq_answers.proofs.Meaning.{IsSearched, full, full_extends, full_get, full_head, get_full, head_full, many_none, met_agrees, met_solution, nothing_extends, solution_met, tuple_fitted, fitted_tuple}
 use Rattle.ucq_answers.proofs.Searching.{reached_extends}
+use Rattle.ucq_answers.proofs.Spreading.{mapped_some, spread_extends, spread_on}
 use Rattle.ucq_answers.proofs.Zipped.{zip_both, zip_length}
 
 -- the atom does not fit the tuple at this place
@@ -30,11 +31,11 @@ NoFit instance atom b ent = (c : List (Option Value)) → option_and_then (λ tu
     (slice_get (tuples_of instance atom) ent.0) ≡ Some c → ⊥
 
 pub fits_none : (instance : List (List (List Value))) (atom : Atom) (b : List (Option Value)) (ents : List EntId)
-    → AreCandidates (tuples_of instance atom) atom.terms b ents
+    → AreCandidates (tuples_of instance atom) [] atom.terms b ents
     → All (NoFit instance atom b) ents → (c : List (Option Value)) → IsFit (tuples_of instance atom) atom.terms b c → ⊥
 fits_none instance atom b ents are none c is =
     let ent : EntId = record { 0 = is.place } in
-    All-contains (NoFit instance atom b) ents ent none (are is.place is.tuple c is.is_tuple is.fits) c
+    All-contains (NoFit instance atom b) ents ent none (are is.place is.tuple c is.is_tuple is.fits refl) c
     (ap (option_and_then (λ tuple. fit b atom.terms tuple)) is.is_tuple ∙ is.fits)
 
 pub fits_some : (instance : List (List (List Value))) (atom : Atom) (b next : List (Option Value)) (ent : EntId)
@@ -46,44 +47,59 @@ fits_some instance atom b next ent is =
 
 -- ---- answers by a disjunct
 
-pub answer_from : (instance : List (List (List Value))) (d : Disjunct) (atoms : List Atom) (tuple : List Value)
-    → IsDisjunct d → IsPermutation d.atoms atoms
-    → IsHeadOfSome instance d.tests d.head atoms (replicate d.vars None) tuple → IsAnswerBy instance d tuple
-answer_from instance d atoms tuple fits permuted some =
-    let met = solution_met instance d atoms (replicate d.vars None) some.values fits permuted (many_none d.vars) some.solution in
+-- what is known before an atom is searched
+abbrev begun : Disjunct → Conditioned → List (Option Value)
+begun d conditions = spread conditions.equalities (replicate d.vars None)
+
+many_begun : (d : Disjunct) (conditions : Conditioned) → length (begun d conditions) ≡ d.vars
+many_begun d conditions = sym (spread_extends conditions.equalities (replicate d.vars None)).as_many ∙ many_none d.vars
+
+from_nothing : (d : Disjunct) (values : List Value) → length values ≡ d.vars → Extends (replicate d.vars None) (full values)
+from_nothing d values many = nothing_extends d.vars (full values) (length-map values (λ x. Some x) ∙ many)
+
+pub answer_from : (instance : List (List (List Value))) (d : Disjunct) (conditions : Conditioned) (atoms : List Atom)
+    (tuple : List Value) → IsSearched d conditions atoms
+    → IsHeadOfSome instance conditions d.head atoms (begun d conditions) tuple → IsAnswerBy instance d tuple
+answer_from instance d conditions atoms tuple searched some =
+    let met = solution_met instance d conditions atoms (begun d conditions) some.values searched (many_begun d conditions)
+    some.solution in
     record {
       values = values_of some.values;
       meets = met.meets;
       is_head = full_head (values_of some.values) d.head tuple (ap (λ c. head_at c d.head) (sym met.same) ∙ some.is_head);
     }
 
-from_nothing : (d : Disjunct) (values : List Value) → length values ≡ d.vars → Extends (replicate d.vars None) (full values)
-from_nothing d values many = nothing_extends d.vars (full values) (length-map values (λ x. Some x) ∙ many)
-
-pub answer_to : (instance : List (List (List Value))) (d : Disjunct) (atoms : List Atom) (tuple : List Value)
-    → IsDisjunct d → IsPermutation d.atoms atoms
-    → IsAnswerBy instance d tuple → IsHeadOfSome instance d.tests d.head atoms (replicate d.vars None) tuple
-answer_to instance d atoms tuple fits permuted is =
+pub answer_to : (instance : List (List (List Value))) (d : Disjunct) (conditions : Conditioned) (atoms : List Atom)
+    (tuple : List Value) → IsSearched d conditions atoms
+    → IsAnswerBy instance d tuple → IsHeadOfSome instance conditions d.head atoms (begun d conditions) tuple
+answer_to instance d conditions atoms tuple searched is =
+    let on : Extends (begun d conditions) (full is.values) =
+    spread_on conditions.equalities (replicate d.vars None) (full is.values) (from_nothing d is.values is.meets.per_var)
+    (met_agrees instance d conditions atoms is.values searched is.meets) in
     record {
       values = full is.values;
-      solution = met_solution instance d atoms (replicate d.vars None) is.values fits permuted
-          (from_nothing d is.values is.meets.per_var) is.meets;
+      solution = met_solution instance d conditions atoms (begun d conditions) is.values searched on is.meets;
       is_head = head_full is.values d.head tuple is.is_head;
     }
 
 -- all heads of solutions are added, which are the answers by a disjunct
-pub adds_answers : (instance : List (List (List Value))) (d : Disjunct) (tests : List Test) (head : List ℕ)
+pub adds_answers : (instance : List (List (List Value))) (d : Disjunct) (conditions : Conditioned) (head : List ℕ)
     (atoms : List Atom) (b : List (Option Value)) (old new : Bounded) (is_full : Bool)
-    → tests ≡ d.tests → head ≡ d.head → b ≡ replicate d.vars None → IsDisjunct d → IsPermutation d.atoms atoms
-    → Adds (IsHeadOfSome instance tests head atoms b) old new is_full
+    → head ≡ d.head → b ≡ spread conditions.equalities (replicate d.vars None) → IsSearched d conditions atoms
+    → Adds (IsHeadOfSome instance conditions head atoms b) old new is_full
     → Adds (IsAnswerBy instance d) old new is_full
-adds_answers instance d tests head atoms b old new is_full is_tests is_head is_b fits permuted adds =
-    adds_same (IsHeadOfSome instance d.tests d.head atoms (replicate d.vars None)) (IsAnswerBy instance d) old new is_full
-    (subst (λ u. Adds (IsHeadOfSome instance d.tests d.head atoms u) old new is_full) is_b
-    (subst (λ u. Adds (IsHeadOfSome instance d.tests u atoms b) old new is_full) is_head
-    (subst (λ u. Adds (IsHeadOfSome instance u head atoms b) old new is_full) is_tests adds)))
-    (λ tuple is. answer_from instance d atoms tuple fits permuted is)
-    (λ opened tuple is. answer_to instance d atoms tuple fits permuted is)
+adds_answers instance d conditions head atoms b old new is_full is_head is_b searched adds =
+    adds_same (IsHeadOfSome instance conditions d.head atoms (begun d conditions)) (IsAnswerBy instance d) old new is_full
+    (subst (λ u. Adds (IsHeadOfSome instance conditions d.head atoms u) old new is_full) is_b
+    (subst (λ u. Adds (IsHeadOfSome instance conditions u atoms b) old new is_full) is_head adds))
+    (λ tuple is. answer_from instance d conditions atoms tuple searched is)
+    (λ opened tuple is. answer_to instance d conditions atoms tuple searched is)
+
+-- where the comparisons hold nowhere there is no answer
+pub contrary_none : (instance : List (List (List Value))) (d : Disjunct) (tests : List Test) (tuple : List Value)
+    → tests ≡ d.tests → AreContrary tests → IsAnswerBy instance d tuple → ⊥
+contrary_none instance d tests tuple same contrary is = contrary is.values
+    (subst (All (TestHolds is.values)) (sym same) is.meets.tests)
 
 -- ---- values of the head's variables
 
@@ -140,33 +156,39 @@ answer_goes_on d tuple values many is =
     (head_fitted values d.head tuple is))
 
 -- where the head's variables cannot have a tuple's values it is no answer
-pub no_head : (instance : List (List (List Value))) (d : Disjunct) (tuple : List Value) → None ≡ bind_all
-    (replicate d.vars None) d.head tuple → IsAnswerBy instance d tuple → ⊥
-no_head instance d tuple none is =
+pub no_head : (instance : List (List (List Value))) (d : Disjunct) (equalities : List Equated) (tuple : List Value)
+    → None ≡ option_map (spread equalities) (bind_all (replicate d.vars None) d.head tuple) → IsAnswerBy instance d tuple → ⊥
+no_head instance d equalities tuple none is =
     let on = answer_goes_on d tuple is.values is.meets.per_var is.is_head in
-    none-some on.next (none ∙ on.is)
+    none-some (spread equalities on.next) (none ∙ ap (option_map (spread equalities)) on.is)
 
 -- what is found from the values of the head
-pub met_found : (instance : List (List (List Value))) (d : Disjunct) (tests : List Test) (atoms : List Atom)
+pub met_found : (instance : List (List (List Value))) (d : Disjunct) (conditions : Conditioned) (atoms : List Atom)
     (b : List (Option Value)) (tuple : List Value) (found : Option (List (Option Value)))
-    → tests ≡ d.tests → IsDisjunct d → IsPermutation d.atoms atoms → bind_all (replicate d.vars None) d.head tuple ≡
-    Some b → IsFound instance tests atoms b found
-    → IsMetFound instance d tuple found
-met_found instance d tests atoms b tuple None is_tests fits permuted bound never = λ is.
+    → IsSearched d conditions atoms
+    → option_map (spread conditions.equalities) (bind_all (replicate d.vars None) d.head tuple) ≡ Some b
+    → IsFound instance conditions atoms b found → IsMetFound instance d tuple found
+met_found instance d conditions atoms b tuple None searched bound never = λ is.
+    let parts = mapped_some (spread conditions.equalities) (bind_all (replicate d.vars None) d.head tuple) b bound in
     let on = answer_goes_on d tuple is.values is.meets.per_var is.is_head in
-    let same : on.next ≡ b = same_Some on.next b (sym on.is ∙ bound) in
-    let extends : Extends b (full is.values) = subst (λ c. Extends c (full is.values)) same on.extends in
-    never (full is.values) (subst (λ l. IsSolution instance l atoms b (full is.values)) (sym is_tests)
-    (met_solution instance d atoms b is.values fits permuted extends is.meets))
-met_found instance d tests atoms b tuple (Some c) is_tests fits permuted bound solution =
-    let given : fit (replicate d.vars None) (map (λ v. Var v) d.head) tuple ≡ Some b =
-    sym (as_fit (replicate d.vars None) d.head tuple) ∙ bound in
-    let own = all_fitted (replicate d.vars None) (map (λ v. Var v) d.head) tuple b given in
-    let many : length b ≡ d.vars = sym own.extends.as_many ∙ many_none d.vars in
-    let solved : IsSolution instance d.tests atoms b c = subst (λ l. IsSolution instance l atoms b c) is_tests solution in
-    let met = solution_met instance d atoms b c fits permuted many solved in
-    let on : AreFitted c (map (λ v. Var v) d.head) tuple = all_on b c (map (λ v. Var v) d.head) tuple
-    (reached_extends instance atoms b c solved.reached) own.fitted in
+    let same : on.next ≡ parts.0 = same_Some on.next parts.0 (sym on.is ∙ parts.1) in
+    let own : Extends parts.0 (full is.values) = subst (λ c. Extends c (full is.values)) same on.extends in
+    let spreads : Extends (spread conditions.equalities parts.0) (full is.values) =
+    spread_on conditions.equalities parts.0 (full is.values) own
+    (met_agrees instance d conditions atoms is.values searched is.meets) in
+    let extends : Extends b (full is.values) = subst (λ c. Extends c (full is.values)) parts.2 spreads in
+    never (full is.values) (met_solution instance d conditions atoms b is.values searched extends is.meets)
+met_found instance d conditions atoms b tuple (Some c) searched bound solution =
+    let parts = mapped_some (spread conditions.equalities) (bind_all (replicate d.vars None) d.head tuple) b bound in
+    let given : fit (replicate d.vars None) (map (λ v. Var v) d.head) tuple ≡ Some parts.0 =
+    sym (as_fit (replicate d.vars None) d.head tuple) ∙ parts.1 in
+    let own = all_fitted (replicate d.vars None) (map (λ v. Var v) d.head) tuple parts.0 given in
+    let first : Extends parts.0 b = subst (Extends parts.0) parts.2 (spread_extends conditions.equalities parts.0) in
+    let many : length b ≡ d.vars = sym first.as_many ∙ sym own.extends.as_many ∙ many_none d.vars in
+    let met = solution_met instance d conditions atoms b c searched many solution in
+    let later : Extends parts.0 c = extends_on parts.0 b c first
+    (reached_extends conditions.equalities instance atoms b c solution.reached) in
+    let on : AreFitted c (map (λ v. Var v) d.head) tuple = all_on parts.0 c (map (λ v. Var v) d.head) tuple later own.fitted in
     record {
       same = met.same;
       meets = met.meets;

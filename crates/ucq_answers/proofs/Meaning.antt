@@ -1,11 +1,9 @@
 -- What a search finds is what meets a disjunct.
 use Rattle.std.proofs.Common.{◌≡◌, ◌<◌, inl, inr, ℕ, zero, suc, Bool, true, false, ◌&&◌, List, [], ◌∷◌, map, length, replicate, get_or, Option, None, Some, option_map, unwrap_or, slice_get, refl, sym, ap, subst, ◌∙◌, arith}
 use Rattle.std.specs.List.{All, Contains}
-use Rattle.std.specs.List.Sorted.{IsPermutation}
 use Rattle.std.proofs.lemmas.List.{length-map}
 use Rattle.std.proofs.lemmas.Bool.{false≢true}
-use Rattle.std.proofs.lemmas.List.Elements.{All-cons, All-head, All-nil, All-tail, Contains-get_or}
-use Rattle.std.proofs.lemmas.List.Sorted.{All-permutation, Contains-permutation}
+use Rattle.std.proofs.lemmas.List.Elements.{All-cons, All-contains, All-head, All-nil, All-tail, Contains-get_or}
 use Rattle.std.proofs.lemmas.Option.{get_or_from_slice_get, none-some, same_Some, slice_get-get_or, slice_get-map, slice_get_within}
 use Rattle.currency_base.specs.declared.value.Cmp.{Cmp}
 use Rattle.currency_base.specs.declared.value.Value.{Value}
@@ -18,10 +16,13 @@ use Rattle.query_model.specs.declared.query.Term.TheVariants as term
 use Rattle.query_model.specs.declared.query.Test.{Test}
 use Rattle.query_model.specs.declared.query.TestTerm.{TestTerm}
 use Rattle.query_model.specs.declared.query.TestTerm.TheVariants as test
+use Rattle.query_plan.specs.Implied.{Equated, IsImplied}
+use Rattle.query_plan.specs.Plans.{AreSameAtoms, Conditioned}
 use Rattle.ucq_answers.specs.Partly.{IsSolution, Reached, head_at, may_hold, passes, put_before, side_of, tuples_of, value_at, values_of}
 use Rattle.ucq_answers.proofs.Among.{Among, from_contains}
-use Rattle.ucq_answers.proofs.GoingOn.{AreFitted, Extends, IsFitted, all_fitted, all_on, can_fit, get_none}
+use Rattle.ucq_answers.proofs.GoingOn.{AreFitted, Extends, IsFitted, all_on, get_none}
 use Rattle.ucq_answers.proofs.Searching.{put_some, reached_extends}
+use Rattle.ucq_answers.proofs.Spreading.{Agrees, all_joined, can_join}
 
 -- each variable has its value
 abbrev pub full : List Value → List (Option Value)
@@ -45,6 +46,18 @@ value_full values v = ap (λ o. unwrap_or o None) (slice_get-map (λ y. Some y) 
     by : (o : Option Value) → unwrap_or (option_map (λ y. Some y) o) None ≡ o
     by None = refl
     by (Some y) = refl
+
+side_full : (values : List Value) (s : TestTerm) → side_of (full values) s ≡ value_of values s
+side_full values (test.Var v) = value_full values v
+side_full values (test.Constant c) = refl
+
+-- where the comparisons hold the values agree with what follows of them
+pub agrees : (values : List Value) (tests : List Test) (equalities : List Equated) → All (TestHolds values) tests
+    → All (IsImplied tests) equalities → All (Agrees (full values)) equalities
+agrees values tests equalities all implied = λ k e below. one (get_or equalities k e) (implied k e below)
+  where
+    one : (e : Equated) → IsImplied tests e → Agrees (full values) e
+    one e is x has = get_full values e.var x (is values x all (sym (side_full values e.side) ∙ has))
 
 -- no variable has one
 abbrev pub nothing : ℕ → List (Option Value)
@@ -91,26 +104,29 @@ fitted_tuple values terms tuple are = record {
 }
 
 -- some values that are reached, of those that meet all atoms
-pub record IsReached (instance : List (List (List Value))) (atoms : List Atom) (b d : List (Option Value)) : Type 0 where
+pub record IsReached (equalities : List Equated) (instance : List (List (List Value))) (atoms : List Atom)
+    (b d : List (Option Value)) : Type 0 where
   pub values : List (Option Value)
-  pub reached : Reached instance atoms b values
+  pub reached : Reached equalities instance atoms b values
   pub extends : Extends values d
 
-reach : (instance : List (List (List Value))) (values : List Value) (atoms : List Atom) (b : List (Option Value))
+reach : (equalities : List Equated) (instance : List (List (List Value))) (values : List Value) (atoms : List Atom)
+    (b : List (Option Value)) → All (Agrees (full values)) equalities
     → Extends b (full values) → All (AtomHolds instance values) atoms
-    → IsReached instance atoms b (full values)
-reach instance values [] b on all = record { values = b; reached = refl; extends = on }
-reach instance values (atom ∷ atoms) b on all =
+    → IsReached equalities instance atoms b (full values)
+reach equalities instance values [] b agree on all = record { values = b; reached = refl; extends = on }
+reach equalities instance values (atom ∷ atoms) b agree on all =
     let own = All-head (AtomHolds instance values) atom atoms all in
     let are : AreFitted (full values) atom.terms own.tuple = tuple_fitted values atom.terms own.tuple own.fits in
-    let next = can_fit b (full values) atom.terms own.tuple on are in
-    let rest = reach instance values atoms next.next next.extends (All-tail (AtomHolds instance values) atom atoms all) in
+    let next = can_join equalities b (full values) atom.terms own.tuple on are agree in
+    let rest = reach equalities instance values atoms next.next agree next.extends
+    (All-tail (AtomHolds instance values) atom atoms all) in
     let tuples = tuples_of instance atom in
     let at : slice_get tuples own.is_there.0 ≡ Some own.tuple =
     slice_get-get_or tuples own.is_there.0 own.tuple own.is_there.1 ∙ ap (λ u. Some u) own.is_there.2 in
     record {
       values = rest.values;
-      reached = (next.next, record { place = own.is_there.0; tuple = own.tuple; is_tuple = at; fits = next.is }, rest.reached);
+      reached = (next.next, record { place = own.is_there.0; tuple = own.tuple; is_tuple = at; joins = next.is }, rest.reached);
       extends = rest.extends;
     }
 
@@ -122,14 +138,15 @@ pub record Held (instance : List (List (List Value))) (c : List (Option Value)) 
   pub fitted : AreFitted c atom.terms tuple
 
 -- each atom holds in what is reached
-pub each_held : (instance : List (List (List Value))) (atoms : List Atom) (b c : List (Option Value)) (atom : Atom)
-    → Reached instance atoms b c → Among atoms atom → Held instance c atom
-each_held instance [] b c atom reached is = absurd is
-each_held instance (first ∷ atoms) b c atom reached (inl same) =
+pub each_held : (equalities : List Equated) (instance : List (List (List Value))) (atoms : List Atom)
+    (b c : List (Option Value)) (atom : Atom)
+    → Reached equalities instance atoms b c → Among atoms atom → Held instance c atom
+each_held equalities instance [] b c atom reached is = absurd is
+each_held equalities instance (first ∷ atoms) b c atom reached (inl same) =
     let next = reached.0 in
     let own = reached.1 in
-    let fitted = all_fitted b first.terms own.tuple next own.fits in
-    let on = reached_extends instance atoms next c reached.2 in
+    let fitted = all_joined equalities b first.terms own.tuple next own.joins in
+    let on = reached_extends equalities instance atoms next c reached.2 in
     subst (Held instance c) same record {
       place = own.place;
       tuple = own.tuple;
@@ -137,7 +154,8 @@ each_held instance (first ∷ atoms) b c atom reached (inl same) =
       fitted =
           all_on next c first.terms own.tuple on fitted.fitted;
     }
-each_held instance (first ∷ atoms) b c atom reached (inr rest) = each_held instance atoms reached.0 c atom reached.2 rest
+each_held equalities instance (first ∷ atoms) b c atom reached (inr rest) =
+    each_held equalities instance atoms reached.0 c atom reached.2 rest
 
 -- a variable that stands in an atom has a value
 pub record HasValue (c : List (Option Value)) (v : ℕ) : Type 0 where
@@ -159,13 +177,13 @@ held_value instance c atom v held stands =
     by own None at inside = absurd (get_none held.tuple stands.0 inside at)
     by own (Some x) at inside = record { value = x; has = held.fitted.each stands.0 (term.Var v) x own at }
 
-pub all_have : (instance : List (List (List Value))) (d : Disjunct) (atoms : List Atom) (b c : List (Option Value))
-    → IsDisjunct d → IsPermutation d.atoms atoms → Reached instance atoms b c
+pub all_have : (equalities : List Equated) (instance : List (List (List Value))) (d : Disjunct) (atoms : List Atom)
+    (b c : List (Option Value)) → IsDisjunct d → AreSameAtoms d.atoms atoms → Reached equalities instance atoms b c
     → (v : ℕ) → v < d.vars → HasValue c v
-all_have instance d atoms b c fits permuted reached v below =
+all_have equalities instance d atoms b c fits same reached v below =
     let stands = fits.each_stands v below in
-    let there = Contains-permutation d.atoms atoms stands.atom permuted stands.is_atom in
-    held_value instance c stands.atom v (each_held instance atoms b c stands.atom reached
+    let there = same.all stands.atom stands.is_atom in
+    held_value instance c stands.atom v (each_held equalities instance atoms b c stands.atom reached
     (from_contains atoms stands.atom there)) stands.stands
 
 -- ---- values of all variables
@@ -210,10 +228,6 @@ full_extends values c on = extends_full (full values) c has on
         by (Some x) at = record { value = x; has = get_full values v x at }
 
 -- ---- comparisons
-
-side_full : (values : List Value) (s : TestTerm) → side_of (full values) s ≡ value_of values s
-side_full values (test.Var v) = value_full values v
-side_full values (test.Constant c) = refl
 
 holds_may : (o p : Option Value) (cmp : Cmp) → is_compared o cmp p ≡ true → may_hold o cmp p ≡ true
 holds_may None p cmp holds = refl
@@ -292,43 +306,65 @@ full_head values (v ∷ head) tuple is =
 
 -- ---- solutions
 
+-- a disjunct that fits, what its comparisons say, and its atoms in some order
+pub record IsSearched (d : Disjunct) (conditions : Conditioned) (atoms : List Atom) : Type 0 where
+  pub fits : IsDisjunct d
+  pub tests : conditions.tests ≡ d.tests
+  pub implied : All (IsImplied conditions.tests) conditions.equalities
+  pub same : AreSameAtoms d.atoms atoms
+
+-- where a disjunct is met the values agree with what follows
+pub met_agrees : (instance : List (List (List Value))) (d : Disjunct) (conditions : Conditioned) (atoms : List Atom)
+    (values : List Value) → IsSearched d conditions atoms → Meets instance d values
+    → All (Agrees (full values)) conditions.equalities
+met_agrees instance d conditions atoms values searched meets =
+    agrees values conditions.tests conditions.equalities
+    (subst (All (TestHolds values)) (sym searched.tests) meets.tests) searched.implied
+
 -- values that meet a disjunct are a solution from each part of them
-pub met_solution : (instance : List (List (List Value))) (d : Disjunct) (atoms : List Atom) (b : List (Option Value))
-    (values : List Value) → IsDisjunct d → IsPermutation d.atoms atoms
-    → Extends b (full values) → Meets instance d values → IsSolution instance d.tests atoms b (full values)
-met_solution instance d atoms b values fits permuted on meets =
-    let found = reach instance values atoms b on (All-permutation (AtomHolds instance values) d.atoms atoms permuted
-    meets.atoms) in
+pub met_solution : (instance : List (List (List Value))) (d : Disjunct) (conditions : Conditioned) (atoms : List Atom)
+    (b : List (Option Value)) (values : List Value) → IsSearched d conditions atoms
+    → Extends b (full values) → Meets instance d values → IsSolution instance conditions atoms b (full values)
+met_solution instance d conditions atoms b values searched on meets =
+    let holds : All (AtomHolds instance values) atoms =
+    λ k e below. All-contains (AtomHolds instance values) d.atoms (get_or atoms k e) meets.atoms
+    (searched.same.each (get_or atoms k e) (Contains-get_or atoms k e below)) in
+    let found = reach conditions.equalities instance values atoms b
+    (met_agrees instance d conditions atoms values searched meets) on holds in
     let many : length found.values ≡ d.vars = found.extends.as_many ∙ length-map values (λ x. Some x) ∙ meets.per_var in
     let same : found.values ≡ full values =
-    extends_full found.values (full values) (λ v below. all_have instance d atoms b found.values fits permuted
-    found.reached v (omega (arith, many, below))) found.extends in
-    record { reached = subst (Reached instance atoms b) same found.reached; passed = pass_all values d.tests meets.tests }
+    extends_full found.values (full values) (λ v below. all_have conditions.equalities instance d atoms b found.values
+    searched.fits searched.same found.reached v (omega (arith, many, below))) found.extends in
+    record {
+      reached = subst (Reached conditions.equalities instance atoms b) same found.reached;
+      passed = ap (λ l. passes (full values) l) searched.tests ∙ pass_all values d.tests meets.tests;
+    }
 
 -- a solution, as values that meet a disjunct
 pub record IsMet (instance : List (List (List Value))) (d : Disjunct) (c : List (Option Value)) : Type 0 where
   pub same : c ≡ full (values_of c)
   pub meets : Meets instance d (values_of c)
 
-pub solution_met : (instance : List (List (List Value))) (d : Disjunct) (atoms : List Atom)
-    (b c : List (Option Value)) → IsDisjunct d → IsPermutation d.atoms atoms → length b ≡ d.vars
-    → IsSolution instance d.tests atoms b c → IsMet instance d c
-solution_met instance d atoms b c fits permuted vars solution =
+pub solution_met : (instance : List (List (List Value))) (d : Disjunct) (conditions : Conditioned) (atoms : List Atom)
+    (b c : List (Option Value)) → IsSearched d conditions atoms → length b ≡ d.vars
+    → IsSolution instance conditions atoms b c → IsMet instance d c
+solution_met instance d conditions atoms b c searched vars solution =
     record { same = same; meets = record { per_var = many; atoms = atoms_hold; tests = tests } }
   where
     count : length c ≡ d.vars
-    count = sym (reached_extends instance atoms b c solution.reached).as_many ∙ vars
+    count = sym (reached_extends conditions.equalities instance atoms b c solution.reached).as_many ∙ vars
 
     same : c ≡ full (values_of c)
-    same = is_full c (λ v below. all_have instance d atoms b c fits permuted solution.reached v (omega (arith, count, below)))
+    same = is_full c (λ v below. all_have conditions.equalities instance d atoms b c searched.fits searched.same
+        solution.reached v (omega (arith, count, below)))
 
     many : length (values_of c) ≡ d.vars
     many = sym (length-map (values_of c) (λ x. Some x)) ∙ ap (λ l. length l) (sym same) ∙ count
 
     holds : (atom : Atom) → Contains d.atoms atom → AtomHolds instance (values_of c) atom
     holds atom is =
-        let there = Contains-permutation d.atoms atoms atom permuted is in
-        let held = each_held instance atoms b c atom solution.reached (from_contains atoms atom there) in
+        let there = searched.same.all atom is in
+        let held = each_held conditions.equalities instance atoms b c atom solution.reached (from_contains atoms atom there) in
         let fitted : AreFitted (full (values_of c)) atom.terms held.tuple =
         subst (λ e. AreFitted e atom.terms held.tuple) same held.fitted in
         let inside = slice_get_within (tuples_of instance atom) held.place held.tuple held.is_tuple in
@@ -346,8 +382,11 @@ solution_met instance d atoms b c fits permuted vars solution =
     atoms_hold : All (AtomHolds instance (values_of c)) d.atoms
     atoms_hold k e below = holds (get_or d.atoms k e) (Contains-get_or d.atoms k e below)
 
+    passed : passes c d.tests ≡ true
+    passed = ap (λ l. passes c l) (sym searched.tests) ∙ solution.passed
+
     tests : All (TestHolds (values_of c)) d.tests
     tests =
-        all_pass (values_of c) d.tests (subst (λ n. All (λ t. IsTestTermOf n t.left) d.tests) (sym many) fits.left)
-        (subst (λ n. All (λ t. IsTestTermOf n t.right) d.tests) (sym many) fits.right)
-        (subst (λ e. passes e d.tests ≡ true) same solution.passed)
+        all_pass (values_of c) d.tests (subst (λ n. All (λ t. IsTestTermOf n t.left) d.tests) (sym many) searched.fits.left)
+        (subst (λ n. All (λ t. IsTestTermOf n t.right) d.tests) (sym many) searched.fits.right)
+        (subst (λ e. passes e d.tests ≡ true) same passed)

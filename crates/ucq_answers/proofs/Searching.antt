@@ -1,5 +1,5 @@
 -- What a search finds, step by step.
-use Rattle.std.proofs.Common.{◌≡◌, ℕ, Bool, true, false, ◌&&◌, List, [], ◌∷◌, Option, None, Some, option_and_then, unwrap_or, slice_get, refl, sym, ap, subst, ◌∙◌}
+use Rattle.std.proofs.Common.{◌≡◌, ℕ, Bool, true, false, ◌&&◌, List, [], ◌∷◌, Option, None, Some, option_and_then, slice_get, refl, sym, ap, subst, ◌∙◌}
 use Rattle.std.specs.List.{All, Contains}
 use Rattle.std.proofs.lemmas.Bool.{false≢true}
 use Rattle.std.proofs.lemmas.List.Elements.{All-contains}
@@ -9,20 +9,15 @@ use Rattle.currency_base.specs.declared.value.Cmp.{Cmp}
 use Rattle.currency_base.specs.declared.value.Value.{Value}
 use Rattle.query_model.specs.declared.query.Atom.{Atom}
 use Rattle.query_model.specs.declared.query.Test.{Test}
-use Rattle.query_model.specs.declared.query.TestTerm.{TestTerm}
-use Rattle.query_model.specs.declared.query.TestTerm.TheVariants as test
+use Rattle.query_plan.specs.Plans.{Conditioned}
+use Rattle.query_plan.specs.Implied.{Equated}
+use Rattle.ucq_answers.specs.Found.{NoneAt}
 use Rattle.ucq_answers.specs.Lookups.{AreCandidates}
-use Rattle.ucq_answers.specs.Partly.{IsHeadOfSome, IsSolution, Reached, fit, head_at, may_hold, passes, put_before, side_of, tuples_of, value_at}
-use Rattle.ucq_answers.proofs.GoingOn.{Extends, all_fitted, extends_on, extends_same, value_is}
+use Rattle.ucq_answers.specs.Partly.{IsHeadOfSome, IsSolution, Reached, head_at, join, joined_at, may_hold, passes, put_before, side_of, tuples_of, value_at}
+use Rattle.ucq_answers.proofs.GoingOn.{Extends, extends_on, extends_same}
+use Rattle.ucq_answers.proofs.Spreading.{all_joined, joined_fit, side_on, value_on}
 
 -- ---- comparisons
-
-value_on : (b c : List (Option Value)) (v : ℕ) (x : Value) → Extends b c → value_at b v ≡ Some x → value_at c v ≡ Some x
-value_on b c v x on is = ap (λ o. unwrap_or o None) (on.kept v x (value_is b v x is))
-
-side_on : (b c : List (Option Value)) (s : TestTerm) (x : Value) → Extends b c → side_of b s ≡ Some x → side_of c s ≡ Some x
-side_on b c (test.Var v) x on is = value_on b c v x on is
-side_on b c (test.Constant k) x on is = is
 
 may_on : (o p o' p' : Option Value) (cmp : Cmp) → ((x : Value) → o ≡ Some x → o' ≡ Some x) →
     ((x : Value) → p ≡ Some x → p' ≡ Some x) → may_hold o' cmp p' ≡ true
@@ -47,37 +42,39 @@ passes_before b c (t ∷ tests) on all =
 
 -- ---- what is reached
 
-pub reached_extends : (instance : List (List (List Value))) (atoms : List Atom) (b c : List (Option Value))
-    → Reached instance atoms b c → Extends b c
-reached_extends instance [] b c is = subst (Extends b) is (extends_same b)
-reached_extends instance (atom ∷ atoms) b c is =
-    let first = all_fitted b atom.terms is.1.tuple is.0 is.1.fits in
-    extends_on b is.0 c first.extends (reached_extends instance atoms is.0 c is.2)
+pub reached_extends : (equalities : List Equated) (instance : List (List (List Value))) (atoms : List Atom)
+    (b c : List (Option Value)) → Reached equalities instance atoms b c → Extends b c
+reached_extends equalities instance [] b c is = subst (Extends b) is (extends_same b)
+reached_extends equalities instance (atom ∷ atoms) b c is =
+    let first = all_joined equalities b atom.terms is.1.tuple is.0 is.1.joins in
+    extends_on b is.0 c first.extends (reached_extends equalities instance atoms is.0 c is.2)
 
 -- where a comparison fails there is no solution
-pub fails_all : (instance : List (List (List Value))) (tests : List Test) (atoms : List Atom)
-    (b c : List (Option Value)) → false ≡ passes b tests → IsSolution instance tests atoms b c → ⊥
-fails_all instance tests atoms b c fails solution =
-    false≢true (fails ∙ passes_before b c tests (reached_extends instance atoms b c solution.reached) solution.passed)
+pub fails_all : (instance : List (List (List Value))) (conditions : Conditioned) (tests : List Test) (atoms : List Atom)
+    (b c : List (Option Value)) → tests ≡ conditions.tests → false ≡ passes b tests → IsSolution instance conditions atoms b c → ⊥
+fails_all instance conditions tests atoms b c is fails solution =
+    false≢true (fails ∙ passes_before b c tests (reached_extends conditions.equalities instance atoms b c solution.reached)
+    (ap (λ l. passes c l) is ∙ solution.passed))
 
 -- where no atom is left the values are a solution
-pub solved : (instance : List (List (List Value))) (tests : List Test) (atoms : List Atom) (b : List (Option Value))
-    → [] ≡ atoms → true ≡ passes b tests → IsSolution instance tests atoms b b
-solved instance tests atoms b none passed = subst (λ l. IsSolution instance tests l b b) none
-    record { reached = refl; passed = sym passed }
+pub solved : (instance : List (List (List Value))) (conditions : Conditioned) (tests : List Test) (atoms : List Atom)
+    (b : List (Option Value)) → tests ≡ conditions.tests → [] ≡ atoms → true ≡ passes b tests
+    → IsSolution instance conditions atoms b b
+solved instance conditions tests atoms b is none passed = subst (λ l. IsSolution instance conditions l b b) none
+    record { reached = refl; passed = ap (λ l. passes b l) (sym is) ∙ sym passed }
 
 -- one more atom, at a tuple that it fits
-pub solved_more : (instance : List (List (List Value))) (tests : List Test) (atom : Atom) (rest : List Atom)
+pub solved_more : (instance : List (List (List Value))) (conditions : Conditioned) (atom : Atom) (rest : List Atom)
     (b next c : List (Option Value)) (ent : EntId)
-    → Some next ≡ option_and_then (λ tuple. fit b atom.terms tuple) (slice_get (tuples_of instance atom) ent.0)
-    → IsSolution instance tests rest next c
-    → IsSolution instance tests (atom ∷ rest) b c
-solved_more instance tests atom rest b next c ent is solution =
-    option_and_then_some (λ tuple. fit b atom.terms tuple) (slice_get (tuples_of instance atom) ent.0) next (sym is)
-    (λ tuple at fits. record {
+    → Some next ≡ joined_at conditions.equalities instance atom b ent
+    → IsSolution instance conditions rest next c
+    → IsSolution instance conditions (atom ∷ rest) b c
+solved_more instance conditions atom rest b next c ent is solution =
+    option_and_then_some (λ tuple. join conditions.equalities b atom.terms tuple) (slice_get (tuples_of instance atom) ent.0) next
+    (sym is) (λ tuple at joins. record {
       reached = (
         next,
-        record { place = ent.0; tuple = tuple; is_tuple = at; fits = fits },
+        record { place = ent.0; tuple = tuple; is_tuple = at; joins = joins },
         solution.reached,
       );
       passed = solution.passed;
@@ -85,38 +82,45 @@ solved_more instance tests atom rest b next c ent is solution =
 
 -- ---- one candidate after another
 
--- no solution begins with this tuple
-abbrev pub NoneAt : List (List (List Value)) → List Test → Atom → List Atom → List (Option Value) → EntId → Type 0
-NoneAt instance tests atom rest b ent = (next c : List (Option Value)) → option_and_then
-    (λ tuple. fit b atom.terms tuple) (slice_get (tuples_of instance atom) ent.0) ≡ Some next
-    → IsSolution instance tests rest next c → ⊥
+pub unfit_none : (instance : List (List (List Value))) (conditions : Conditioned) (atom : Atom) (rest : List Atom)
+    (b : List (Option Value)) (ent : EntId) → None ≡ joined_at conditions.equalities instance atom b ent
+    → NoneAt instance conditions atom rest b ent
+unfit_none instance conditions atom rest b ent none next c fits solution = none-some next (none ∙ fits)
 
-pub unfit_none : (instance : List (List (List Value))) (tests : List Test) (atom : Atom) (rest : List Atom)
-    (b : List (Option Value)) (ent : EntId)
-    → None ≡ option_and_then (λ tuple. fit b atom.terms tuple) (slice_get (tuples_of instance atom) ent.0)
-    → NoneAt instance tests atom rest b ent
-unfit_none instance tests atom rest b ent none next c fits solution = none-some next (none ∙ fits)
-
-pub unfound_none : (instance : List (List (List Value))) (tests : List Test) (atom : Atom) (rest : List Atom)
+pub unfound_none : (instance : List (List (List Value))) (conditions : Conditioned) (atom : Atom) (rest : List Atom)
     (b own : List (Option Value)) (ent : EntId)
-    → Some own ≡ option_and_then (λ tuple. fit b atom.terms tuple) (slice_get (tuples_of instance atom) ent.0) →
-    ((c : List (Option Value)) → IsSolution instance tests rest own c → ⊥)
-    → NoneAt instance tests atom rest b ent
-unfound_none instance tests atom rest b own ent is never next c fits solution =
+    → Some own ≡ joined_at conditions.equalities instance atom b ent →
+    ((c : List (Option Value)) → IsSolution instance conditions rest own c → ⊥)
+    → NoneAt instance conditions atom rest b ent
+unfound_none instance conditions atom rest b own ent is never next c fits solution =
     let same : own ≡ next = same_Some own next (is ∙ fits) in
-    never c (subst (λ d. IsSolution instance tests rest d c) (sym same) solution)
+    never c (subst (λ d. IsSolution instance conditions rest d c) (sym same) solution)
 
-pub never_any : (instance : List (List (List Value))) (tests : List Test) (atom : Atom) (rest : List Atom)
-    (b : List (Option Value)) (ents : List EntId)
-    → AreCandidates (tuples_of instance atom) atom.terms b ents → All (NoneAt instance tests atom rest b) ents →
-    (c : List (Option Value)) → IsSolution instance tests (atom ∷ rest) b c → ⊥
-never_any instance tests atom rest b ents are none c solution =
-    let next = solution.reached.0 in
+-- a solution begins with one of the candidates
+pub begins : (instance : List (List (List Value))) (conditions : Conditioned) (atom : Atom) (rest : List Atom)
+    (b : List (Option Value)) (ents : List EntId) (c : List (Option Value))
+    → AreCandidates (tuples_of instance atom) conditions.tests atom.terms b ents
+    → (solution : IsSolution instance conditions (atom ∷ rest) b c)
+    → (ent : EntId) × Contains ents ent × (joined_at conditions.equalities instance atom b ent ≡ Some solution.reached.0)
+begins instance conditions atom rest b ents c are solution =
     let own = solution.reached.1 in
     let ent : EntId = record { 0 = own.place } in
-    let there : Contains ents ent = are own.place own.tuple next own.is_tuple own.fits in
-    All-contains (NoneAt instance tests atom rest b) ents ent none there next c
-    (ap (option_and_then (λ tuple. fit b atom.terms tuple)) own.is_tuple ∙ own.fits)
+    let fits = joined_fit conditions.equalities b atom.terms own.tuple solution.reached.0 own.joins in
+    let on : Extends fits.0 c = extends_on fits.0 solution.reached.0 c fits.2
+    (reached_extends conditions.equalities instance rest solution.reached.0 c solution.reached.2) in
+    let passed : passes fits.0 conditions.tests ≡ true = passes_before fits.0 c conditions.tests on solution.passed in (
+      ent,
+      are own.place own.tuple fits.0 own.is_tuple fits.1 passed,
+      ap (option_and_then (λ tuple. join conditions.equalities b atom.terms tuple)) own.is_tuple ∙ own.joins,
+    )
+
+pub never_any : (instance : List (List (List Value))) (conditions : Conditioned) (atom : Atom) (rest : List Atom)
+    (b : List (Option Value)) (ents : List EntId)
+    → AreCandidates (tuples_of instance atom) conditions.tests atom.terms b ents → All (NoneAt instance conditions atom rest b) ents →
+    (c : List (Option Value)) → IsSolution instance conditions (atom ∷ rest) b c → ⊥
+never_any instance conditions atom rest b ents are none c solution =
+    let first = begins instance conditions atom rest b ents c are solution in
+    All-contains (NoneAt instance conditions atom rest b) ents first.0 none first.1 solution.reached.0 c first.2
     record { reached = solution.reached.2; passed = solution.passed }
 
 -- ---- the head
@@ -137,14 +141,14 @@ head_on b c (v ∷ head) tuple on is =
     ∙ ap (λ t. Some t) (sym parts.4)
 
 -- the head of each solution, where the head has its values before
-pub head_of_each : (instance : List (List (List Value))) (tests : List Test) (head : List ℕ) (atoms : List Atom)
+pub head_of_each : (instance : List (List (List Value))) (conditions : Conditioned) (head : List ℕ) (atoms : List Atom)
     (b c : List (Option Value)) (tuple : List Value)
-    → head_at b head ≡ Some tuple → IsSolution instance tests atoms b c → head_at c head ≡ Some tuple
-head_of_each instance tests head atoms b c tuple is solution = head_on b c head tuple
-    (reached_extends instance atoms b c solution.reached) is
+    → head_at b head ≡ Some tuple → IsSolution instance conditions atoms b c → head_at c head ≡ Some tuple
+head_of_each instance conditions head atoms b c tuple is solution = head_on b c head tuple
+    (reached_extends conditions.equalities instance atoms b c solution.reached) is
 
-pub head_is : (instance : List (List (List Value))) (tests : List Test) (head : List ℕ) (atoms : List Atom)
+pub head_is : (instance : List (List (List Value))) (conditions : Conditioned) (head : List ℕ) (atoms : List Atom)
     (b : List (Option Value)) (tuple other : List Value)
-    → head_at b head ≡ Some tuple → IsHeadOfSome instance tests head atoms b other → tuple ≡ other
-head_is instance tests head atoms b tuple other is some =
-    same_Some tuple other (sym (head_of_each instance tests head atoms b some.values tuple is some.solution) ∙ some.is_head)
+    → head_at b head ≡ Some tuple → IsHeadOfSome instance conditions head atoms b other → tuple ≡ other
+head_is instance conditions head atoms b tuple other is some =
+    same_Some tuple other (sym (head_of_each instance conditions head atoms b some.values tuple is some.solution) ∙ some.is_head)

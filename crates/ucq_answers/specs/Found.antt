@@ -1,5 +1,5 @@
 -- What a search finds.
-use Rattle.std.specs.Prelude.{◌≡◌, ◌<◌, ◌⊎◌, ℕ, Bool, true, false, List, Option, Some, None, Contains, length, map, slice_get}
+use Rattle.std.specs.Prelude.{◌≡◌, ◌<◌, ◌⊎◌, ℕ, Bool, true, false, List, ◌∷◌, Option, Some, None, Contains, length, map, slice_get}
 use Rattle.std.specs.List.{AllZip}
 use Rattle.currency_base.specs.declared.ids.EntId.{EntId}
 use Rattle.currency_base.specs.declared.value.Value.{Value}
@@ -8,14 +8,33 @@ use Rattle.query_model.specs.declared.query.Atom.{Atom}
 use Rattle.query_model.specs.declared.query.Disjunct.{Disjunct}
 use Rattle.query_model.specs.declared.query.Match.{Match}
 use Rattle.query_model.specs.declared.query.Query.{Query}
-use Rattle.query_model.specs.declared.query.Test.{Test}
-use Rattle.ucq_answers.specs.Partly.{IsFit, IsSolution, fit, tuples_of, values_of}
+use Rattle.query_plan.specs.Plans.{Conditioned}
+use Rattle.ucq_answers.specs.Partly.{IsFit, IsHeadOfSome, IsSolution, fit, joined_at, tuples_of, values_of}
 
 -- a solution, or none where there is none
-abbrev pub IsFound : List (List (List Value)) → List Test → List Atom → List (Option Value)
+abbrev pub IsFound : List (List (List Value)) → Conditioned → List Atom → List (Option Value)
     → Option (List (Option Value)) → Type 0
-IsFound instance tests atoms b None = (c : List (Option Value)) → IsSolution instance tests atoms b c → ⊥
-IsFound instance tests atoms b (Some c) = IsSolution instance tests atoms b c
+IsFound instance conditions atoms b None = (c : List (Option Value)) → IsSolution instance conditions atoms b c → ⊥
+IsFound instance conditions atoms b (Some c) = IsSolution instance conditions atoms b c
+
+-- no solution begins with the tuple at this place
+abbrev pub NoneAt : List (List (List Value)) → Conditioned → Atom → List Atom → List (Option Value) → EntId → Type 0
+NoneAt instance conditions atom rest b ent = (next c : List (Option Value))
+    → joined_at conditions.equalities instance atom b ent ≡ Some next → IsSolution instance conditions rest next c → ⊥
+
+-- a solution that begins with it, or none where none does
+abbrev pub IsFoundAt : List (List (List Value)) → Conditioned → Atom → List Atom → List (Option Value) → EntId
+    → Option (List (Option Value)) → Type 0
+IsFoundAt instance conditions atom rest b ent None = NoneAt instance conditions atom rest b ent
+IsFoundAt instance conditions atom rest b ent (Some c) = IsSolution instance conditions (atom ∷ rest) b c
+
+-- the tuple is the head of a solution that begins with the tuple at this place
+pub record IsHeadAt (instance : List (List (List Value))) (conditions : Conditioned) (head : List ℕ) (atom : Atom)
+    (rest : List Atom) (b : List (Option Value)) (ent : EntId)
+    (tuple : List Value) : Type 0 where
+  pub next : List (Option Value)
+  pub fits : Some next ≡ joined_at conditions.equalities instance atom b ent
+  pub head_below : IsHeadOfSome instance conditions head rest next tuple
 
 -- ---- sets of answers
 

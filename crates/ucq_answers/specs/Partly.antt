@@ -1,7 +1,8 @@
 -- Values of some of the variables, and what they say of atoms and comparisons.
-use Rattle.std.specs.Prelude.{◌≡◌, ℕ, Bool, true, cond, List, [], ◌∷◌, Option, Some, None, slice_get, slice_set, slice_index_or, unwrap_or, option_and_then}
+use Rattle.std.specs.Prelude.{◌≡◌, ℕ, Bool, true, cond, List, [], ◌∷◌, Option, Some, None, slice_get, slice_set, slice_index_or, unwrap_or, option_and_then, option_map}
 use Rattle.std.specs.List.{list_all}
 use Rattle.currency_base.specs.Values.{value_test}
+use Rattle.currency_base.specs.declared.ids.EntId.{EntId}
 use Rattle.currency_base.specs.declared.value.Cmp.{Cmp}
 use Rattle.currency_base.specs.declared.value.Cmp.TheVariants.{Eq}
 use Rattle.currency_base.specs.declared.value.Value.{Value}
@@ -11,6 +12,8 @@ use Rattle.query_model.specs.declared.query.Term.TheVariants as term
 use Rattle.query_model.specs.declared.query.Test.{Test}
 use Rattle.query_model.specs.declared.query.TestTerm.{TestTerm}
 use Rattle.query_model.specs.declared.query.TestTerm.TheVariants as test
+use Rattle.query_plan.specs.Implied.{Equated}
+use Rattle.query_plan.specs.Plans.{Conditioned}
 
 -- ---- values of variables, the place of one being the variable's number
 
@@ -76,6 +79,27 @@ may_hold x cmp y = true
 abbrev pub passes : List (Option Value) → List Test → Bool
 passes b tests = list_all (λ t. may_hold (side_of b t.left) t.cmp (side_of b t.right)) tests
 
+-- ---- values that follow
+
+-- the values once a variable has this one, if it has none
+abbrev pub put_free : Option (Option Value) → List (Option Value) → ℕ → Value → List (Option Value)
+put_free (Some None) b v x = slice_set b v (Some x)
+put_free own b v x = b
+
+-- the values once a variable has that of a side, if it has none and that is known
+abbrev pub put_side : Option Value → List (Option Value) → ℕ → List (Option Value)
+put_side (Some x) b v = put_free (slice_get b v) b v x
+put_side None b v = b
+
+-- the values once one equality after another has told what follows
+abbrev pub spread : List Equated → List (Option Value) → List (Option Value)
+spread [] b = b
+spread (e ∷ es) b = spread es (put_side (side_of b e.side) b e.var)
+
+-- the values once terms fit a tuple, and what follows, if they can
+abbrev pub join : List Equated → List (Option Value) → List Term → List Value → Option (List (Option Value))
+join equalities b terms tuple = option_map (spread equalities) (fit b terms tuple)
+
 -- ---- the head
 
 abbrev pub put_before : Option Value → Option (List Value) → Option (List Value)
@@ -106,21 +130,35 @@ pub record IsFit (tuples : List (List Value)) (terms : List Term) (b c : List (O
   pub is_tuple : slice_get tuples place ≡ Some tuple
   pub fits : fit b terms tuple ≡ Some c
 
+-- the values once an atom's terms fit one of them, and what follows
+pub record IsJoined (equalities : List Equated) (tuples : List (List Value)) (terms : List Term)
+    (b c : List (Option Value)) : Type 0 where
+  pub place : ℕ
+  pub tuple : List Value
+  pub is_tuple : slice_get tuples place ≡ Some tuple
+  pub joins : join equalities b terms tuple ≡ Some c
+
+-- the values once an atom's terms fit the tuple at a place, and what follows, if they can
+abbrev pub joined_at : List Equated → List (List (List Value)) → Atom → List (Option Value) → EntId
+    → Option (List (Option Value))
+joined_at equalities instance atom b ent = option_and_then (λ tuple. join equalities b atom.terms tuple)
+    (slice_get (tuples_of instance atom) ent.0)
+
 -- the values once each atom's terms fit a tuple, atom by atom
-abbrev pub Reached : List (List (List Value)) → List Atom → List (Option Value) → List (Option Value) → Type 0
-Reached instance [] b c = b ≡ c
-Reached instance (atom ∷ atoms) b c = (next : List (Option Value)) × IsFit (tuples_of instance atom) atom.terms b
-    next × Reached instance atoms next c
+abbrev pub Reached : List Equated → List (List (List Value)) → List Atom → List (Option Value) → List (Option Value) → Type 0
+Reached equalities instance [] b c = b ≡ c
+Reached equalities instance (atom ∷ atoms) b c = (next : List (Option Value)) × IsJoined equalities
+    (tuples_of instance atom) atom.terms b next × Reached equalities instance atoms next c
 
 -- some values that are reached, of which no comparison fails
-pub record IsSolution (instance : List (List (List Value))) (tests : List Test) (atoms : List Atom)
+pub record IsSolution (instance : List (List (List Value))) (conditions : Conditioned) (atoms : List Atom)
     (b c : List (Option Value)) : Type 0 where
-  pub reached : Reached instance atoms b c
-  pub passed : passes c tests ≡ true
+  pub reached : Reached conditions.equalities instance atoms b c
+  pub passed : passes c conditions.tests ≡ true
 
 -- the tuple is the head's values in some of them
-pub record IsHeadOfSome (instance : List (List (List Value))) (tests : List Test) (head : List ℕ) (atoms : List Atom)
+pub record IsHeadOfSome (instance : List (List (List Value))) (conditions : Conditioned) (head : List ℕ) (atoms : List Atom)
     (b : List (Option Value)) (tuple : List Value) : Type 0 where
   pub values : List (Option Value)
-  pub solution : IsSolution instance tests atoms b values
+  pub solution : IsSolution instance conditions atoms b values
   pub is_head : head_at values head ≡ Some tuple

@@ -1,4 +1,4 @@
-ghost use Rattle.std.specs.Prelude.{◌≡◌, ◌<◌, ◌↔◌, [], IsTrue, IfOk, OnOk, OnErr, length};
+ghost use Rattle.std.specs.Prelude.{◌≡◌, ◌<◌, ◌↔◌, [], true, Contains, IsTrue, IfOk, OnOk, OnErr, length};
 ghost use Rattle.std.specs.Cmp.Lexicographic.{slice_cmp};
 ghost use Rattle.std.specs.BTreeSet.{insert_key};
 ghost use Rattle.currency_base.specs.Values.{value_cmp};
@@ -12,7 +12,7 @@ use std::marker::Model;
 
 /// A tuple, in the order of tuples.
 #[derive(Drop)]
-struct Answer {
+pub(crate) struct Answer {
     tuple: Tuple,
 }
 
@@ -22,6 +22,15 @@ impl Model for Answer {
     ghost Value = { TupleValues };
 
     ghost view = { λ a. a.tuple };
+}
+
+impl Answer {
+    /// A tuple.
+    pub(crate) fn new(tuple: Tuple) -> Answer
+        ensures { result ≡ tuple }
+    {
+        Answer { tuple }
+    }
 }
 
 impl PartialEq for Answer {
@@ -115,13 +124,20 @@ impl AnswerSet {
         }
     }
 
+    /// Is a tuple one of them?
+    pub(crate) fn has(&self, answer: &Answer) -> bool
+        ensures { result ≡ true → Contains self.now.tuples answer.now }
+    {
+        self.answers.contains(answer)
+    }
+
     /// Adds a tuple, and says whether there are too many now.
-    pub(crate) fn add(&mut self, tuple: Tuple) -> Result<bool, NoMemory>
+    pub(crate) fn add(&mut self, answer: Answer) -> Result<bool, NoMemory>
         ensures bound { self.new.at_most ≡ self.old.at_most }
-        ensures tuples { OnOk result (self.new.tuples ≡ insert_key (slice_cmp value_cmp) self.old.tuples tuple) }
+        ensures tuples { OnOk result (self.new.tuples ≡ insert_key (slice_cmp value_cmp) self.old.tuples answer) }
         ensures full { IfOk result (λ full. IsTrue full ↔ (self.new.at_most < length self.new.tuples)) }
     {
-        self.answers.insert(Answer { tuple })?;
+        self.answers.insert(answer)?;
         Ok(self.at_most < self.answers.len())
     }
 

@@ -1,9 +1,11 @@
 ghost use Rattle.std.specs.Prelude.{◌≡◌, true, false, List, Option, Some, None, length, map, replicate, slice_get, option_map, unwrap_or, IfOk};
 ghost use Rattle.currency_base.specs.declared.value.Value.{Value};
-ghost use Rattle.ucq_answers.specs.Partly.{bind, fit_term, head_at, value_at, values_of};
+ghost use Rattle.ucq_answers.specs.Partly.{bind, fit_term, head_at, put_free, put_side, side_of, spread, value_at, values_of};
 
+use crate::comparisons::side_of;
 use currency_base::{Cmp, NoMemory, Tuple, Value};
 use query_model::Term;
+use query_plan::Equality;
 use std::alloc::Global;
 use std::marker::Model;
 
@@ -79,6 +81,38 @@ impl<'a> Binding<'a> {
             Term::Var(var) => self.bind(*var, value),
             Term::Any => true,
             Term::Constant(constant) => constant.test(Cmp::Eq, value),
+        }
+    }
+
+    /// Gives variables the values of sides that are known, one equality after another, where they have none.
+    pub(crate) fn spread(&mut self, equalities: &[Equality<'a>])
+        ensures { self.new ≡ spread equalities.now self.old }
+    {
+        for equality in equalities {
+            self.put_side(equality);
+        }
+    }
+
+    // Gives a variable the value of a side, if it has none and that is known.
+    fn put_side(&mut self, equality: &Equality<'a>)
+        ensures { self.new ≡ put_side (side_of self.old equality.now.side) self.old equality.now.var }
+    {
+        let Some(value) = side_of(self, equality.side()) else {
+            return;
+        };
+        self.put_free(equality.var(), value);
+    }
+
+    // Gives a variable a value, if it has none.
+    fn put_free(&mut self, var: u32, value: &'a Value)
+        ensures { self.new ≡ put_free (slice_get self.old var) self.old var value.now }
+    {
+        if var as usize >= self.values.len() {
+            return;
+        }
+        match self.values[var as usize] {
+            Some(_) => {}
+            None => self.values[var as usize] = Some(value),
         }
     }
 

@@ -22,8 +22,8 @@ fn may_hold(values: &Binding, test: &Test) -> bool
     }
 }
 
-// The value of a side of a comparison, if it is known.
-fn side_of<'a>(values: &Binding<'a>, side: &'a TestTerm) -> Option<&'a Value>
+/// The value of a side of a comparison, if it is known.
+pub(crate) fn side_of<'a>(values: &Binding<'a>, side: &'a TestTerm) -> Option<&'a Value>
     ensures { option_map (λ v. v.now) result ≡ side_of values.now side.now }
 {
     match side {

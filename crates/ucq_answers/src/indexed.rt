@@ -6,11 +6,11 @@ ghost use Rattle.ucq_answers.specs.Found.{Adds, IsAnswerBy, IsAnswerOf, IsMatchO
 use crate::answer_set::AnswerSet;
 use crate::binding::Binding;
 use crate::matching::disjunct_match;
-use crate::plan::{LookedUp, PlannedDisjunct};
 use crate::relation_index::RelationIndex;
-use crate::search::collect;
+use crate::search::{Search, collect};
 use currency_base::{NoMemory, Tuple, TupleList};
 use query_model::{Match, Query};
+use query_plan::{LookedUp, PlannedDisjunct};
 use spec_model::Instance;
 use std::alloc::Global;
 use std::marker::Model;
@@ -150,10 +150,18 @@ fn collect_disjunct<'a>(
 ) -> Result<bool, NoMemory>
     ensures { IfOk result (Adds (IsAnswerBy relations.now planned.now) answers.old answers.new) }
 {
-    let none = Binding::new(alloc, planned.vars())?;
-    let (tests, head) = (planned.tests(), planned.head());
-    let steps = planned.from_nothing();
-    let full = collect(alloc, relations, tests, head, steps, &none, answers)?;
+    let conditions = planned.conditions();
+    if conditions.is_contrary() {
+        return Ok(false);
+    }
+    let mut values = Binding::new(alloc, planned.vars())?;
+    values.spread(conditions.equalities());
+    let search = Search {
+        relations,
+        conditions,
+        head: planned.head(),
+    };
+    let full = collect(alloc, &search, planned.from_nothing(), &values, answers)?;
     Ok(full)
 }
 

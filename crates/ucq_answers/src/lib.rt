@@ -3,6 +3,7 @@
 
 mod answer_set;
 mod binding;
+mod bounds;
 mod comparisons;
 mod fits;
 mod fitting;
@@ -10,7 +11,6 @@ mod indexed;
 mod laws;
 mod matching;
 mod place_index;
-mod plan;
 mod relation_index;
 mod search;
 

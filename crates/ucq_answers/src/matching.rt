@@ -1,15 +1,15 @@
-ghost use Rattle.std.specs.Prelude.{◌≡◌, List, None, Some, IfOk, replicate};
+ghost use Rattle.std.specs.Prelude.{◌≡◌, List, None, Some, IfOk, option_map, replicate};
 ghost use Rattle.currency_base.specs.declared.value.Value.{Value};
 ghost use Rattle.ucq_answers.specs.Found.{AreEntities, IsEntity, IsMatchFound, IsMetFound};
-ghost use Rattle.ucq_answers.specs.Partly.{bind_all};
+ghost use Rattle.ucq_answers.specs.Partly.{bind_all, spread};
 
 use crate::binding::Binding;
 use crate::fitting::bound;
-use crate::plan::PlannedDisjunct;
 use crate::relation_index::RelationIndex;
-use crate::search::{candidates, find, fit_atom};
+use crate::search::{Search, candidates, find, fit_atom};
 use currency_base::{EntId, EntList, NoMemory, Tuple};
 use query_model::{Atom, Match};
+use query_plan::{Conditions, PlannedDisjunct};
 use std::alloc::Global;
 
 /// How a tuple is an answer by a disjunct, if it is; `number` is the disjunct's.
@@ -22,10 +22,7 @@ pub(crate) fn disjunct_match<'a>(
 ) -> Result<Option<Match>, NoMemory>
     ensures { IfOk result (IsMatchFound relations.now planned.now number tuple.now) }
 {
-    let Some(values) = head_values(alloc, planned, tuple)? else {
-        return Ok(None);
-    };
-    let Some(values) = met_values(alloc, relations, planned, &values)? else {
+    let Some(values) = met_values(alloc, relations, planned, tuple)? else {
         return Ok(None);
     };
     let Some(entities) = entities_of(alloc, relations, planned.atoms(), &values)? else {
@@ -39,37 +36,47 @@ pub(crate) fn disjunct_match<'a>(
     }))
 }
 
-// The values of the head's variables, where they are those of a tuple; none, if they cannot be.
-fn head_values<'a>(
-    alloc: Global,
-    planned: &PlannedDisjunct<'a>,
-    tuple: &'a Tuple,
-) -> Result<Option<Binding<'a>>, NoMemory>
-    ensures { IfOk result (λ values. values ≡ bind_all (replicate planned.now.vars None) planned.now.head tuple.now) }
-{
-    let none = Binding::new(alloc, planned.vars())?;
-    Ok(bound(none, planned.head(), tuple.as_slice()))
-}
-
-// Values that meet a disjunct and go on from those of the head's variables.
+// Values that meet a disjunct and have a tuple as head.
 fn met_values<'a>(
     alloc: Global,
     relations: &'a [RelationIndex<'a>],
     planned: &'a PlannedDisjunct<'a>,
-    values: &Binding<'a>,
+    tuple: &'a Tuple,
 ) -> Result<Option<Binding<'a>>, NoMemory>
-    ensures { IfOk result (λ met. (tuple : List Value) → bind_all (replicate planned.now.vars None) planned.now.head
-        tuple ≡ Some values.now
-        → IsMetFound relations.now planned.now tuple met) }
+    ensures { IfOk result (IsMetFound relations.now planned.now tuple.now) }
 {
-    let found = find(
-        alloc,
+    let conditions = planned.conditions();
+    if conditions.is_contrary() {
+        return Ok(None);
+    }
+    let Some(values) = head_values(alloc, planned, conditions, tuple)? else {
+        return Ok(None);
+    };
+    let search = Search {
         relations,
-        planned.tests(),
-        planned.from_head(),
-        values,
-    )?;
+        conditions,
+        head: planned.head(),
+    };
+    let found = find(alloc, &search, planned.from_head(), &values)?;
     Ok(found)
+}
+
+// The values of the head's variables, where they are those of a tuple, and what follows; none, if they cannot be.
+fn head_values<'a>(
+    alloc: Global,
+    planned: &PlannedDisjunct<'a>,
+    conditions: &Conditions<'a>,
+    tuple: &'a Tuple,
+) -> Result<Option<Binding<'a>>, NoMemory>
+    ensures { IfOk result (λ values. values ≡ option_map (spread conditions.now.equalities)
+        (bind_all (replicate planned.now.vars None) planned.now.head tuple.now)) }
+{
+    let none = Binding::new(alloc, planned.vars())?;
+    let Some(mut values) = bound(none, planned.head(), tuple.as_slice()) else {
+        return Ok(None);
+    };
+    values.spread(conditions.equalities());
+    Ok(Some(values))
 }
 
 // For each atom the place of a tuple that it fits.
@@ -100,7 +107,7 @@ fn entity_of<'a>(
 ) -> Result<Option<EntId>, NoMemory>
     ensures { IfOk result (IsEntity relations.now values.now atom.now) }
 {
-    for ent in candidates(relations, atom, values) {
+    for ent in candidates(relations, &[], atom, values) {
         if let Some(_) = fit_atom(alloc, relations, atom, *ent, values)? {
             return Ok(Some(*ent));
         }

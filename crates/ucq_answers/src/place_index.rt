@@ -1,10 +1,11 @@
 ghost use Rattle.std.specs.Prelude.{◌≡◌, ◌≤◌, ℕ, nat_lt, nat_le, List, Some, All, Contains, IfOk, length, slice_get, slice_range, option_map};
+ghost use Rattle.std.specs.List.Sorted.{IsSortedBy};
 ghost use Rattle.std.specs.Option.{option_cmp};
 ghost use Rattle.currency_base.specs.Values.{value_cmp};
 ghost use Rattle.currency_base.specs.declared.value.Value.{Value};
-ghost use Rattle.ucq_answers.specs.Lookups.{AreAlike, EndsAt, IsByValue, ListsAll, StartsAt, key_of, rank_to};
+ghost use Rattle.ucq_answers.specs.Lookups.{AreAlike, EndsAt, IsByValue, IsReach, KeepsAmong, ListsAll, StartsAt, is_lower, key_of, rank_to};
 
-use currency_base::{EntId, NoMemory, Tuple, Value};
+use currency_base::{Cmp, EntId, NoMemory, Tuple, Value};
 use std::alloc::Global;
 use std::cmp::Ordering;
 use std::marker::Model;
@@ -54,6 +55,23 @@ impl<'a> PlaceIndex<'a> {
         self.place
     }
 
+    /// The places of all tuples, those of lower values first.
+    pub(crate) fn by_value(&self) -> &[EntId]
+        ensures { IsByValue self.now.tuples self.now.place result.now }
+    {
+        &self.by_value
+    }
+
+    /// Of some places, those of lower values first, those whose values stand so to a value.
+    pub(crate) fn among<'b>(&self, ents: &'b [EntId], cmp: Cmp, value: &Value) -> &'b [EntId]
+        requires { IsSortedBy (is_lower self.now.tuples self.now.place) ents.now }
+        ensures sorted { IsSortedBy (is_lower self.now.tuples self.now.place) result.now }
+        ensures kept { KeepsAmong self.now.tuples self.now.place cmp value.now ents.now result.now }
+    {
+        let (start, end) = reach_of(self.tuples, self.place, ents, cmp, value);
+        &ents[start..end]
+    }
+
     /// The places of the tuples that have this value.
     pub(crate) fn alike(&self, value: &Value) -> &[EntId]
         ensures { AreAlike self.now.tuples self.now.place value.now result.now }
@@ -90,9 +108,32 @@ fn span_of(tuples: &[Tuple], place: usize, by_value: &[EntId], value: &Value) ->
     (start, end_of(tuples, place, by_value, value))
 }
 
+// Where among tuples that stand by their values those stand whose values stand so to a value.
+fn reach_of(
+    tuples: &[Tuple],
+    place: usize,
+    ents: &[EntId],
+    cmp: Cmp,
+    value: &Value,
+) -> (usize, usize)
+    requires { IsSortedBy (is_lower tuples.now place) ents.now }
+    ensures order { result.0 ≤ result.1 }
+    ensures within { result.1 ≤ length ents.now }
+    ensures reach { IsReach tuples.now place cmp value.now ents.now result.0 result.1 }
+{
+    match cmp {
+        Cmp::Lt => (0, start_of(tuples, place, ents, value)),
+        Cmp::Le => (0, end_of(tuples, place, ents, value)),
+        Cmp::Gt => (end_of(tuples, place, ents, value), ents.len()),
+        Cmp::Ge => (start_of(tuples, place, ents, value), ents.len()),
+        Cmp::Eq => (0, ents.len()),
+        Cmp::Ne => (0, ents.len()),
+    }
+}
+
 // How many tuples have a value below this one.
 fn start_of(tuples: &[Tuple], place: usize, by_value: &[EntId], value: &Value) -> usize
-    requires { IsByValue tuples.now place by_value.now }
+    requires { IsSortedBy (is_lower tuples.now place) by_value.now }
     ensures bound { result ≤ length by_value.now }
     ensures at { StartsAt tuples.now place value.now by_value.now result }
 {
@@ -101,7 +142,7 @@ fn start_of(tuples: &[Tuple], place: usize, by_value: &[EntId], value: &Value) -
 
 // How many tuples have a value up to this one.
 fn end_of(tuples: &[Tuple], place: usize, by_value: &[EntId], value: &Value) -> usize
-    requires { IsByValue tuples.now place by_value.now }
+    requires { IsSortedBy (is_lower tuples.now place) by_value.now }
     ensures bound { result ≤ length by_value.now }
     ensures at { EndsAt tuples.now place value.now by_value.now result }
 {

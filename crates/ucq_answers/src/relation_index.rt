@@ -1,12 +1,13 @@
-ghost use Rattle.std.specs.Prelude.{◌≡◌, All, List, Option, IfOk, option_and_then, option_map, slice_get};
+ghost use Rattle.std.specs.Prelude.{◌≡◌, All, List, Option, IfOk, IfSome, option_and_then, option_map, slice_get};
 ghost use Rattle.ucq_answers.specs.Lookups.{AreCandidates, ListsAll};
 ghost use Rattle.ucq_answers.specs.Partly.{asked_at, asked_by, fit};
 
 use crate::binding::Binding;
+use crate::bounds::bounded;
 use crate::fitting::fitted;
 use crate::place_index::PlaceIndex;
 use currency_base::{EntId, NoMemory, Tuple, Value};
-use query_model::Term;
+use query_model::{Term, Test};
 use std::alloc::Global;
 use std::marker::Model;
 
@@ -49,14 +50,14 @@ impl<'a> RelationIndex<'a> {
         })
     }
 
-    /// The places of tuples among which all are that terms can fit: those that have one of the values that
-    /// the terms ask for, if one is known, and else all.
-    pub(crate) fn candidates(&self, terms: &[Term], values: &Binding) -> &[EntId]
-        ensures { AreCandidates self.now terms.now values.now result.now }
+    /// The places of tuples among which all are that terms can fit with no comparison failing: those that have one
+    /// of the values that the terms ask for, or whose values the comparisons allow, if some are known, and else all.
+    pub(crate) fn candidates(&self, tests: &[Test], terms: &[Term], values: &Binding) -> &[EntId]
+        ensures { AreCandidates self.now tests.now terms.now values.now result.now }
     {
         let mut best = self.all.as_slice();
         for index in &self.by_place {
-            best = shorter(best, index, terms, values);
+            best = shorter(best, index, tests, terms, values);
         }
         best
     }
@@ -83,22 +84,36 @@ impl<'a> RelationIndex<'a> {
 fn shorter<'a>(
     best: &'a [EntId],
     index: &'a PlaceIndex<'a>,
+    tests: &[Test],
     terms: &[Term],
     values: &Binding,
 ) -> &'a [EntId]
-    requires { AreCandidates index.now.tuples terms.now values.now best.now }
-    ensures { AreCandidates index.now.tuples terms.now values.now result.now }
+    requires { AreCandidates index.now.tuples tests.now terms.now values.now best.now }
+    ensures { AreCandidates index.now.tuples tests.now terms.now values.now result.now }
+{
+    let Some(found) = found_by(index, tests, terms, values) else {
+        return best;
+    };
+    if found.len() < best.len() {
+        found
+    } else {
+        best
+    }
+}
+
+// The tuples that an index finds, if it is asked: those that have the value that the terms ask for, or else those
+// whose values the comparisons allow.
+fn found_by<'a>(
+    index: &'a PlaceIndex<'a>,
+    tests: &[Test],
+    terms: &[Term],
+    values: &Binding,
+) -> Option<&'a [EntId]>
+    ensures { IfSome result (λ found. AreCandidates index.now.tuples tests.now terms.now values.now found.now) }
 {
     match asked_at(values, terms, index.place()) {
-        Some(value) => {
-            let found = index.alike(value);
-            if found.len() < best.len() {
-                found
-            } else {
-                best
-            }
-        }
-        None => best,
+        Some(value) => Some(index.alike(value)),
+        None => bounded(index, tests, terms, values),
     }
 }
 

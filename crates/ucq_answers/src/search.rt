@@ -1,96 +1,152 @@
-ghost use Rattle.std.specs.Prelude.{◌≡◌, ◌∷◌, [], ℕ, List, Some, IfNone, IfOk, IfSome, option_and_then, slice_get};
-ghost use Rattle.ucq_answers.specs.Found.{Adds, IsFound};
+ghost use Rattle.std.specs.Prelude.{◌≡◌, ◌∷◌, [], Some, IfNone, IfOk, IfSome, option_and_then, slice_get, true, Contains};
+ghost use Rattle.ucq_answers.specs.Found.{Adds, IsFound, IsFoundAt, IsHeadAt};
 ghost use Rattle.ucq_answers.specs.Lookups.{AreCandidates};
-ghost use Rattle.ucq_answers.specs.Partly.{IsHeadOfSome, fit, head_at, tuples_of};
+ghost use Rattle.ucq_answers.specs.Partly.{IsHeadOfSome, fit, head_at, joined_at, tuples_of};
 
-use crate::answer_set::AnswerSet;
+use crate::answer_set::{Answer, AnswerSet};
 use crate::binding::Binding;
 use crate::comparisons::passes;
-use crate::plan::Step;
 use crate::relation_index::RelationIndex;
 use currency_base::{EntId, NoMemory, Tuple};
 use query_model::{Atom, Test};
+use query_plan::{Conditions, Step};
 use std::alloc::Global;
+
+/// What is searched for a disjunct: the relations, its comparisons with what follows of them, and the variables of its
+/// head.
+#[derive(Drop)]
+pub(crate) struct Search<'a> {
+    pub relations: &'a [RelationIndex<'a>],
+    pub conditions: &'a Conditions<'a>,
+    pub head: &'a [u32],
+}
 
 /// Values of all variables of these atoms that go on from some values, for which each atom holds and no
 /// comparison fails; none, if there are none. Takes up a value only while no comparison fails.
+#[cycle(find)]
 pub(crate) fn find<'a>(
     alloc: Global,
-    relations: &'a [RelationIndex<'a>],
-    tests: &'a [Test],
+    search: &Search<'a>,
     steps: &'a [Step<'a>],
     values: &Binding<'a>,
 ) -> Result<Option<Binding<'a>>, NoMemory>
-    ensures { IfOk result (IsFound relations.now tests.now steps.now values.now) }
+    ensures { IfOk result (IsFound search.now.relations.now search.now.conditions.now steps.now values.now) }
 {
+    let tests = search.conditions.tests();
     if !passes(values, tests) {
         return Ok(None);
     }
     let Some((atom, rest)) = next_step(steps) else {
         return Ok(Some(values.duplicate(alloc)?));
     };
-    for ent in candidates(relations, atom, values) {
-        let Some(next) = fit_atom(alloc, relations, atom, *ent, values)? else {
-            continue;
-        };
-        if let Some(found) = find(alloc, relations, tests, rest, &next)? {
+    for ent in candidates(search.relations, tests, atom, values) {
+        if let Some(found) = find_at(alloc, search, atom, rest, *ent, values)? {
             return Ok(Some(found));
         }
     }
     Ok(None)
 }
 
+// Such values that begin with the tuple at this place.
+#[cycle(find)]
+fn find_at<'a>(
+    alloc: Global,
+    search: &Search<'a>,
+    atom: &'a Atom,
+    rest: &'a [Step<'a>],
+    ent: EntId,
+    values: &Binding<'a>,
+) -> Result<Option<Binding<'a>>, NoMemory>
+    ensures { IfOk result (IsFoundAt search.now.relations.now search.now.conditions.now atom.now rest.now values.now ent) }
+{
+    let Some(next) = join_atom(alloc, search, atom, ent, values)? else {
+        return Ok(None);
+    };
+    let found = find(alloc, search, rest, &next)?;
+    Ok(found)
+}
+
 /// Adds to the answers the values of the head's variables in all values that go on from some values, for
 /// which each atom holds and no comparison fails. Once the head's variables have values, goes on only until
-/// some values are found. Says whether it stopped since there are too many answers.
+/// some values are found, and not at all where these are an answer by now. Says whether it stopped since there
+/// are too many answers.
+#[cycle(collect)]
 pub(crate) fn collect<'a>(
     alloc: Global,
-    relations: &'a [RelationIndex<'a>],
-    tests: &'a [Test],
-    head: &[u32],
+    search: &Search<'a>,
     steps: &'a [Step<'a>],
     values: &Binding<'a>,
     answers: &mut AnswerSet,
 ) -> Result<bool, NoMemory>
-    ensures { IfOk result (Adds (IsHeadOfSome relations.now tests.now head.now steps.now values.now) answers.old answers.new) }
+    ensures { IfOk result (Adds (IsHeadOfSome search.now.relations.now search.now.conditions.now search.now.head.now steps.now values.now)
+        answers.old answers.new) }
 {
+    let tests = search.conditions.tests();
     if !passes(values, tests) {
         return Ok(false);
     }
-    if let Some(tuple) = values.head(alloc, head)? {
-        return add_found(alloc, relations, tests, steps, values, tuple, answers);
+    if let Some(tuple) = values.head(alloc, search.head)? {
+        return add_found(alloc, search, steps, values, Answer::new(tuple), answers);
     }
     let Some((atom, rest)) = next_step(steps) else {
         return Ok(false);
     };
-    for ent in candidates(relations, atom, values) {
-        let Some(next) = fit_atom(alloc, relations, atom, *ent, values)? else {
-            continue;
-        };
-        if collect(alloc, relations, tests, head, rest, &next, answers)? {
+    for ent in candidates(search.relations, tests, atom, values) {
+        if collect_at(alloc, search, atom, rest, *ent, values, answers)? {
             return Ok(true);
         }
     }
     Ok(false)
 }
 
+// Adds those that begin with the tuple at this place.
+#[cycle(collect)]
+fn collect_at<'a>(
+    alloc: Global,
+    search: &Search<'a>,
+    atom: &'a Atom,
+    rest: &'a [Step<'a>],
+    ent: EntId,
+    values: &Binding<'a>,
+    answers: &mut AnswerSet,
+) -> Result<bool, NoMemory>
+    ensures { IfOk result (Adds (IsHeadAt search.now.relations.now search.now.conditions.now search.now.head.now atom.now rest.now values.now
+        ent) answers.old answers.new) }
+{
+    let Some(next) = join_atom(alloc, search, atom, ent, values)? else {
+        return Ok(false);
+    };
+    let full = collect(alloc, search, rest, &next, answers)?;
+    Ok(full)
+}
+
 // Adds a tuple, the values of the head's variables, if some values go on from these.
 fn add_found<'a>(
     alloc: Global,
-    relations: &'a [RelationIndex<'a>],
-    tests: &'a [Test],
+    search: &Search<'a>,
     steps: &'a [Step<'a>],
     values: &Binding<'a>,
-    tuple: Tuple,
+    answer: Answer,
     answers: &mut AnswerSet,
 ) -> Result<bool, NoMemory>
-    ensures { IfOk result (λ full. (head : List ℕ) → head_at values.now head ≡ Some tuple
-        → Adds (IsHeadOfSome relations.now tests.now head steps.now values.now) answers.old answers.new full) }
+    ensures { IfOk result (λ full. head_at values.now search.now.head.now ≡ Some answer
+        → Adds (IsHeadOfSome search.now.relations.now search.now.conditions.now search.now.head.now steps.now values.now)
+        answers.old answers.new full) }
 {
-    let Some(_) = find(alloc, relations, tests, steps, values)? else {
+    if is_known(steps, answers, &answer) {
+        return Ok(false);
+    }
+    let Some(_) = find(alloc, search, steps, values)? else {
         return Ok(false);
     };
-    Ok(answers.add(tuple)?)
+    Ok(answers.add(answer)?)
+}
+
+// Is a tuple an answer by now? It is not looked for where no atom is left, since it is added as soon then.
+fn is_known(steps: &[Step], answers: &AnswerSet, answer: &Answer) -> bool
+    ensures { result ≡ true → Contains answers.now.tuples answer.now }
+{
+    steps.len() > 0 && answers.has(answer)
 }
 
 // The atom that is searched next, and those after it.
@@ -104,18 +160,38 @@ fn next_step<'a>(steps: &'a [Step<'a>]) -> Option<(&'a Atom, &'a [Step<'a>])>
     }
 }
 
-/// The places of tuples of an atom's relation among which all are that the atom's terms can fit.
+/// The places of tuples of an atom's relation among which all are that the atom's terms can fit with no comparison
+/// failing.
 pub(crate) fn candidates<'a>(
     relations: &'a [RelationIndex<'a>],
+    tests: &[Test],
     atom: &Atom,
     values: &Binding,
 ) -> &'a [EntId]
-    ensures { AreCandidates (tuples_of relations.now atom.now) atom.now.terms values.now result.now }
+    ensures { AreCandidates (tuples_of relations.now atom.now) tests.now atom.now.terms values.now result.now }
 {
     match relations.get(atom.relation.0 as usize) {
-        Some(relation) => relation.candidates(atom.terms.as_slice(), values),
+        Some(relation) => relation.candidates(tests, atom.terms.as_slice(), values),
         None => &[],
     }
+}
+
+// The values once an atom's terms fit a tuple of its relation, and what follows, if they can.
+fn join_atom<'a>(
+    alloc: Global,
+    search: &Search<'a>,
+    atom: &'a Atom,
+    ent: EntId,
+    values: &Binding<'a>,
+) -> Result<Option<Binding<'a>>, NoMemory>
+    ensures { IfOk result (λ next. next ≡ joined_at search.now.conditions.now.equalities search.now.relations.now atom.now values.now
+        ent) }
+{
+    let Some(mut next) = fit_atom(alloc, search.relations, atom, ent, values)? else {
+        return Ok(None);
+    };
+    next.spread(search.conditions.equalities());
+    Ok(Some(next))
 }
 
 /// The values once an atom's terms fit a tuple of its relation, if they can.

@@ -8,11 +8,12 @@ use Rattle.std.proofs.lemmas.Option.{same_Some, slice_get-get_or}
 use Rattle.currency_base.specs.Literals.{negation}
 use Rattle.currency_base.specs.declared.lit.Lit.{Lit}
 use Rattle.clause_arena.specs.Arenas.{Arena, IsWatched, is_left}
-use Rattle.search_trail.specs.Trails.{AreEntries, Entry, Trail, assumed, entries_up_to, implied, lits_of, undone}
+use Rattle.search_trail.specs.Trails.{AreEntries, Entry, Trail, assumed, entries_up_to, implied, lits_of, rebased, undone}
 use Rattle.refutation_log.specs.Counted.{IsOpen}
 use Rattle.watch_propagate.specs.WatchRule.{AreGuarded, HasAdded, IsDueTo, IsGuarded, IsQuiet, KeepsWatch}
 use Rattle.watch_propagate.proofs.KeptLists.{from_front, get_push, get_take, same_get}
 use Rattle.watch_propagate.proofs.KeptLits.{lits_consistent}
+use Rattle.watch_propagate.proofs.ReasonFacts.{lits_rebased}
 use Rattle.watch_propagate.proofs.KeptWatchers.{WasWatched, added_lits, dropped_before, two_at, watched_before}
 
 -- ---- two watched literals
@@ -133,6 +134,24 @@ pub keeps_implied : (a : Arena) (t : Trail) (lit : Lit) (clause : ℕ) → AreEn
     (implied t lit clause)
 keeps_implied a t lit clause are k =
     record { passed = k.passed; guarded = λ number w. guarded_implied t lit clause w.first w.second are (k.guarded number w) }
+
+-- another reason for a variable makes no difference
+keeps_rebased_lits : (t : Trail) (var clause : ℕ) (first second : Lit) → AreGuarded t first second
+    → AreGuarded (rebased t var clause) first second
+keeps_rebased_lits t var clause first second g =
+    let same : lits_of t ≡ lits_of (rebased t var clause) = sym (lits_rebased var clause t.entries) in
+    record {
+      at_present = subst (λ (ls : List Lit). IsGuarded (take t.gone ls) ls first second) same g.at_present;
+      at_starts = λ i start is. subst (λ (ls : List Lit). IsGuarded (take start ls) (take start ls) first second) same
+          (g.at_starts i start is);
+    }
+
+pub keeps_rebased : (a : Arena) (t : Trail) (var clause : ℕ) → KeepsWatch a t → KeepsWatch a (rebased t var clause)
+keeps_rebased a t var clause k =
+    record {
+      passed = k.passed;
+      guarded = λ number w. keeps_rebased_lits t var clause w.first w.second (k.guarded number w);
+    }
 
 -- ---- going back
 

@@ -1,13 +1,14 @@
 -- What keeps the reasons of entries.
-use Rattle.std.proofs.Common.{◌≡◌, ◌⊎◌, ◌<◌, ◌≤◌, ◌∙◌, ℕ, List, [], ◌∷◌, ◌++◌, Some, None, length, map, take, slice_get, sym, ap, subst, inl, inr, arith}
-use Rattle.std.proofs.lemmas.Bool.{cases_lt}
-use Rattle.std.proofs.lemmas.List.{take-take, take_at}
-use Rattle.std.proofs.lemmas.Option.{same_Some, slice_get_within}
+use Rattle.std.proofs.Common.{◌≡◌, ◌⊎◌, ◌<◌, ◌≤◌, ◌∙◌, ℕ, zero, suc, List, [], ◌∷◌, ◌++◌, Some, None, Contains, length, map, option_map, take, slice_get, refl, sym, ap, subst, inl, inr, arith}
+use Rattle.std.proofs.lemmas.Bool.{cases_eq, cases_lt, eq-eqb, ne_eqb}
+use Rattle.std.proofs.lemmas.List.{take-map, take-take, take_at}
+use Rattle.std.proofs.lemmas.Option.{same_Some, slice_get-map, slice_get_within}
+use Rattle.currency_base.specs.Literals.{var_of}
 use Rattle.currency_base.specs.declared.lit.Lit.{Lit}
 use Rattle.clause_arena.specs.Arenas.{Arena}
-use Rattle.search_trail.specs.Trails.{Entry, Trail, assumed, entries_up_to, implied, lits_of, undone}
+use Rattle.search_trail.specs.Trails.{AreEntries, Entry, IsReason, Trail, assumed, entries_up_to, implied, lits_of, rebased, undone, with_reason}
 use Rattle.watch_propagate.specs.WatchRule.{AreReasons, HasAdded, HasReason, IsImplied, IsRewatched, Implies, lits_before}
-use Rattle.watch_propagate.proofs.KeptLists.{get_front, get_left, get_push, get_take}
+use Rattle.watch_propagate.proofs.KeptLists.{contains_at, get_front, get_left, get_push, get_take, stands_at}
 use Rattle.watch_propagate.proofs.SameFacts.{has_reason_rewatched, lits_before_more}
 
 -- an entry that is implied has its reason
@@ -59,6 +60,101 @@ reasons_front a entries n are place e clause is by =
 
 pub reasons_undone : (a : Arena) (t : Trail) (level : ℕ) → AreReasons a t.entries → AreReasons a (undone t level).entries
 reasons_undone a t level are = reasons_front a t.entries (entries_up_to t level) are
+
+-- ---- another reason for a variable
+
+-- the literals stay
+lit_stays : (var clause : ℕ) (e : Entry) → (with_reason var clause e).lit ≡ e.lit
+lit_stays var clause e = go (cases_eq (var_of e.lit) var)
+  where
+    go : (var_of e.lit ≡ var) ⊎ (var_of e.lit ≡ var → ⊥) → (with_reason var clause e).lit ≡ e.lit
+    go (inl same) = rw (eq-eqb (var_of e.lit) var same) refl
+    go (inr other) = rw (ne_eqb (var_of e.lit) var other) refl
+
+pub lits_rebased : (var clause : ℕ) (entries : List Entry) → map (λ (e : Entry). e.lit) (map (with_reason var clause) entries) ≡
+    map (λ (e : Entry). e.lit) entries
+lits_rebased var clause [] = refl
+lits_rebased var clause (e ∷ es) =
+    ap (λ (l : Lit). l ∷ map (λ (d : Entry). d.lit) (map (with_reason var clause) es)) (lit_stays var clause e)
+    ∙ ap (λ (ls : List Lit). e.lit ∷ ls) (lits_rebased var clause es)
+
+-- the entry at a place is the one that stood there, with the reason if it is of the variable
+entry_rebased : (var clause : ℕ) (entries : List Entry) (place : ℕ) (e : Entry)
+    → slice_get (map (with_reason var clause) entries) place ≡ Some e
+    → (d : Entry) × (slice_get entries place ≡ Some d) × (with_reason var clause d ≡ e)
+entry_rebased var clause [] place e is = absurd (cc)
+entry_rebased var clause (x ∷ xs) zero e is = (x, refl, same_Some (with_reason var clause x) e is)
+entry_rebased var clause (x ∷ xs) (suc place) e is = entry_rebased var clause xs place e is
+
+-- two literals of a trail that are of one variable are one
+one_of_var : (t : Trail) → AreEntries t → (place : ℕ) (d : Entry) (lit : Lit) → slice_get t.entries place ≡ Some d
+    → Contains (lits_of t) lit → var_of d.lit ≡ var_of lit → d.lit ≡ lit
+one_of_var t are place d lit at c same =
+    let there = stands_at (lits_of t) lit c in
+    let other = entry_of_lit t.entries there.0 lit there.1 in
+    let vars = map (λ (e : Entry). var_of e.lit) t.entries in
+    let one : slice_get vars place ≡ Some (var_of lit) =
+    slice_get-map (λ (e : Entry). var_of e.lit) t.entries place
+    ∙ ap (option_map (λ (e : Entry). var_of e.lit)) at ∙ ap (λ (v : ℕ). Some v) same in
+    let two : slice_get vars there.0 ≡ Some (var_of lit) =
+    slice_get-map (λ (e : Entry). var_of e.lit) t.entries there.0
+    ∙ ap (option_map (λ (e : Entry). var_of e.lit)) other.1 ∙ ap (λ (l : Lit). Some (var_of l)) other.2 in
+    let places : place ≡ there.0 = are.once place there.0 (var_of lit) one two in
+    let entries : d ≡ other.0 = same_Some d other.0 (sym at ∙ ap (slice_get t.entries) places ∙ other.1) in
+    ap (λ (e : Entry). e.lit) entries ∙ other.2
+  where
+    entry_of_lit : (entries : List Entry) (k : ℕ) (l : Lit) → slice_get (map (λ (e : Entry). e.lit) entries) k ≡ Some l
+        → (e : Entry) × (slice_get entries k ≡ Some e) × (e.lit ≡ l)
+    entry_of_lit [] k l is = absurd (cc)
+    entry_of_lit (x ∷ xs) zero l is = (x, refl, same_Some x.lit l is)
+    entry_of_lit (x ∷ xs) (suc k) l is = entry_of_lit xs k l is
+
+-- a clause of one literal, which is true, may be its reason
+pub reasons_rebased : (a : Arena) (t : Trail) (lit : Lit) (clause : ℕ) → AreEntries t → Contains (lits_of t) lit
+    → slice_get a.clauses clause ≡ Some (lit ∷ []) → AreReasons a t.entries
+    → AreReasons a (rebased t (var_of lit) clause).entries
+reasons_rebased a t lit clause are holds alone reasons place e number is by =
+    go (cases_eq (var_of was.0.lit) (var_of lit))
+  where
+    was : (d : Entry) × (slice_get t.entries place ≡ Some d) × (with_reason (var_of lit) clause d ≡ e)
+    was = entry_rebased (var_of lit) clause t.entries place e is
+
+    before : lits_before (map (with_reason (var_of lit) clause) t.entries) place ≡ lits_before t.entries place
+    before =
+        ap (map (λ (d : Entry). d.lit)) (take-map (with_reason (var_of lit) clause) place t.entries)
+        ∙ lits_rebased (var_of lit) clause (take place t.entries)
+
+    others : (earlier : List Lit) → IsReason (lit ∷ []) earlier lit
+    others earlier = record {
+      is_in = contains_at (lit ∷ []) 0 lit refl;
+      others = λ other c d. absurd (d (one other (stands_at (lit ∷ []) other c)));
+    }
+      where
+        one : (other : Lit) → (k : ℕ) × (slice_get (lit ∷ []) k ≡ Some other) → other ≡ lit
+        one other (zero, at) = sym (same_Some lit other at)
+        one other (suc k, at) = let no : ⊥ = cc in absurd no
+
+    go : (var_of was.0.lit ≡ var_of lit) ⊎ (var_of was.0.lit ≡ var_of lit → ⊥) → HasReason a
+        (lits_before (map (with_reason (var_of lit) clause) t.entries) place) e.lit number
+    go (inl same) =
+        let now : with_reason (var_of lit) clause was.0 ≡ record { lit = was.0.lit; reason = Some clause } =
+        rw (eq-eqb (var_of was.0.lit) (var_of lit) same) refl in
+        let entry : e ≡ record { lit = was.0.lit; reason = Some clause } = sym was.2 ∙ now in
+        let its : e.lit ≡ lit = ap (λ (d : Entry). d.lit) entry ∙ one_of_var t are place was.0 lit was.1 holds same in
+        let numbers : clause ≡ number = same_Some clause number (sym (ap (λ (d : Entry). d.reason) entry) ∙ by) in
+        subst (HasReason a (lits_before (map (with_reason (var_of lit) clause) t.entries) place) e.lit) numbers
+        (subst (λ (l : Lit). HasReason a (lits_before (map (with_reason (var_of lit) clause) t.entries) place) l clause) (sym its)
+        (record {
+          lits = lit ∷ [];
+          is_clause = alone;
+          is_reason = others (lits_before
+              (map (with_reason (var_of lit) clause) t.entries) place);
+        }))
+    go (inr other) =
+        let now : with_reason (var_of lit) clause was.0 ≡ was.0 = rw (ne_eqb (var_of was.0.lit) (var_of lit) other) refl in
+        let entry : e ≡ was.0 = sym was.2 ∙ now in
+        subst (λ (ls : List Lit). HasReason a ls e.lit number) (sym before)
+        (reasons place e number (was.1 ∙ ap (λ (d : Entry). Some d) (sym entry)) by)
 
 -- where each clause of the one arena is that of its number in the other
 pub reasons_by : (old new : Arena) (entries : List Entry) →

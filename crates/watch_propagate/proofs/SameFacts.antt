@@ -124,6 +124,7 @@ pub implies_itself : (a : Arena) (t : Trail) → Implies a t t
 implies_itself a t =
     record {
       vars = refl;
+      scope = refl;
       starts = refl;
       gone = omega arith;
       added = [];
@@ -162,6 +163,7 @@ pub implies_rewatched : (old new : Arena) (was is : Trail) → IsRewatched old n
 implies_rewatched old new was is re i =
     record {
       vars = i.vars;
+      scope = i.scope;
       starts = i.starts;
       gone = i.gone;
       added = i.added;
@@ -173,6 +175,7 @@ pub implies_then : (a : Arena) (old middle new : Trail) → Implies a old middle
 implies_then a old middle new one other =
     record {
       vars = other.vars ∙ one.vars;
+      scope = other.scope ∙ one.scope;
       starts = other.starts ∙ one.starts;
       gone = omega (arith, one.gone, other.gone);
       added = one.added ++ other.added;

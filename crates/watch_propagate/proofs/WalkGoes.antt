@@ -76,6 +76,7 @@ pub implies_same : (a : Arena) (t : Trail) → Implies a t t
 implies_same a t =
     record {
       vars = refl;
+      scope = refl;
       starts = refl;
       gone = omega arith;
       added = [];
@@ -111,6 +112,7 @@ pub implies_on : (a b : Arena) (t u v : Trail) → IsRewatched a b → Implies a
 implies_on a b t u v r i j =
     record {
       vars = j.vars ∙ i.vars;
+      scope = j.scope ∙ i.scope;
       starts = j.starts ∙ i.starts;
       gone = omega (arith, i.gone, j.gone);
       added = i.added ++ j.added;
@@ -172,6 +174,7 @@ module _ (a : Arena) (t : Trail) (lit : Lit) (clause : ℕ) where
   implies_more lits is_clause reason =
       record {
         vars = refl;
+        scope = refl;
         starts = refl;
         gone = omega arith;
         added = entry ∷ [];

@@ -108,6 +108,7 @@ pub implies_passed : (a : Arena) (was t : Trail) → Implies a was t → Implies
 implies_passed a was t i =
     record {
       vars = i.vars;
+      scope = i.scope;
       starts = i.starts;
       gone = omega (arith, i.gone);
       added = i.added;

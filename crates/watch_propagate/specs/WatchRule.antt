@@ -84,6 +84,7 @@ pub record IsRewatched (old new : Arena) : Type 0 where
 -- entries were added at the current level, each implied by a clause of the arena
 pub record Implies (a : Arena) (old new : Trail) : Type 0 where
   pub vars : new.vars ≡ old.vars
+  pub scope : new.scope ≡ old.scope
   pub starts : new.starts ≡ old.starts
   pub gone : old.gone ≤ new.gone
   pub added : List Entry

@@ -1,8 +1,9 @@
-ghost use Rattle.std.specs.Prelude.{◌≡◌, ℕ, List, Bool, [], length, map, take, slice_get, Some};
+ghost use Rattle.std.specs.Prelude.{◌≡◌, ◌∷◌, ℕ, List, Bool, [], Contains, length, map, take, slice_get, Some};
 ghost use Rattle.std.specs.List.{filter};
+ghost use Rattle.currency_base.specs.Literals.{var_of};
 ghost use Rattle.currency_base.specs.declared.lit.Lit.{Lit};
 ghost use Rattle.clause_arena.specs.Arenas.{Arena, AreWatchers, is_left};
-ghost use Rattle.search_trail.specs.Trails.{AreEntries, Entry, Trail, assumed, implied, undone, lits_of};
+ghost use Rattle.search_trail.specs.Trails.{AreEntries, Entry, Trail, assumed, implied, lits_of, rebased, undone};
 ghost use Rattle.watch_propagate.specs.WatchRule.{AreAtRest, AreReasons, HasAdded, HasReason, Implies, IsDueTo, IsQuiet, IsRewatched, KeepsWatch};
 
 /// Laws: what keeps the watch rule. A trail with no entry has it; an implied literal keeps it, and so do an
@@ -16,6 +17,7 @@ pub fn watch_rule_is_kept()
     ensures implied { (a : Arena) → (t : Trail) → (lit : Lit) → (clause : ℕ) → AreEntries t → KeepsWatch a t
         → KeepsWatch a (implied t lit clause) }
     ensures undone { (a : Arena) → (t : Trail) → (level : ℕ) → AreEntries t → KeepsWatch a t → KeepsWatch a (undone t level) }
+    ensures rebased { (a : Arena) → (t : Trail) → (var clause : ℕ) → KeepsWatch a t → KeepsWatch a (rebased t var clause) }
     ensures dropped { (old new : Arena) → (truths : List Bool) → (t : Trail) → new.clauses ≡ old.clauses
         → new.watchers ≡ map (filter (is_left truths old.clauses)) old.watchers → KeepsWatch old t → KeepsWatch new t }
     ensures learned { (old new : Arena) → (lits : List Lit) → (t : Trail) → (lit : Lit) → (clause : ℕ) → AreEntries t
@@ -34,8 +36,8 @@ pub fn watched_are_at_rest()
         → t.gone ≡ length t.entries → AreAtRest a (lits_of t) }
 {}
 
-/// Laws: entries keep their reasons where literals of clauses change places, where implied entries follow, and
-/// where levels are taken away.
+/// Laws: entries keep their reasons where literals of clauses change places, where implied entries follow, where
+/// levels are taken away, and where a clause of one literal, which is true, becomes the reason of that literal.
 pub fn reasons_are_kept()
     ensures propagated { (old new : Arena) → (was is : Trail) → IsRewatched old new → Implies new was is
         → AreReasons old was.entries → AreReasons new is.entries }
@@ -43,6 +45,9 @@ pub fn reasons_are_kept()
     ensures implied { (a : Arena) → (t : Trail) → (lit : Lit) → (clause : ℕ) → HasReason a (lits_of t) lit clause
         → AreReasons a t.entries → AreReasons a (implied t lit clause).entries }
     ensures undone { (a : Arena) → (t : Trail) → (level : ℕ) → AreReasons a t.entries → AreReasons a (undone t level).entries }
+    ensures rebased { (a : Arena) → (t : Trail) → (lit : Lit) → (clause : ℕ) → AreEntries t → Contains (lits_of t) lit
+        → slice_get a.clauses clause ≡ Some (lit ∷ []) → AreReasons a t.entries
+        → AreReasons a (rebased t (var_of lit) clause).entries }
     ensures added { (old new : Arena) → (lits : List Lit) → (entries : List Entry) → HasAdded old new lits
         → AreReasons old entries → AreReasons new entries }
 {}

@@ -174,6 +174,13 @@ grown_concluded old new lits h =
     (learned_after old lits h.hints false h.derived.follows h.derived.fit h.derived.hints_once
     (λ e. let no : ⊥ = cc in absurd no))
 
+-- a clause that follows is added, and not counted
+pub grown_derived : (vars : ℕ) (old new : List Step) (lits : List Lit) (hints : List ℕ)
+    → new ≡ old ++ Learn lits hints false ∷ [] → FollowsFrom (clauses_of old) lits hints → IsFit vars lits → OnlyOnce hints
+    → HasGrown vars old new
+grown_derived vars old new lits hints is follows fit once =
+    grown_one vars old new (Learn lits hints false) is (follows, fit, once, λ e. let no : ⊥ = cc in absurd no)
+
 -- ---- the law
 
 new_after : (vars : ℕ) (earlier : List (List Lit)) (step : Step) → IsLearnedAfter vars earlier step

@@ -4,7 +4,7 @@ use Rattle.std.proofs.lemmas.List.{length-map, map-append}
 use Rattle.std.proofs.lemmas.List.Elements.{All-contains}
 use Rattle.std.proofs.lemmas.Option.{same_Some}
 use Rattle.currency_base.specs.declared.lit.Lit.{Lit}
-use Rattle.search_trail.specs.Trails.{AreEntries, lits_of, values_of}
+use Rattle.search_trail.specs.Trails.{AreEntries, lits_of}
 use Rattle.refutation_log.specs.Steps.{clause_of, clauses_of}
 use Rattle.refutation_log.specs.Counted.{IsAtRest}
 use Rattle.refutation_log.specs.declared.step.Step.{Step}
@@ -14,10 +14,9 @@ use Rattle.search_state.specs.States.{HasConcluded, HasRefuted, IsFalse, IsNotBe
 use Rattle.watch_propagate.proofs.KeptLists.{contains_at, get_end, same_get}
 use Rattle.watch_propagate.proofs.KeptLits.{lits_consistent}
 use Rattle.watch_solver.specs.Decided.{IsDue, IsStepOf, Shows}
-use Rattle.watch_solver.specs.Underway.{AreTruths, IsAnswer, IsComplete, IsConflict, IsFinal, IsGoalBelow, solver_of}
+use Rattle.watch_solver.specs.Underway.{IsAnswer, IsComplete, IsConflict, IsFinal, IsGoalBelow, solver_of}
 use Rattle.watch_solver.specs.declared.found.Found.{Found}
 use Rattle.watch_solver.specs.declared.found.Found.TheVariants.{Empty, Model, Proved, Spent}
-use Rattle.watch_solver.proofs.Truths.{is_model}
 
 -- ---- where nothing is due
 
@@ -55,11 +54,12 @@ not_due : (s : State) (goal : Option Lit) (left : ℕ) (found : Found) → Shows
     → IsAnswer s goal left found
 not_due s goal left found shown not = record { shown = shown; exact = λ none due. absurd (not due) }
 
-pub answer_model : (s : State) (goal : Option Lit) (truths : List Bool) (left : ℕ) → IsState s → AreEntries s.trail
-    → IsComplete s goal
-    → AreTruths (values_of s.trail) truths → IsAnswer s goal left (Model truths)
-answer_model s goal truths left state are done of =
-    not_due s goal left (Model truths) (is_model s goal truths state are done of) (no_due_quiet s goal are done.quiet)
+pub answer_model : (s : State) (goal : Option Lit) (left : ℕ) → AreEntries s.trail → IsComplete s goal
+    → IsAnswer s goal left Model
+answer_model s goal left are done =
+    not_due s goal left Model
+    (record { no_free = done.whole.no_free; at_rest = done.quiet; goal_false = done.whole.goal_false })
+    (no_due_quiet s goal are done.quiet)
 
 pub answer_empty : (s : State) (goal : Option Lit) (place left : ℕ) → IsStepOf s.steps place []
     → IsAnswer s goal left (Empty place)

@@ -4,24 +4,25 @@ use Rattle.std.proofs.lemmas.List.Elements.{All-contains, All-contains_itself, A
 use Rattle.std.proofs.lemmas.Option.{IfSome_then, slice_get-get_or}
 use Rattle.currency_base.specs.Literals.{is_negative, negation, var_of}
 use Rattle.currency_base.specs.declared.lit.Lit.{Lit}
-use Rattle.search_trail.specs.Trails.{AreEntries, Entry, Trail, lits_of, value_in, values_of}
+use Rattle.search_trail.specs.Trails.{AreEntries, Entry, HasNoFree, Trail, lits_of, value_in, values_of, whole_scope}
+use Rattle.search_trail.proofs.Scopes.{whole_has}
 use Rattle.search_trail.proofs.KnownValues.{as_many_values, is_value}
 use Rattle.refutation_log.specs.Steps.{clause_of, clauses_of}
 use Rattle.refutation_log.specs.Counted.{IsAtRest, holds}
-use Rattle.search_state.specs.States.{IsFit, IsState, State, vars_of}
+use Rattle.search_state.specs.States.{IsFit}
+use Rattle.refutation_log.specs.declared.step.Step.{Step}
 use Rattle.watch_propagate.proofs.KeptLists.{contains_at, stands_at}
 use Rattle.watch_propagate.proofs.KeptLits.{lits_consistent}
-use Rattle.watch_solver.specs.Decided.{IsModel, truth_in}
-use Rattle.watch_solver.specs.Underway.{AreTruths, HasNoFree, IsComplete}
+use Rattle.watch_solver.specs.Decided.{AreTruths, IsModel, IsModelOn, truth_in}
 use Rattle.watch_solver.proofs.LitParts.{other_parts, sign_cases}
 use Rattle.watch_solver.proofs.TrueLits.{false_by, not_free, true_by}
 use Rattle.watch_solver.proofs.UnderGoal.{stands}
 
 -- the value of a variable in the list
-value_listed : (t : Trail) (var : ℕ) → var < t.vars → slice_get (values_of t) var ≡ Some (value_in (lits_of t) var)
+value_listed : (t : Trail) (var : ℕ) → var < t.vars → slice_get (values_of t).given var ≡ Some (value_in (lits_of t) var)
 value_listed t var h =
-    let there = slice_get-get_or (values_of t) var None (omega (arith, h, as_many_values t)) in
-    there ∙ ap Some (sym (is_value t var (slice_index_or (values_of t) var None) there))
+    let there = slice_get-get_or (values_of t).given var None (omega (arith, h, as_many_values t)) in
+    there ∙ ap Some (sym (is_value t var (slice_index_or (values_of t).given var None) there))
 
 -- a literal that is true is of a variable of the trail
 var_within : (t : Trail) (lit : Lit) → AreEntries t → Contains (lits_of t) lit → var_of lit < t.vars
@@ -52,12 +53,12 @@ by_other false true is = sym is
 by_other false false is = refl
 
 -- a literal that is true holds by the truths
-holds_where_true : (t : Trail) (truths : List Bool) (lit : Lit) → AreEntries t → AreTruths (values_of t) truths
+holds_where_true : (t : Trail) (truths : List Bool) (lit : Lit) → AreEntries t → AreTruths (values_of t).given truths
     → Contains (lits_of t) lit
     → holds (truth_in truths) lit ≡ true
 holds_where_true t truths lit are of c = go (value_in (lits_of t) (var_of lit)) refl
   where
-    listed : slice_get (values_of t) (var_of lit) ≡ Some (value_in (lits_of t) (var_of lit))
+    listed : slice_get (values_of t).given (var_of lit) ≡ Some (value_in (lits_of t) (var_of lit))
     listed = value_listed t (var_of lit) (var_within t lit are c)
 
     signs : (b : Bool) → value_in (lits_of t) (var_of lit) ≡ Some b → (b ≡ is_negative lit) ⊎
@@ -83,11 +84,12 @@ false_where_true truth lit is =
     by_parts truth lit ∙ by_other (is_negative lit) (truth (var_of lit)) other
 
 -- a clause at rest has a literal that holds
-true_lit : (t : Trail) (truths : List Bool) (clause : List Lit) → AreEntries t → AreTruths (values_of t) truths → HasNoFree t
+true_lit : (t : Trail) (truths : List Bool) (clause : List Lit) → AreEntries t → AreTruths (values_of t).given truths
+    → t.scope ≡ whole_scope t.vars → HasNoFree (values_of t)
     → All (λ lit. var_of lit < t.vars) clause → IsAtRest (lits_of t) clause → (lit : Lit) × Contains clause lit ×
     (holds (truth_in truths) lit ≡ true)
-true_lit t truths clause are of no_free within (inl h) = (h.lit, h.is_in, holds_where_true t truths h.lit are of h.is_true)
-true_lit t truths clause are of no_free within (inr h) = absurd (go (value_in (lits_of t) (var_of h.first)) refl)
+true_lit t truths clause are of whole no_free within (inl h) = (h.lit, h.is_in, holds_where_true t truths h.lit are of h.is_true)
+true_lit t truths clause are of whole no_free within (inr h) = absurd (go (value_in (lits_of t) (var_of h.first)) refl)
   where
     signs : (b : Bool) → value_in (lits_of t) (var_of h.first) ≡ Some b → (b ≡ is_negative h.first) ⊎
         (b ≡ not (is_negative h.first)) → ⊥
@@ -97,28 +99,29 @@ true_lit t truths clause are of no_free within (inr h) = absurd (go (value_in (l
     go : (o : Option Bool) → value_in (lits_of t) (var_of h.first) ≡ o → ⊥
     go (Some b) is = signs b is (sign_cases h.first b)
     go None is =
+        let below : var_of h.first < t.vars = All-contains (λ (l : Lit). var_of l < t.vars) clause h.first within h.first_in in
         no_free (var_of h.first)
-        (value_listed t (var_of h.first) (All-contains (λ (l : Lit). var_of l < t.vars) clause h.first within
-        h.first_in) ∙ ap Some is)
+        (record {
+          is_in = subst (λ (scope : List ℕ). Contains scope (var_of h.first)) (sym whole)
+              (whole_has t.vars (var_of h.first) below);
+          free = value_listed t (var_of h.first) below ∙ ap Some is;
+        })
 
-pub is_model : (s : State) (goal : Option Lit) (truths : List Bool) → IsState s → AreEntries s.trail
-    → IsComplete s goal → AreTruths (values_of s.trail) truths
-    → IsModel (vars_of s) s.steps goal truths
-is_model s goal truths state are done of = record {
-  whole = of.whole ∙ as_many_values s.trail ∙ state.trail_vars;
-  clauses_true = All-weaker (Contains (clauses_of s.steps)) (λ (clause : List Lit). (lit : Lit) × Contains clause lit
-      × (holds (truth_in truths) lit ≡ true)) each (clauses_of s.steps) (All-contains_itself (clauses_of s.steps));
-  goal_false = IfSome_then goal done.whole.goal_false
-      (λ g c. false_where_true (truth_in truths) g (holds_where_true s.trail truths (negation g) are of c));
+pub is_model : (steps : List Step) (goal : Option Lit) (t : Trail) (truths : List Bool) → AreEntries t
+    → All (λ step. IsFit t.vars (clause_of step)) steps → t.scope ≡ whole_scope t.vars → IsModelOn steps goal t
+    → AreTruths (values_of t).given truths → IsModel t.vars steps goal truths
+is_model steps goal t truths are fit whole on of = record {
+  whole = of.whole ∙ as_many_values t;
+  clauses_true = All-weaker (Contains (clauses_of steps)) (λ (clause : List Lit). (lit : Lit) × Contains clause lit
+      × (holds (truth_in truths) lit ≡ true)) each (clauses_of steps) (All-contains_itself (clauses_of steps));
+  goal_false = IfSome_then goal on.goal_false
+      (λ g c. false_where_true (truth_in truths) g (holds_where_true t truths (negation g) are of c));
 }
   where
-    fit : All (λ (c : List Lit). IsFit (vars_of s) c) (clauses_of s.steps)
-    fit = All-map (λ (c : List Lit). IsFit (vars_of s) c) clause_of s.steps state.fit
-
-    each : (clause : List Lit) → Contains (clauses_of s.steps) clause → (lit : Lit) × Contains clause lit ×
+    each : (clause : List Lit) → Contains (clauses_of steps) clause → (lit : Lit) × Contains clause lit ×
         (holds (truth_in truths) lit ≡ true)
     each clause c =
-        let here = All-contains (λ (c : List Lit). IsFit (vars_of s) c) (clauses_of s.steps) clause fit c in
-        true_lit s.trail truths clause are of done.whole.no_free
-        (subst (λ (n : ℕ). All (λ (l : Lit). var_of l < n) clause) (sym state.trail_vars) here.within)
-        (All-contains (IsAtRest (lits_of s.trail)) (clauses_of s.steps) clause done.quiet c)
+        let here = All-contains (λ (c : List Lit). IsFit t.vars c) (clauses_of steps) clause
+        (All-map (λ (c : List Lit). IsFit t.vars c) clause_of steps fit) c in
+        true_lit t truths clause are of whole on.no_free here.within
+        (All-contains (IsAtRest (lits_of t)) (clauses_of steps) clause on.at_rest c)

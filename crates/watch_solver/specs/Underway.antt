@@ -1,8 +1,8 @@
 -- Underway: what a search for a decision keeps, and where it stops.
-use Rattle.std.specs.Prelude.{◌≡◌, ◌<◌, ◌≤◌, ℕ, Bool, true, false, List, [], ◌++◌, Contains, Option, Some, None, IfSome, length, take, slice_get, slice_index_or}
+use Rattle.std.specs.Prelude.{◌≡◌, ◌<◌, ◌≤◌, ℕ, Bool, true, false, List, [], ◌++◌, Contains, Option, Some, IfSome, length, take, slice_get}
 use Rattle.currency_base.specs.Literals.{var_of, negation}
 use Rattle.currency_base.specs.declared.lit.Lit.{Lit}
-use Rattle.search_trail.specs.Trails.{Trail, IsFree, assumed, lits_of, values_of}
+use Rattle.search_trail.specs.Trails.{HasNoFree, Trail, IsFree, assumed, lits_of, values_of}
 use Rattle.refutation_log.specs.Steps.{clauses_of, is_counted}
 use Rattle.refutation_log.specs.declared.step.Step.{Step}
 use Rattle.conflict_analysis.specs.Analyses.{IsAssumed, lits_below}
@@ -47,19 +47,15 @@ IsGoalWithin vars goal = IfSome goal (λ g. var_of g < vars)
 
 -- ---- where a search stops
 
--- each variable has a value
-abbrev pub HasNoFree : Trail → Type 0
-HasNoFree t = (var : ℕ) → slice_get (values_of t) var ≡ Some None → ⊥
-
 -- the goal is true where nothing is assumed
 pub record IsGoalTrue (t : Trail) (goal : Option Lit) (lit : Lit) : Type 0 where
   pub is_goal : goal ≡ Some lit
   pub ground : t.starts ≡ []
   pub is_true : Contains (lits_of t) lit
 
--- each variable has a value, and the goal is false
+-- each variable of the scope has a value, and the goal is false
 pub record IsWhole (t : Trail) (goal : Option Lit) : Type 0 where
-  pub no_free : HasNoFree t
+  pub no_free : HasNoFree (values_of t)
   pub goal_false : IsGoalFalse t goal
 
 -- a literal to assume: of a free variable, and under the goal's negation
@@ -79,7 +75,7 @@ pub record IsConflict (s : State) (place : ℕ) : Type 0 where
   pub all_false : IsFalse s place
   pub level : 0 < length s.trail.starts → IsNotBelow s place
 
--- each variable has a value, and unit propagation is at rest
+-- each variable of the scope has a value, and unit propagation is at rest
 pub record IsComplete (s : State) (goal : Option Lit) : Type 0 where
   pub whole : IsWhole s.trail goal
   pub quiet : IsQuiet s (true_lits s)
@@ -89,13 +85,6 @@ abbrev pub IsStop : State → Option Lit → Stop → Type 0
 IsStop s goal stop.Complete = IsComplete s goal
 IsStop s goal (stop.Holds lit) = IsGoalTrue s.trail goal lit
 IsStop s goal (stop.Conflict place) = IsConflict s place
-
--- ---- models
-
--- the truth of each variable that has a value is its value
-pub record AreTruths (values : List (Option Bool)) (truths : List Bool) : Type 0 where
-  pub whole : length truths ≡ length values
-  pub same : (var : ℕ) (value : Bool) → slice_get values var ≡ Some (Some value) → slice_index_or truths var false ≡ value
 
 -- ---- steps that are added
 

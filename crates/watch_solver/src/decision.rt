@@ -5,7 +5,6 @@ ghost use Rattle.watch_solver.specs.Decided.{HasGrown, IsStepOf};
 ghost use Rattle.watch_solver.specs.Underway.{HasCounted, IsAnswer, IsComplete, IsConflict, IsFinal, IsGoalBelow, IsGoalTrue, IsGoalWithin, IsOfGoal};
 
 use crate::goal::goal_level;
-use crate::model::truths_of;
 use crate::search::{Stop, search};
 use crate::{Budget, Found};
 use currency_base::{Lit, NoMemory};
@@ -13,18 +12,17 @@ use refutation_log::Log;
 use search_restarts::Restarts;
 use search_state::State;
 use solver_guides::Guides;
-use std::alloc::Global;
 
 /// Decides, by one turn after another, until there is an answer.
 pub(crate) fn decided(
     state: &mut State,
-    alloc: Global,
     goal: Option<Lit>,
     budget: &mut Budget,
     guides: &mut Guides,
 ) -> Result<Found, NoMemory>
     requires within { IsGoalWithin (vars_of state.old) goal }
     ensures frame { state.new.frame ≡ state.old.frame }
+    ensures scope { state.new.trail.scope ≡ state.old.trail.scope }
     ensures grown { HasGrown (vars_of state.old) state.old.steps state.new.steps }
     ensures units { counted_steps state.new.steps + budget.new ≡ counted_steps state.old.steps + budget.old }
     ensures found { IfOk result (IsAnswer state.new goal budget.new) }
@@ -32,7 +30,7 @@ pub(crate) fn decided(
     state.undo_to(0, guides);
     let mut restarts = Restarts::new();
     loop {
-        match turn(state, alloc, goal, budget, guides, &mut restarts) {
+        match turn(state, goal, budget, guides, &mut restarts) {
             Ok(None) => {}
             Ok(Some(found)) => return Ok(found),
             Err(error) => return Err(error),
@@ -43,7 +41,6 @@ pub(crate) fn decided(
 // One search, and what is due where it stops: an answer, or a clause that is learned.
 fn turn(
     state: &mut State,
-    alloc: Global,
     goal: Option<Lit>,
     budget: &mut Budget,
     guides: &mut Guides,
@@ -52,6 +49,7 @@ fn turn(
     requires within { IsGoalWithin (vars_of state.old) goal }
     requires kept { IsOfGoal state.old.trail goal }
     ensures frame { state.new.frame ≡ state.old.frame }
+    ensures scope { state.new.trail.scope ≡ state.old.trail.scope }
     ensures grown { HasGrown (vars_of state.old) state.old.steps state.new.steps }
     ensures units { counted_steps state.new.steps + budget.new ≡ counted_steps state.old.steps + budget.old }
     ensures found { IfOk result (λ found. IfSome found (IsAnswer state.new goal budget.new)) }
@@ -60,10 +58,7 @@ fn turn(
     ensures fewer { IfOk result (λ found. IfNone found (budget.new < budget.old)) }
 {
     match search(state, goal, guides) {
-        Stop::Complete => match found_model(state, alloc, goal) {
-            Ok(found) => Ok(Some(found)),
-            Err(error) => Err(error),
-        },
+        Stop::Complete => Ok(Some(found_model(state, goal))),
         Stop::Holds(lit) => match prove(state, goal, lit) {
             Ok(found) => Ok(Some(found)),
             Err(error) => Err(error),
@@ -72,23 +67,20 @@ fn turn(
     }
 }
 
-// Each variable has a value: these are a model.
-fn found_model(state: &State, alloc: Global, goal: Option<Lit>) -> Result<Found, NoMemory>
+// Each variable of the scope has a value: the trail is a model on it.
+fn found_model(state: &State, goal: Option<Lit>) -> Found
     requires { IsComplete state.now goal }
-    ensures { (left : ℕ) → IfOk result (IsAnswer state.now goal left) }
+    ensures { (left : ℕ) → IsAnswer state.now goal left result }
 {
-    state.is_state();
     state.trail().are_entries();
-    match truths_of(alloc, state.trail().values()) {
-        Ok(truths) => Ok(Found::Model(truths)),
-        Err(error) => Err(error),
-    }
+    Found::Model
 }
 
 // The goal is true where nothing is assumed: its clause is derived.
 fn prove(state: &mut State, goal: Option<Lit>, lit: Lit) -> Result<Found, NoMemory>
     requires { IsGoalTrue state.old.trail goal lit }
     ensures frame { state.new.frame ≡ state.old.frame }
+    ensures scope { state.new.trail.scope ≡ state.old.trail.scope }
     ensures grown { HasGrown (vars_of state.old) state.old.steps state.new.steps }
     ensures units { counted_steps state.new.steps ≡ counted_steps state.old.steps }
     ensures found { (left : ℕ) → IfOk result (IsAnswer state.new goal left) }
@@ -112,6 +104,7 @@ fn resolve(
     requires kept { IsOfGoal state.old.trail goal }
     requires conflict { IsConflict state.old conflict }
     ensures frame { state.new.frame ≡ state.old.frame }
+    ensures scope { state.new.trail.scope ≡ state.old.trail.scope }
     ensures grown { HasGrown (vars_of state.old) state.old.steps state.new.steps }
     ensures units { counted_steps state.new.steps + budget.new ≡ counted_steps state.old.steps + budget.old }
     ensures found { IfOk result (λ found. IfSome found (IsAnswer state.new goal budget.new)) }
@@ -145,6 +138,7 @@ fn refute(
     requires conflict { IsFalse state.old conflict }
     requires last { IsFinal state.old.trail goal }
     ensures frame { state.new.frame ≡ state.old.frame }
+    ensures scope { state.new.trail.scope ≡ state.old.trail.scope }
     ensures grown { HasGrown (vars_of state.old) state.old.steps state.new.steps }
     ensures units { counted_steps state.new.steps ≡ counted_steps state.old.steps }
     ensures found { (left : ℕ) → IfOk result (IsAnswer state.new goal left) }
@@ -187,6 +181,7 @@ fn learn(
     requires deep { 0 < length state.old.trail.starts }
     requires left { 0 < budget.old }
     ensures frame { state.new.frame ≡ state.old.frame }
+    ensures scope { state.new.trail.scope ≡ state.old.trail.scope }
     ensures counted { OnOk result (HasCounted (vars_of state.old) state.old.steps state.new.steps) }
     ensures units { counted_steps state.new.steps + budget.new ≡ counted_steps state.old.steps + budget.old }
     ensures kept { OnOk result (IsOfGoal state.new.trail goal) }
@@ -209,6 +204,7 @@ fn start_over(state: &mut State, goal: Option<Lit>, guides: &mut Guides, restart
     requires within { IsGoalWithin (vars_of state.old) goal }
     requires kept { IsOfGoal state.old.trail goal }
     ensures frame { state.new.frame ≡ state.old.frame }
+    ensures scope { state.new.trail.scope ≡ state.old.trail.scope }
     ensures steps { state.new.steps ≡ state.old.steps }
     ensures kept { IsOfGoal state.new.trail goal }
 {

@@ -1,10 +1,9 @@
-use currency_base::Assignment;
-
 /// What a decision came to.
 #[derive(Drop)]
 pub enum Found {
-    /// A truth for each variable, by which each clause is true and the goal false.
-    Model(Assignment),
+    /// No variable of the scope is free, unit propagation is at rest, and the goal is false. The trail stays as it is
+    /// until the next call.
+    Model,
     /// The step that is the clause of the goal alone.
     Proved(u32),
     /// The step that is the empty clause.

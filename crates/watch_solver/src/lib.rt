@@ -12,5 +12,5 @@ mod solver;
 
 pub use budget::Budget;
 pub use found::Found;
-pub use laws::counted_stay_new;
+pub use laws::{counted_stay_new, whole_scope_gives_models};
 pub use solver::Solver;

@@ -10,7 +10,7 @@ use solver_guides::Guides;
 /// Where a search stops.
 #[derive(Drop)]
 pub(crate) enum Stop {
-    /// Each variable has a value.
+    /// Each variable of the scope has a value.
     Complete,
     /// The goal is true, and nothing is assumed.
     Holds(Lit),
@@ -21,7 +21,7 @@ pub(crate) enum Stop {
 /// What comes next where unit propagation is at rest.
 #[derive(Drop)]
 pub(crate) enum Next {
-    /// Each variable has a value.
+    /// Each variable of the scope has a value.
     Complete,
     /// The goal is true, and nothing is assumed.
     Holds(Lit),
@@ -34,6 +34,7 @@ pub(crate) fn search(state: &mut State, goal: Option<Lit>, guides: &mut Guides) 
     requires within { IsGoalWithin (vars_of state.old) goal }
     requires kept { IsOfGoal state.old.trail goal }
     ensures frame { state.new.frame ≡ state.old.frame }
+    ensures scope { state.new.trail.scope ≡ state.old.trail.scope }
     ensures steps { state.new.steps ≡ state.old.steps }
     ensures kept { IsOfGoal state.new.trail goal }
     ensures stop { IsStop state.new goal result }
@@ -50,6 +51,7 @@ fn advance(state: &mut State, goal: Option<Lit>, guides: &mut Guides) -> Option<
     requires within { IsGoalWithin (vars_of state.old) goal }
     requires kept { IsOfGoal state.old.trail goal }
     ensures frame { state.new.frame ≡ state.old.frame }
+    ensures scope { state.new.trail.scope ≡ state.old.trail.scope }
     ensures steps { state.new.steps ≡ state.old.steps }
     ensures kept { IsOfGoal state.new.trail goal }
     ensures stop { IfSome result (IsStop state.new goal) }
@@ -105,7 +107,7 @@ fn next_step(trail: &Trail, goal: Option<Lit>, guides: &mut Guides) -> Next
     }
 }
 
-// A free variable's literal, where the goal is false.
+// The literal of a free variable of the scope, where the goal is false.
 fn next_free(trail: &Trail, goal: Option<Lit>, guides: &mut Guides) -> Next
     requires kept { IsOfGoal trail.now goal }
     requires goal_false { IsGoalFalse trail.now goal }

@@ -37,7 +37,11 @@ impl Guide for Steady {
 
     fn saw(&mut self, _var: u32) {}
 
-    fn freed(&mut self, _lit: Lit) {}
+    fn freed(&mut self, _lit: Lit, _values: &Values) {}
+
+    fn leave(&mut self, _scope: &[u32]) {}
+
+    fn enter(&mut self, _scope: &[u32]) {}
 
     fn restarted(&mut self) {}
 }

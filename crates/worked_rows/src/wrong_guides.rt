@@ -30,7 +30,11 @@ impl Guide for Always {
 
     fn saw(&mut self, _var: u32) {}
 
-    fn freed(&mut self, _lit: Lit) {}
+    fn freed(&mut self, _lit: Lit, _values: &Values) {}
+
+    fn leave(&mut self, _scope: &[u32]) {}
+
+    fn enter(&mut self, _scope: &[u32]) {}
 
     fn restarted(&mut self) {}
 }
@@ -75,7 +79,15 @@ impl Guide for Random {
         self.draw();
     }
 
-    fn freed(&mut self, _lit: Lit) {
+    fn freed(&mut self, _lit: Lit, _values: &Values) {
+        self.draw();
+    }
+
+    fn leave(&mut self, _scope: &[u32]) {
+        self.draw();
+    }
+
+    fn enter(&mut self, _scope: &[u32]) {
         self.draw();
     }
 
@@ -139,7 +151,15 @@ impl Guide for Watched {
         self.seen.call();
     }
 
-    fn freed(&mut self, _lit: Lit) {
+    fn freed(&mut self, _lit: Lit, _values: &Values) {
+        self.seen.call();
+    }
+
+    fn leave(&mut self, _scope: &[u32]) {
+        self.seen.call();
+    }
+
+    fn enter(&mut self, _scope: &[u32]) {
         self.seen.call();
     }
 

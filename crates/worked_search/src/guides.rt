@@ -28,7 +28,11 @@ impl Guide for Always {
 
     fn saw(&mut self, _var: u32) {}
 
-    fn freed(&mut self, _lit: Lit) {}
+    fn freed(&mut self, _lit: Lit, _values: &Values) {}
+
+    fn leave(&mut self, _scope: &[u32]) {}
+
+    fn enter(&mut self, _scope: &[u32]) {}
 
     fn restarted(&mut self) {}
 }
@@ -54,7 +58,11 @@ impl Guide for Refused {
 
     fn saw(&mut self, _var: u32) {}
 
-    fn freed(&mut self, _lit: Lit) {}
+    fn freed(&mut self, _lit: Lit, _values: &Values) {}
+
+    fn leave(&mut self, _scope: &[u32]) {}
+
+    fn enter(&mut self, _scope: &[u32]) {}
 
     fn restarted(&mut self) {}
 }

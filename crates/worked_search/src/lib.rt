@@ -8,6 +8,8 @@ mod guides;
 #[cfg(test)]
 mod rows;
 #[cfg(test)]
+mod scopes;
+#[cfg(test)]
 mod tables;
 #[cfg(test)]
 mod turns;

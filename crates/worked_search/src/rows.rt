@@ -13,7 +13,7 @@ use watch_solver::{Budget, Found, Solver};
 
 // What a decision came to, its contents aside.
 #[derive(Clone, Copy, Debug, PartialEq, Eq)]
-enum Outcome {
+pub(crate) enum Outcome {
     Model,
     Proved,
     Empty,
@@ -21,17 +21,16 @@ enum Outcome {
 }
 
 // Decides within a budget. A goal that is none of the solver's literals is no goal.
-fn decide(
+pub(crate) fn decide(
     solver: &mut Solver,
-    alloc: Global,
     goal: Option<Lit>,
     budget: u64,
     guides: &mut Guides,
 ) -> Result<Outcome, NoMemory> {
     let goal = known(solver, goal);
     let mut budget = Budget::new(budget);
-    Ok(match solver.decide(alloc, goal, &mut budget, guides)? {
-        Found::Model(_) => Outcome::Model,
+    Ok(match solver.decide(goal, &mut budget, guides)? {
+        Found::Model => Outcome::Model,
         Found::Proved(_) => Outcome::Proved,
         Found::Empty(_) => Outcome::Empty,
         Found::Spent => Outcome::Spent,
@@ -50,7 +49,7 @@ fn known(solver: &Solver, goal: Option<Lit>) -> Option<Lit>
 }
 
 // A ring whose guides are fitted to a first guess by which so many variables are false.
-fn ring(alloc: Global, ring: Ring, vars: u32) -> Result<Guides, NoMemory> {
+pub(crate) fn ring(alloc: Global, ring: Ring, vars: u32) -> Result<Guides, NoMemory> {
     let mut boxes: Vec<Box<dyn Guide>> = Vec::new(alloc);
     match ring.fill(alloc, &mut boxes) {
         Ok(()) => fitted(alloc, Guides::new(boxes), vars),
@@ -72,24 +71,19 @@ fn fitted(alloc: Global, mut guides: Guides, vars: u32) -> Result<Guides, NoMemo
 // Does the solver find a model exactly where truth tables do?
 fn agrees(alloc: Global, case: &Case, guides: &mut Guides) -> Result<bool, NoMemory> {
     match solver(alloc, case.vars.min(5)) {
-        Ok(mut solver) => agrees_with(&mut solver, alloc, case, guides),
+        Ok(mut solver) => agrees_with(&mut solver, case, guides),
         Err(error) => Err(error),
     }
 }
 
 // The same, with a solver that has no clause yet.
-fn agrees_with(
-    solver: &mut Solver,
-    alloc: Global,
-    case: &Case,
-    guides: &mut Guides,
-) -> Result<bool, NoMemory> {
+fn agrees_with(solver: &mut Solver, case: &Case, guides: &mut Guides) -> Result<bool, NoMemory> {
     for clause in &case.clauses {
         if let Some(clause) = clause {
             add(solver, clause.lits(), guides)?;
         }
     }
-    let outcome = decide(solver, alloc, case.goal, 1_000, guides)?;
+    let outcome = decide(solver, case.goal, 1_000, guides)?;
     Ok(match outcome {
         Outcome::Model => has_model(case),
         Outcome::Proved => !has_model(case) && case.goal.is_some(),
@@ -181,7 +175,7 @@ fn answer_by(
     guides: &mut Guides,
 ) -> Result<Reached, NoMemory> {
     asked.clauses.fill(solver, alloc, guides)?;
-    let outcome = decide(solver, alloc, asked.goal, asked.budget, guides)?;
+    let outcome = decide(solver, asked.goal, asked.budget, guides)?;
     Ok(Reached {
         outcome,
         steps: solver.log().steps.len(),

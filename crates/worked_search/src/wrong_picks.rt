@@ -31,9 +31,13 @@ impl Guide for Last {
         self.lit = literal_of(var);
     }
 
-    fn freed(&mut self, lit: Lit) {
+    fn freed(&mut self, lit: Lit, _values: &Values) {
         self.lit = Some(lit);
     }
+
+    fn leave(&mut self, _scope: &[u32]) {}
+
+    fn enter(&mut self, _scope: &[u32]) {}
 
     fn restarted(&mut self) {
         self.lit = None;
@@ -67,7 +71,7 @@ fn assume_first(trail: &mut Trail)
 
 // Two guides are told of a literal, and each in its turn of more; tells whether their picks show that.
 fn are_told(ring: &mut Guides, values: &Values) -> bool {
-    ring.freed(Lit::new(2, false));
+    ring.freed(Lit::new(2, false), values);
     ring.saw(1);
     let seen = picked(ring, values);
     ring.restart();

@@ -1,5 +1,6 @@
 use Rattle.std.proofs.Common.{◌∙◌, All, List, ap, length, subst, sym}
 use Rattle.currency_base.specs.declared.value.Value.{Value}
+use Rattle.search_trail.specs.Trails.{whole_scope}
 use Rattle.refutation_log.specs.Counted.{counted_steps}
 use Rattle.refutation_log.specs.Steps.{clause_of}
 use Rattle.refutation_log.specs.declared.statement.Statement.{Statement}
@@ -25,6 +26,7 @@ returns-in-Ok-new-clause-held c =
     (subst (λ (answers : List (List Value)). IsPosed (record { query = s.query; answers = answers })) (sym same) c.requires.posed)
     (c.requires.many ∙ ap (λ (answers : List (List Value)). length answers) (sym same))
     (c.in-Ok-new.ensures.statements ∙ c.in-Ok.ensures.statements)
+    (c.in-Ok-new.ensures.scope ∙ ap (λ (ss : List Statement). whole_scope (length ss)) (sym c.in-Ok-new.ensures.statements))
     (subst (AreAxioms s.spec s.wanted.currents (vars_of s)) (sym c.in-Ok-new.ensures.steps) c.in-Ok.ensures.steps)
 
 pub returns-in-Ok-new-clause-uncounted : goal.returns-in-Ok-new-clause-uncounted

@@ -25,5 +25,6 @@ loop-place-preserved c =
     c.put.new.self.refuted) c.in-Ok-prepare.ensures.lits
     (c.put.ensures.held before (c.prepare.ensures.held before held)))
     (c.put.ensures.vars ∙ ap (λ (t : Trail). t.vars) c.prepare.ensures.trail) c.put.ensures.ground
+    (c.put.ensures.scope ∙ ap (λ (t : Trail). t.scope) c.prepare.ensures.trail)
     (c.put.ensures.watchers ∙ c.prepare.ensures.watchers)
     c.loop-place.invariant

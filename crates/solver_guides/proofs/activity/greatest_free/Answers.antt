@@ -3,10 +3,10 @@ use Rattle.std.proofs.lemmas.Option.{slice_get_within}
 use Rattle.solver_guides.proofs.Taken.{how_many, fewer_present, none_present, greatest_found, choice_stays}
 use Rattle.solver_guides.proofs.activity.greatest_free.Goals as goal
 
-pub returns-then-is_free-clause-found : goal.returns-then-is_free-clause-found
-returns-then-is_free-clause-found c =
-    sym (greatest_found c.loop-var.tree c.in-Some.var c.args.values.now c.in-Some.ensures.some
-    (sym c.is_free.ensures.same ∙ c.if-is_free.true))
+pub returns-then-is_pick-clause-found : goal.returns-then-is_pick-clause-found
+returns-then-is_pick-clause-found c =
+    sym (greatest_found c.loop-var.tree c.in-Some.var c.args.values.now c.scope-scope.ensures.within.ascend
+    c.in-Some.ensures.some (sym c.is_pick.ensures.same ∙ c.if-is_pick.true))
     ∙ c.loop-var.invariant.same
 
 pub set_present-requires : goal.set_present-requires
@@ -29,11 +29,11 @@ loop-var-preserved c =
       counts = c.set_present.ensures.counts ∙ c.loop-var.invariant.counts;
       same =
           choice_stays c.loop-var.tree c.set_present.new.self c.in-Some.var c.args.values.now c.set_present.ensures.counts
-          c.set_present.ensures.present (sym c.is_free.ensures.same ∙ c.if-is_free.false)
+          c.set_present.ensures.present (sym c.is_pick.ensures.same ∙ c.if-is_pick.false)
           ∙ c.loop-var.invariant.same;
     }
 
 pub returns-clause-found : goal.returns-clause-found
 returns-clause-found c =
-    sym (none_present c.loop-var.tree.counts 0 c.loop-var.tree.present c.args.values.now None
+    sym (none_present c.loop-var.tree.counts c.args.values.now.given c.loop-var.tree.present c.args.values.now.scope None
     c.in_default.ensures.none) ∙ c.loop-var.invariant.same

@@ -1,38 +1,36 @@
-use Rattle.std.proofs.Common.{◌∙◌, List, refl, subst, sym}
+use Rattle.std.proofs.Common.{List, refl, subst}
 use Rattle.std.specs.List.{AllZip}
 use Rattle.query_model.specs.declared.query.Atom.{Atom}
 use Rattle.ucq_answers.specs.Found.{AreEntities, FitsAt, HasUnfit, IsMetFound}
-use Rattle.ucq_answers.proofs.Matches.{is_match, no_head, none_unfit}
+use Rattle.ucq_answers.proofs.Matches.{is_match, none_unfit}
 use Rattle.ucq_answers.proofs.matching.disjunct_match.Goals as goal
 
 pub returns-in_default : goal.returns-in_default
-returns-in_default c = no_head c.args.relations.now c.args.planned.now c.args.tuple.now
-    (sym c.in_default.is ∙ c.in_ok-values.ensures)
+returns-in_default c = subst (IsMetFound c.args.relations.now c.args.planned.now c.args.tuple.now) c.in_default.is
+    c.in_ok-values.ensures
 
-pub returns-in_default-3 : goal.returns-in_default-3
-returns-in_default-3 c = λ _.
+pub returns-in_default-2 : goal.returns-in_default-2
+returns-in_default-2 c = λ _.
     let instance = c.args.relations.now in
     let d = c.args.planned.now in
     let tuple = c.args.tuple.now in
-    let met = subst (IsMetFound instance d tuple) c.in-Some-2.is
-    (c.in_ok-values-2.ensures tuple (sym c.in_ok-values.ensures ∙ c.in-Some.is)) in
-    let told = subst (AreEntities instance c.in-Some-2.values c.atoms.result.now) c.in_default-3.is c.in_ok-entities.ensures in
-    none_unfit instance d tuple c.in-Some-2.values met
-    (subst (λ (l : List Atom). HasUnfit instance c.in-Some-2.values l) c.atoms.ensures told)
+    let met = subst (IsMetFound instance d tuple) c.in-Some.is c.in_ok-values.ensures in
+    let told = subst (AreEntities instance c.in-Some.values c.atoms.result.now) c.in_default-2.is c.in_ok-entities.ensures in
+    none_unfit instance d tuple c.in-Some.values met
+    (subst (λ (l : List Atom). HasUnfit instance c.in-Some.values l) c.atoms.ensures told)
 
 pub returns : goal.returns
 returns c =
     let instance = c.args.relations.now in
     let d = c.args.planned.now in
     let tuple = c.args.tuple.now in
-    let met = subst (IsMetFound instance d tuple) c.in-Some-2.is
-    (c.in_ok-values-2.ensures tuple (sym c.in_ok-values.ensures ∙ c.in-Some.is)) in
-    let told = subst (AreEntities instance c.in-Some-2.values c.atoms.result.now) c.in-Some-3.is c.in_ok-entities.ensures in
-    is_match instance d c.args.number tuple c.in-Some-2.values record {
+    let met = subst (IsMetFound instance d tuple) c.in-Some.is c.in_ok-values.ensures in
+    let told = subst (AreEntities instance c.in-Some.values c.atoms.result.now) c.in-Some-2.is c.in_ok-entities.ensures in
+    is_match instance d c.args.number tuple c.in-Some.values record {
       disjunct = c.args.number;
       entities =
-          c.in-Some-3.entities;
-      values = c.in_ok-values-3.values;
+          c.in-Some-2.entities;
+      values = c.in_ok-values-2.values;
     } refl
-    c.in_ok-values-3.ensures met (subst (λ (l : List Atom). AllZip (FitsAt instance c.in-Some-2.values) l
-    c.in-Some-3.entities) c.atoms.ensures told)
+    c.in_ok-values-2.ensures met (subst (λ (l : List Atom). AllZip (FitsAt instance c.in-Some.values) l
+    c.in-Some-2.entities) c.atoms.ensures told)

@@ -1,21 +1,21 @@
-use Rattle.std.proofs.Common.{◌≡◌, ◌∙◌, ℕ, Bool, true, false, not, List, Option, Some, length, slice_get, refl, sym, ap, arith}
+use Rattle.std.proofs.Common.{◌≡◌, ◌∙◌, ℕ, Bool, true, false, not, Option, Some, length, slice_get, refl, sym, ap, arith}
 use Rattle.std.proofs.lemmas.Bool.{false≢true}
 use Rattle.std.proofs.lemmas.Option.{same_Some}
 use mathlib.Core.Bool.{beq}
 use Rattle.currency_base.specs.Literals.{var_of}
 use Rattle.currency_base.specs.declared.lit.Lit.{Lit}
-use Rattle.search_trail.specs.Trails.{Trail, lits_of, value_in, values_of}
+use Rattle.search_trail.specs.Trails.{ScopedValues, Trail, lits_of, value_in, values_of}
 use Rattle.search_trail.proofs.KnownValues.{as_many_values, is_value}
 use Rattle.watch_propagate.proofs.WalkLits.{negation_var, value_true, value_false, value_open}
 use Rattle.watch_propagate.proofs.truths.truth.Goals as goal
 
 -- the value that was read is the one that the trail's literals give
-value_read : (t : Trail) (lit : Lit) (values : List (Option Bool)) (var : ℕ) (r : Option Bool) → values ≡ values_of t
+value_read : (t : Trail) (lit : Lit) (values : ScopedValues) (var : ℕ) (r : Option Bool) → values ≡ values_of t
     → var ≡ var_of lit
-    → slice_get values var ≡ Some r → value_in (lits_of t) (var_of lit) ≡ r
+    → slice_get values.given var ≡ Some r → value_in (lits_of t) (var_of lit) ≡ r
 value_read t lit values var r all of read =
-    is_value t (var_of lit) r (ap (slice_get (values_of t)) (sym of)
-    ∙ ap (λ (vs : List (Option Bool)). slice_get vs var) (sym all) ∙ read)
+    is_value t (var_of lit) r (ap (slice_get (values_of t).given) (sym of)
+    ∙ ap (λ (vs : ScopedValues). slice_get vs.given var) (sym all) ∙ read)
 
 differ : (b negative : Bool) → not (beq b negative) ≡ true → not negative ≡ b
 differ true true e = absurd (false≢true e)
@@ -31,7 +31,8 @@ agree false false e = refl
 
 pub value-requires : goal.value-requires
 value-requires c =
-    let many : length c.values.result.now ≡ c.args.trail.now.vars = ap length c.values.ensures
+    let many : length c.values.result.now.given ≡ c.args.trail.now.vars =
+    ap (λ (vs : ScopedValues). length vs.given) c.values.ensures
     ∙ as_many_values c.args.trail.now in
     omega (arith, c.requires, c.var.ensures.value, many)
 

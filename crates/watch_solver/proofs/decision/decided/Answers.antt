@@ -10,6 +10,7 @@ loop-found-init g c =
     let same = ap counted_steps c.undo_to.ensures.steps in
     record {
       frame = c.undo_to.ensures.frame;
+      scope = ap (λ (t : Trail). t.scope) c.undo_to.ensures.trail;
       counted = counted_none _ _ _ c.undo_to.ensures.steps;
       units = omega (arith, same);
       kept = goal_ground c.undo_to.new.self.trail c.args.goal (ap (λ (t : Trail). t.starts) c.undo_to.ensures.trail);
@@ -18,6 +19,7 @@ loop-found-init g c =
 pub loop-found-preserved : goal.loop-found-preserved
 loop-found-preserved g c = record {
   frame = c.turn.ensures.frame ∙ c.loop-found.invariant.frame;
+  scope = c.turn.ensures.scope ∙ c.loop-found.invariant.scope;
   counted = counted_across c.args.state.now c.loop-found.state _ c.turn.new.state.steps c.loop-found.invariant.frame
       c.loop-found.invariant.counted
       (rw c.in-Ok-None.field-0-is at c.in-Ok-None.ensures.counted);

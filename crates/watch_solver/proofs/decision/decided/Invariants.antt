@@ -7,6 +7,7 @@ use Rattle.watch_solver.proofs.decision.decided.Given as goal
 abbrev pub invariant-loop-found : goal.invariant-loop-found
 invariant-loop-found g l = record {
   frame : l.state.frame ≡ l.fn.state.frame;
+  scope : l.state.trail.scope ≡ l.fn.state.trail.scope;
   counted : HasCounted (vars_of l.fn.state) l.fn.state.steps l.state.steps;
   units : counted_steps l.state.steps + l.budget ≡ counted_steps l.fn.state.steps + l.fn.budget;
   kept : IsOfGoal l.state.trail l.goal;

@@ -6,6 +6,7 @@ use Rattle.watch_solver.proofs.search.search.Given as goal
 abbrev pub invariant-loop-stop : goal.invariant-loop-stop
 invariant-loop-stop g l = record {
   frame : l.state.frame ≡ l.initial.state.frame;
+  scope : l.state.trail.scope ≡ l.initial.state.trail.scope;
   steps : l.state.steps ≡ l.initial.state.steps;
   kept : IsOfGoal l.state.trail l.goal;
 }

@@ -10,7 +10,7 @@ before-requires c =
     let fields = c.self.inside in
     let seen : Listed = record {
       numbers = fields.numbering.now;
-      known = fields.known.now;
+      known = fields.known.now.given;
       rel = fields.rel;
       attr =
           fields.attr;

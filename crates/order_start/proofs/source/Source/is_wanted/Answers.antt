@@ -12,7 +12,7 @@ is_wanted-requires c =
       wanted = fields.wanted.now;
       numbers =
           fields.numbering.now;
-      known = fields.known.now;
+      known = fields.known.now.given;
     } in
     rel_within seen c.args.rel.0 c.self.invariant (subst (λ (s : Subject). c.args.rel.0 < length s.relations)
     (sym c.self.view_is) c.requires)
@@ -25,7 +25,7 @@ returns c =
       wanted = fields.wanted.now;
       numbers =
           fields.numbering.now;
-      known = fields.known.now;
+      known = fields.known.now.given;
     } in
     subst (λ (s : Subject). c.is_wanted.result ≡ is_wanted s.wanted.currents c.args.rel.0) c.self.view_is
     (wanted_is seen c.args.rel.0 c.is_wanted.result c.self.invariant

@@ -13,7 +13,7 @@ lists-requires c =
       wanted = fields.wanted.now;
       numbers =
           fields.numbering.now;
-      known = fields.known.now;
+      known = fields.known.now.given;
     } in
     rel_within seen c.args.rel.0 c.self.invariant (subst (λ (s : Subject). c.args.rel.0 < length s.relations)
     (sym c.self.view_is) c.requires.rel)
@@ -26,7 +26,7 @@ of_entity-rows-requires c =
       wanted = fields.wanted.now;
       numbers =
           fields.numbering.now;
-      known = fields.known.now;
+      known = fields.known.now.given;
     } in
     ent_within seen c.args.rel.0 c.args.ent.0 c.lists.result.now c.self.invariant
     (subst (λ (s : Subject). c.args.rel.0 < length s.relations) (sym c.self.view_is) c.requires.rel) c.lists.ensures
@@ -41,7 +41,7 @@ invariant_of-result c =
       wanted = fields.wanted.now;
       numbers =
           fields.numbering.now;
-      known = fields.known.now;
+      known = fields.known.now.given;
     } in
     is_listed seen c.args.rel c.args.attr c.args.ent.0 c.lists.result.now c.of_entity-rows.result.now fields.turned
     c.self.invariant
@@ -58,7 +58,7 @@ returns-clause-rows c =
       wanted = fields.wanted.now;
       numbers =
           fields.numbering.now;
-      known = fields.known.now;
+      known = fields.known.now.given;
     } in
     subst (λ (s : Subject). (r : Relation) → slice_get s.relations c.args.rel.0 ≡ Some r
     → c.of_entity-rows.result.now ≡ rows_of (entities_of r.rows) c.args.ent.0) c.self.view_is

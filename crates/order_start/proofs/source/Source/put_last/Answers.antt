@@ -12,7 +12,7 @@ name-name-requires c =
       wanted = fields.wanted.now;
       numbers =
           fields.numbering.now;
-      known = fields.known.now;
+      known = fields.known.now.given;
     } in
     let r = c.relation-relation.result.now in
     let here = wanted_row s c.args.self.now c.args.rel.0 c.args.attr.0 c.args.row r c.self.view_is c.self.invariant
@@ -27,7 +27,7 @@ top-requires c =
       wanted = fields.wanted.now;
       numbers =
           fields.numbering.now;
-      known = fields.known.now;
+      known = fields.known.now.given;
     } in
     let r = c.relation-relation.result.now in
     let here = wanted_row s c.args.self.now c.args.rel.0 c.args.attr.0 c.args.row r c.self.view_is c.self.invariant
@@ -42,7 +42,7 @@ make_true-requires c =
       wanted = fields.wanted.now;
       numbers =
           fields.numbering.now;
-      known = fields.known.now;
+      known = fields.known.now.given;
     } in
     truth_within s c.args.self.now _ _ c.self.view_is (c.one_literal.ensures.within (statements_of s.numbers)
     c.top.result _ c.top.ensures) c.requires.truths
@@ -55,7 +55,7 @@ last-requires-clause-row c =
       wanted = fields.wanted.now;
       numbers =
           fields.numbering.now;
-      known = fields.known.now;
+      known = fields.known.now.given;
     } in
     let r = c.relation-relation.result.now in
     let here = wanted_row s c.args.self.now c.args.rel.0 c.args.attr.0 c.args.row r c.self.view_is c.self.invariant
@@ -72,7 +72,7 @@ last-requires-clause-named c =
       wanted = fields.wanted.now;
       numbers =
           fields.numbering.now;
-      known = fields.known.now;
+      known = fields.known.now.given;
     } in
     let r = c.relation-relation.result.now in
     let here = wanted_row s c.args.self.now c.args.rel.0 c.args.attr.0 c.args.row r c.self.view_is c.self.invariant
@@ -89,7 +89,7 @@ make_true-requires-2 c =
       wanted = fields.wanted.now;
       numbers =
           fields.numbering.now;
-      known = fields.known.now;
+      known = fields.known.now.given;
     } in
     truth_within s c.args.self.now _ _ c.self.view_is (c.one_literal.ensures.within (statements_of s.numbers)
     c.last.result _ c.last.ensures) (c.make_true.ensures ∙ c.requires.truths)

@@ -6,7 +6,7 @@ use Rattle.clause_arena.specs.Arenas.{AreWithin}
 use Rattle.search_trail.specs.Trails.{IsFree, implied}
 use Rattle.watch_propagate.specs.WatchRule.{HasAdded}
 use Rattle.search_state.proofs.Holding.{due_on_ground, held_as, held_fails, held_found, held_implied, held_rests, none_found}
-use Rattle.search_state.proofs.Units.{all_same, first_read, free_of_open, reason_read, within_by_vars}
+use Rattle.search_state.proofs.Units.{all_same, first_read, free_of_open, put_there, reason_read, within_by_vars}
 use Rattle.search_state.proofs.search.Search.put.Goals as goal
 
 pub enter-number-requires-clause-within : goal.enter-number-requires-clause-within
@@ -45,6 +45,19 @@ returns-then-is_some-clause-held c =
     λ clauses held. held_found clauses _ _ _ _ _ _ (sym c.is_some.ensures ∙ c.if-is_some.true)
     c.arrange-standing.ensures.same added held
 
+pub rest-requires-clause-first : goal.rest-requires-clause-first
+rest-requires-clause-first c = c.arrange-standing.ensures.rests c.in-Rests.is
+
+pub rest-requires-clause-within : goal.rest-requires-clause-within
+rest-requires-clause-within c =
+    all_same (λ lit. var_of lit < c.args.self.now.trail.vars) _ _ c.arrange-standing.ensures.same c.requires.fit.within
+
+pub rest-requires-clause-there : goal.rest-requires-clause-there
+rest-requires-clause-there c =
+    let added = subst (HasAdded c.args.self.now.arena c.enter-number.new.arena) c.deref.ensures.value
+    c.enter-number.ensures.added in
+    put_there _ _ _ _ added c.enter-number.ensures.number
+
 pub returns-in-Rests-clause-held : goal.returns-in-Rests-clause-held
 returns-in-Rests-clause-held c =
     let t = c.args.self.now.trail in
@@ -52,11 +65,11 @@ returns-in-Rests-clause-held c =
     c.enter-number.ensures.added in
     let within = all_same (λ lit. var_of lit < t.vars) _ _ c.arrange-standing.ensures.same c.requires.fit.within in
     let none = none_found c.args.self.now.refuted (sym c.is_some.ensures ∙ c.if-is_some.false) in
-    λ clauses held. held_as _ c.enter-number.new.arena t t None c.args.self.now.refuted refl none
+    λ clauses held. c.rest.ensures.held _ (held_as _ c.enter-number.new.arena t t None c.args.self.now.refuted refl none
     (held_rests clauses c.args.self.now.arena _ _ _ t c.are_entries.ensures c.requires.ground
     c.arrange-standing.ensures.same added
     (within_by_vars c.args.self.now.arena t.vars _ c.requires.vars within) (c.arrange-standing.ensures.rests c.in-Rests.is)
-    (held_as clauses c.args.self.now.arena t t c.args.self.now.refuted None refl (sym none) held))
+    (held_as clauses c.args.self.now.arena t t c.args.self.now.refuted None refl (sym none) held)))
 
 pub returns-in-Implies-clause-held : goal.returns-in-Implies-clause-held
 returns-in-Implies-clause-held c =

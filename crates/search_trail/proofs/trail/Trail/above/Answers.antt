@@ -7,7 +7,7 @@ use Rattle.search_trail.proofs.trail.Trail.above.Goals as goal
 pub returns : goal.returns
 returns c =
     let inside = c.self.inside in
-    let t = seen inside.values inside.lits.items inside.reasons.items inside.starts.items inside.gone in
+    let t = seen inside.values.given inside.lits.items inside.reasons.items inside.starts.items inside.gone inside.values.scope in
     let level = c.args.level in
     let cut : c.cut_at-cut.result ≡ entries_up_to t level =
     c.cut_at-cut.ensures.cut ∙ ap (λ (ns : List ℕ). slice_index_or ns level c.len.result) c.deref.ensures.value

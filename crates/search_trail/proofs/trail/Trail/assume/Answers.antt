@@ -13,16 +13,16 @@ overflow_cast-place c =
 pub push_start-requires : goal.push_start-requires
 push_start-requires c =
     let is = c.self.invariant in
-    let fresh = fresh_of _ _ _ _ _ _ _ _ c.self.invariant c.args.lit _ c.self.view_is c.requires.free in
-    let inside = inside_of _ _ _ _ _ _ _ _ c.self.invariant c.args.lit _ c.self.view_is c.requires.within in
+    let fresh = fresh_of _ _ _ _ _ _ _ _ c.self.invariant _ c.args.lit _ c.self.view_is c.requires.free in
+    let inside = inside_of _ _ _ _ _ _ _ _ c.self.invariant _ c.args.lit _ c.self.view_is c.requires.within in
     let room = has_room _ _ _ _ _ _ _ _ c.self.invariant c.args.lit inside fresh in
     omega (arith, levels_few _ _ _ _ _ _ _ _ is, room, is.starts_fit, c.self.inside.starts.ok.0)
 
 pub put_lit-requires-clause-room : goal.put_lit-requires-clause-room
 put_lit-requires-clause-room c =
     let is = c.self.invariant in
-    let fresh = fresh_of _ _ _ _ _ _ _ _ c.self.invariant c.args.lit _ c.self.view_is c.requires.free in
-    let inside = inside_of _ _ _ _ _ _ _ _ c.self.invariant c.args.lit _ c.self.view_is c.requires.within in
+    let fresh = fresh_of _ _ _ _ _ _ _ _ c.self.invariant _ c.args.lit _ c.self.view_is c.requires.free in
+    let inside = inside_of _ _ _ _ _ _ _ _ c.self.invariant _ c.args.lit _ c.self.view_is c.requires.within in
     let room = has_room _ _ _ _ _ _ _ _ c.self.invariant c.args.lit inside fresh in
     omega (arith, room, is.lits_fit, c.self.inside.lits.ok.0)
 
@@ -35,16 +35,16 @@ starts_now c = c.push_start.ensures.items ∙ ap (λ (n : ℕ). c.self.inside.st
 
 pub invariant_of-self : goal.invariant_of-self
 invariant_of-self c =
-    let fresh = fresh_of _ _ _ _ _ _ _ _ c.self.invariant c.args.lit _ c.self.view_is c.requires.free in
-    let inside = inside_of _ _ _ _ _ _ _ _ c.self.invariant c.args.lit _ c.self.view_is c.requires.within in
+    let fresh = fresh_of _ _ _ _ _ _ _ _ c.self.invariant _ c.args.lit _ c.self.view_is c.requires.free in
+    let inside = inside_of _ _ _ _ _ _ _ _ c.self.invariant _ c.args.lit _ c.self.view_is c.requires.within in
     rw (c.put_lit.ensures.values, c.put_lit.ensures.items, starts_now c, place_now c, c.var-var.ensures.value)
     (fits_assumed _ _ _ _ _ _ _ _ c.self.invariant c.args.lit inside fresh 4294967295 _ _ c.put_lit.ensures.capacity
     c.push_start.ensures.capacity)
 
 pub returns : goal.returns
 returns c =
-    let fresh = fresh_of _ _ _ _ _ _ _ _ c.self.invariant c.args.lit _ c.self.view_is c.requires.free in
-    let inside = inside_of _ _ _ _ _ _ _ _ c.self.invariant c.args.lit _ c.self.view_is c.requires.within in
+    let fresh = fresh_of _ _ _ _ _ _ _ _ c.self.invariant _ c.args.lit _ c.self.view_is c.requires.free in
+    let inside = inside_of _ _ _ _ _ _ _ _ c.self.invariant _ c.args.lit _ c.self.view_is c.requires.within in
     rw (c.put_lit.ensures.values, c.put_lit.ensures.items, starts_now c, c.var-var.ensures.value)
-    (seen_assumed _ _ _ _ _ _ _ _ c.self.invariant c.args.lit fresh inside ∙ ap (λ (t : Trail). assumed t c.args.lit)
+    (seen_assumed _ _ _ _ _ _ _ _ c.self.invariant _ c.args.lit fresh inside ∙ ap (λ (t : Trail). assumed t c.args.lit)
     c.self.view_is)

@@ -13,8 +13,8 @@ overflow_cast-len c =
 pub put_lit-requires-clause-room : goal.put_lit-requires-clause-room
 put_lit-requires-clause-room c =
     let is = c.self.invariant in
-    let fresh = fresh_of _ _ _ _ _ _ _ _ c.self.invariant c.args.lit _ c.self.view_is c.requires.free in
-    let inside = inside_of _ _ _ _ _ _ _ _ c.self.invariant c.args.lit _ c.self.view_is c.requires.within in
+    let fresh = fresh_of _ _ _ _ _ _ _ _ c.self.invariant _ c.args.lit _ c.self.view_is c.requires.free in
+    let inside = inside_of _ _ _ _ _ _ _ _ c.self.invariant _ c.args.lit _ c.self.view_is c.requires.within in
     let room = has_room _ _ _ _ _ _ _ _ c.self.invariant c.args.lit inside fresh in
     omega (arith, room, is.lits_fit, c.self.inside.lits.ok.0)
 
@@ -26,17 +26,17 @@ few_clauses c = omega (arith, c.count-count.ensures, c.count-count.type_inv, c.r
 
 pub invariant_of-self : goal.invariant_of-self
 invariant_of-self c =
-    let fresh = fresh_of _ _ _ _ _ _ _ _ c.self.invariant c.args.lit _ c.self.view_is c.requires.free in
-    let inside = inside_of _ _ _ _ _ _ _ _ c.self.invariant c.args.lit _ c.self.view_is c.requires.within in
+    let fresh = fresh_of _ _ _ _ _ _ _ _ c.self.invariant _ c.args.lit _ c.self.view_is c.requires.free in
+    let inside = inside_of _ _ _ _ _ _ _ _ c.self.invariant _ c.args.lit _ c.self.view_is c.requires.within in
     rw (c.put_lit.ensures.values, c.put_lit.ensures.items, place_now c, c.var-var.ensures.value)
     (fits_implied _ _ _ _ _ _ _ _ c.self.invariant c.args.lit inside fresh c.args.clause.0 _ (few_clauses c)
     c.put_lit.ensures.capacity)
 
 pub returns : goal.returns
 returns c =
-    let fresh = fresh_of _ _ _ _ _ _ _ _ c.self.invariant c.args.lit _ c.self.view_is c.requires.free in
-    let inside = inside_of _ _ _ _ _ _ _ _ c.self.invariant c.args.lit _ c.self.view_is c.requires.within in
+    let fresh = fresh_of _ _ _ _ _ _ _ _ c.self.invariant _ c.args.lit _ c.self.view_is c.requires.free in
+    let inside = inside_of _ _ _ _ _ _ _ _ c.self.invariant _ c.args.lit _ c.self.view_is c.requires.within in
     rw (c.put_lit.ensures.values, c.put_lit.ensures.items, c.var-var.ensures.value)
-    (seen_implied _ _ _ _ _ _ _ _ c.self.invariant c.args.lit fresh inside c.args.clause.0
+    (seen_implied _ _ _ _ _ _ _ _ c.self.invariant _ c.args.lit fresh inside c.args.clause.0
     (reason_some c.args.clause.0 (few_clauses c))
     ∙ ap (λ (t : Trail). implied t c.args.lit c.args.clause.0) c.self.view_is)

@@ -28,7 +28,7 @@ returns c place at =
     let inside = c.self.inside in
     let within = subst (λ (t : Trail). c.args.var < t.vars) (sym c.self.view_is) c.requires.within in
     let stands = subst (λ (t : Trail). StandsAt t c.args.var place) (sym c.self.view_is) at in
-    let same = place_read _ _ _ _ _ _ _ _ c.self.invariant c.args.var place _ within c.index.ensures stands in
+    let same = place_read _ _ _ _ _ _ _ _ c.self.invariant c.args.var place _ _ within c.index.ensures stands in
     c.count_up_to.ensures.count ∙ ap (level_of c.deref.result.now) same ∙ ap (λ starts. level_of starts place)
     c.deref.ensures.value
     ∙ ap (λ (t : Trail). level_at t place) c.self.view_is

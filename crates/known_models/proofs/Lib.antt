@@ -1,0 +1,7 @@
+mod Whole
+mod Putting
+mod Places
+mod Finding
+mod Replacing
+mod Counting
+mod Meeting

@@ -1,0 +1,4 @@
+pub mod Known
+pub mod Changes
+pub mod Ranked
+pub mod Laws

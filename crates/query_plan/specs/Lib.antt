@@ -1,0 +1,3 @@
+pub mod Implied
+pub mod Plans
+pub mod ValueOrder

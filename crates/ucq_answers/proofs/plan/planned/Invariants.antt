@@ -1,9 +1,0 @@
-use Rattle.std.proofs.Common.{◌++◌, vec_len}
-use Rattle.std.specs.List.Sorted.{IsPermutation}
-use Rattle.ucq_answers.proofs.plan.planned.Given as goal
-
-abbrev pub invariant-loop-left : goal.invariant-loop-left
-invariant-loop-left l = IsPermutation l.atoms (l.steps.items ++ l.left.items)
-
-abbrev pub decreases-loop-left : goal.decreases-loop-left
-decreases-loop-left l = vec_len l.left

@@ -1,0 +1,4 @@
+pub mod Parts
+pub mod Sorted
+pub mod Told
+pub mod Laws
