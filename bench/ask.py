@@ -21,6 +21,7 @@ import subprocess
 import tempfile
 import time
 
+import families
 from runs import ROOT, build, end, table, timed
 
 SEARCH = ROOT / "crates" / "bench_ask" / "out" / "bench_ask"
@@ -227,6 +228,13 @@ def clauses_of(rows):
     return len(numbers), clauses
 
 
+def write_clauses(path, count, clauses):
+    """Writes clauses as an outside solver reads them."""
+    with open(path, "w") as out:
+        out.write(f"p cnf {count} {len(clauses)}\n")
+        out.writelines(" ".join(map(str, clause)) + " 0\n" for clause in clauses)
+
+
 def compare(folder, rows, spent):
     """The time of an outside solver on the clauses, and the ratio of `ask`'s time to it."""
     solver = shutil.which("cadical")
@@ -234,9 +242,7 @@ def compare(folder, rows, spent):
         print("cadical is not installed: nothing is compared")
         return
     count, clauses = clauses_of(rows)
-    with open(folder / "cnf", "w") as out:
-        out.write(f"p cnf {count} {len(clauses)}\n")
-        out.writelines(" ".join(map(str, clause)) + " 0\n" for clause in clauses)
+    write_clauses(folder / "cnf", count, clauses)
     begin = time.perf_counter()
     said = subprocess.run([solver, "-q", folder / "cnf"], capture_output=True, check=False)
     outside = time.perf_counter() - begin
@@ -351,6 +357,82 @@ def measure_sizes(above):
             measure(ANY_ROW, folder, rows, first, above)
 
 
+# each family: what writes it, the words of its command, its verdict, and what it may take at most at the largest size: times the time
+# per row of the smallest, seconds, and bytes of text an entity
+FAMILIES = {
+    "ask consistent, rules on three rows": (families.write_three, b"consistent", 2, None, None),
+    "ask consistent, a chain of copies in two ways": (families.write_chain, b"consistent", 4, None, None),
+    "ask same, 26 attributes": (families.write_attributes, b"same", None, 60, None),
+    "ask same, free rows of one value": (families.write_same_city, b"same", 4, 60, None),
+    "ask answers, free rows of one value": (families.write_answers_city, b"answers", 4, 60, None),
+    "ask answers, 20 cities": (lambda folder, rows: families.write_cities(folder, rows, 20), b"answers", 3, 5, None),
+    "ask answers, 2,000 cities": (lambda folder, rows: families.write_cities(folder, rows, 2_000), b"answers", 3, 5, None),
+    "ask certain, a chain of copies": (families.write_pairs_of_chain, b"certain", 2, None, 100),
+    "ask certain, known pairs": (families.write_known_pairs, b"certain", 2, 3.5, None),
+}
+LIMIT = 120
+
+
+def measure_family(name, rows, first, above):
+    """One family at one size, unless a smaller size took too long."""
+    write, verdict, most_ratio, most_seconds, most_bytes = FAMILIES[name]
+    if first.get(name) == 0:
+        return
+    with tempfile.TemporaryDirectory() as made:
+        folder = pathlib.Path(made)
+        write(folder, rows)
+        spent, megabytes, said = timed(folder, ["ask", "s", "q"], (0, 3, -9), LIMIT)
+        told = said.split(b"\n", 2)[1:2]
+        ratio = spent / rows / first.setdefault(name, spent / rows)
+        print(
+            f"{name}, {rows} rows: {spent / rows * 1e6:.1f} us a row ({ratio:.2f} times that of {SIZES[0]}), {spent:.2f} s, "
+            f"{megabytes:.0f} MB, {len(said) / 1e6:.1f} MB of text"
+        )
+        if told != [b"verdict " + verdict + b";"]:
+            above.append(f"{name} at {rows} rows: {told!r} after {spent:.1f} s")
+            first[name] = 0
+        if most_ratio and ratio > most_ratio:
+            above.append(f"{name} at {rows} rows: {ratio:.2f} times the time per row")
+        if rows == SIZES[-1] and most_seconds and spent > most_seconds:
+            above.append(f"{name} at {rows} rows: {spent:.1f} s")
+        if rows == SIZES[-1] and megabytes > 1_600:
+            above.append(f"{name} at {rows} rows: {megabytes:.0f} MB")
+        if most_bytes and len(said) > most_bytes * rows:
+            above.append(f"{name} at {rows} rows: {len(said)} bytes")
+
+
+def compare_three(above):
+    """The first of these families beside an outside solver, whose clauses have the axioms on three rows of the attribute that rules name."""
+    solver, rows = shutil.which("minisat"), 3_200
+    if not solver:
+        print("minisat is not installed: nothing is compared")
+        return
+    with tempfile.TemporaryDirectory() as made:
+        folder = pathlib.Path(made)
+        families.write_three(folder, rows)
+        spent, _, _ = timed(folder, ["ask", "s", "q", "--brief"])
+        begin = time.perf_counter()
+        count, clauses = families.clauses_of_three(rows)
+        write_clauses(folder / "cnf", count, clauses)
+        translated = time.perf_counter() - begin
+        begin = time.perf_counter()
+        subprocess.run([solver, "-verb=0", folder / "cnf"], capture_output=True, check=False)
+        outside = time.perf_counter() - begin
+        ratio = spent / (outside + translated)
+        print(f"minisat, {rows} rows: {outside:.2f} s and {translated:.2f} s for its clauses; ask --brief takes {ratio:.2f} times that")
+        if ratio > 0.5:
+            above.append(f"ask --brief takes {ratio:.2f} times what minisat and its clauses take")
+
+
+def measure_families(above):
+    """Each of the families of many small entities, for each size."""
+    first = {}
+    for rows in SIZES:
+        for name in FAMILIES:
+            measure_family(name, rows, first, above)
+    compare_three(above)
+
+
 def measure_limits():
     """The third family: entities of 4 and of 64, near the limits."""
     for entity, entities, attrs in [(4, 25_000, 13), (64, 22, 4)]:
@@ -406,6 +488,7 @@ def main():
     build()
     above = []
     measure_sizes(above)
+    measure_families(above)
     measure_limits()
     measure_many(above)
     measure_pairs(above)

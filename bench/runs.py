@@ -3,6 +3,7 @@ import os
 import pathlib
 import subprocess
 import sys
+import threading
 import time
 
 ROOT = pathlib.Path(__file__).resolve().parent.parent
@@ -28,13 +29,18 @@ def run(folder, wanted):
     return spent, usage.ru_maxrss / 1024
 
 
-def timed(folder, words, statuses=(0,)):
+def timed(folder, words, statuses=(0,), limit=None):
     """The seconds, the megabytes and the output of one run with these words over the documents of a folder, which is to
-    end with one of these statuses. The output goes to a file first, so that reading it takes no part in the time."""
+    end with one of these statuses. The output goes to a file first, so that reading it takes no part in the time. After so many
+    seconds, if they are said, the run is ended, and its status is -9."""
     with open(os.path.join(folder, "said"), "wb+") as said:
         begin = time.perf_counter()
         child = subprocess.Popen([PROGRAM, *words], cwd=folder, stdout=said)
+        watch = threading.Timer(limit or threading.TIMEOUT_MAX, os.kill, (child.pid, 9))
+        watch.daemon = True
+        watch.start()
         _, status, usage = os.wait4(child.pid, 0)
+        watch.cancel()
         spent = time.perf_counter() - begin
         child.returncode = os.waitstatus_to_exitcode(status)
         said.seek(0)

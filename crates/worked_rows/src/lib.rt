@@ -51,6 +51,8 @@ mod logs;
 #[cfg(test)]
 mod outside;
 #[cfg(test)]
+mod parted;
+#[cfg(test)]
 mod possible;
 #[cfg(test)]
 mod queries;
