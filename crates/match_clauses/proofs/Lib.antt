@@ -3,4 +3,4 @@ mod Putting
 mod Values
 mod Places
 mod Atoms
-mod Matches
+pub mod Matches

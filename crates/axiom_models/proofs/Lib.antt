@@ -1,0 +1,9 @@
+mod RowOrders
+mod Filled
+mod Threes
+mod Ranking
+mod Models
+mod Literals
+mod Matching
+mod Judged
+mod Answering
