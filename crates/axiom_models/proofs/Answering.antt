@@ -15,7 +15,6 @@ use Rattle.refutation_log.specs.declared.statement.Statement.TheVariants as says
 use Rattle.refutation_log.specs.declared.step.Label.TheVariants as label
 use Rattle.answer_laws.specs.Answered.{IsAnswerIn}
 use Rattle.answer_laws.specs.Laws.{AnswersInAreDecided, InstancesExist}
-use Rattle.axiom_laws.proofs.Sound.{axiom_true}
 use Rattle.log_axioms.specs.Posed.{AreAnswersOver, Posed}
 use Rattle.order_literals.proofs.Deciding.{literals_exclude, said_exclude}
 use Rattle.order_literals.proofs.Items.{place_of}
@@ -32,7 +31,7 @@ use Rattle.order_adequacy.proofs.Orders.{IsCase}
 use Rattle.order_adequacy.proofs.Saids.{said_true}
 use Rattle.order_adequacy.specs.Laws.{said_answers, variables}
 use Rattle.axiom_models.specs.Matches.{AnswersAreSaid, AnswersHaveMatches, AxiomsMakeAnswers, CertainAnswersAreSaid, IsAskedAt, MatchesAreTrue, OthersAreDenied, SaidAnswersAreCertain, no_answer}
-use Rattle.axiom_models.proofs.Judged.{answer_told, clause_true, denied_fails, lit_holds}
+use Rattle.axiom_models.proofs.Judged.{answer_told, clause_true, denied_fails, lit_holds, match_holds}
 use Rattle.axiom_models.proofs.Models.{assignments_are_completions, makes_true, model_of_one, own_answers}
 
 -- ---- what has the axiom of a match
@@ -43,7 +42,7 @@ AnswersAt posed query instance place =
     (t : List Value) × (slice_get posed.answers place ≡ Some t) × IsAnswer query instance t
 
 pub axioms_make_answers : AxiomsMakeAnswers
-axioms_make_answers s wanted posed query facts c consistent instance is_current tuple answer asked m has =
+axioms_make_answers s wanted posed query c completion instance is_current tuple answer asked m has =
     let answers = AnswersAt posed query instance in
     let over : AreAnswersOver s.relations posed c answers = record {
       instance = instance;
@@ -55,8 +54,8 @@ axioms_make_answers s wanted posed query facts c consistent instance is_current 
             (same_Some q query (sym posed_is ∙ asked.posed_at.is_query)) is,
       );
     } in
-    let one = axiom_true answers s facts c consistent posed over (variables s wanted)
-    (label.Match m.disjunct m.entities m.values) has.lits has.is_axiom in
+    let one = match_holds s posed c answers completion over (variables s wanted) m.disjunct m.entities m.values has.lits
+    has.is_axiom in
     ⊎_elim
     (λ (told : SaysAnswer (variables s wanted) answer one.lit).
     let found : AnswersAt posed query instance answer = lit_holds s.relations c answers (variables s wanted) one.lit
@@ -118,8 +117,7 @@ module _ (s : Spec) (wanted : Wanted) (posed : Posed) (query : Query) (facts : I
       → MatchesAreTrue s wanted posed truths
   matches_true truths truth disjunct entities values lits is =
       clause_true s wanted posed c Others truths case_is truth (label.Match disjunct entities values) lits is
-      (axiom_true Others s facts c consistent posed over_others (variables s wanted) (label.Match disjunct entities values)
-      lits is)
+      (match_holds s posed c Others consistent.completion over_others (variables s wanted) disjunct entities values lits is)
 
   pub denied_true : (truths : List Bool) → IsTruth s.relations c Others (variables s wanted) truths
       → IsSaidTrue (variables s wanted) truths (no_answer answer)

@@ -7,18 +7,23 @@ use Rattle.std.proofs.lemmas.List.Sums.{AllPass-from_list_all}
 use Rattle.std.proofs.lemmas.Option.{none-some}
 use Rattle.currency_base.specs.Literals.{is_negative, negation, var_of}
 use Rattle.currency_base.specs.declared.ids.AttrId.{AttrId}
+use Rattle.currency_base.specs.declared.ids.EntId.{EntId}
 use Rattle.currency_base.specs.declared.ids.RelId.{RelId}
 use Rattle.currency_base.specs.declared.ids.RowId.{RowId}
 use Rattle.currency_base.specs.declared.lit.Lit.{Lit}
-use Rattle.spec_model.specs.Completion.{Rankings}
+use Rattle.currency_base.specs.declared.value.Value.{Value}
+use Rattle.spec_model.specs.Completion.{IsCompletion, Rankings}
 use Rattle.spec_model.specs.Spec.{Spec}
 use Rattle.spec_model.specs.declared.relation.Relation.{Relation}
 use Rattle.refutation_log.specs.declared.statement.Statement.{Statement}
 use Rattle.refutation_log.specs.declared.statement.Statement.TheVariants as says
 use Rattle.refutation_log.specs.declared.step.Label.{Label}
+use Rattle.refutation_log.specs.declared.step.Label.TheVariants as label
+use Rattle.axiom_laws.proofs.MatchClauses.{query_true}
+use Rattle.axiom_laws.proofs.SaysSame.{IsSound, agree}
 use Rattle.axiom_laws.proofs.Sound.{found}
-use Rattle.log_axioms.specs.Axioms.{axiom_of, is_axiom, is_clause, is_said, lit_says}
-use Rattle.log_axioms.specs.Posed.{Posed}
+use Rattle.log_axioms.specs.Axioms.{axiom_of, is_axiom, is_clause, is_said, lit_says, says_same}
+use Rattle.log_axioms.specs.Posed.{AreAnswersOver, Posed}
 use Rattle.log_axioms.specs.Truth.{ClauseHolds, HoldsIn, IsLast, IsTop, IsTrueIn, LitHolds, rows_in}
 use Rattle.log_axioms.specs.declared.signed.Signed.{Signed}
 use Rattle.order_literals.proofs.Sayings.{Tells, negation_sign, negation_var, not_not, told_from, tells}
@@ -133,6 +138,44 @@ axiom_meant s posed statements l lits e lit is_in = by (axiom_of s posed l) refl
         let one = All-contains (λ l. says_one l ≡ true) lits lit (AllPass-from_list_all says_one lits parts.0) is_in in
         let signed = found (λ x. lit_says s.relations statements x lit) clause one in
         meant statements s.relations signed.0 lit signed.2
+
+-- a literal that says the same as what holds is true for the judge
+lit_told : (relations : List Relation) (c : Rankings) (answers : ℕ → Type 0) (statements : List Statement) (x : Signed)
+    (lit : Lit) → IsCompletion relations c → IsSound relations x → HoldsIn relations c answers x
+    → lit_says relations statements x lit ≡ true → LitHolds relations c answers statements lit
+lit_told relations c answers statements x lit completion sound holds e =
+    let of = meant statements relations x lit e in
+    let own : Signed = record { statement = of.0; negative = is_negative lit } in
+    let same : says_same relations own x ≡ true = rw of.1 at e in
+    rw of.1 (agree relations c answers own x completion same sound holds)
+
+-- the axiom of a match is true for the judge in any completion, where the answers over it are answers
+pub match_holds : (s : Spec) (posed : Posed) (c : Rankings) (answers : ℕ → Type 0) → IsCompletion s.relations c
+    → AreAnswersOver s.relations posed c answers → (statements : List Statement) (disjunct : ℕ) (entities : List EntId)
+    (values : List Value) (lits : List Lit) → is_axiom s posed statements (label.Match disjunct entities values) lits ≡ true
+    → ClauseHolds s.relations c answers statements lits
+match_holds s posed c answers completion over statements disjunct entities values lits e =
+    by (axiom_of s posed (label.Match disjunct entities values)) refl e
+  where
+    says_it : Signed → Bool
+    says_it x = list_any (lit_says s.relations statements x) lits
+
+    by : (o : Option (List Signed)) → axiom_of s posed (label.Match disjunct entities values) ≡ o
+        → is_axiom s posed statements (label.Match disjunct entities values) lits ≡ true
+        → ClauseHolds s.relations c answers statements lits
+    by None is e = let none : false ≡ true = rw is at e in absurd (false≢true none)
+    by (Some clause) is e =
+        let here : is_clause s.relations statements lits clause ≡ true = rw is at e in
+        let t = query_true s.relations c answers posed over disjunct entities values clause posed.query refl is in
+        let parts = and_parts (list_all (λ l. list_any (λ x. lit_says s.relations statements x l) clause) lits)
+        (list_all says_it clause) here in
+        let one = All-contains (λ x. says_it x ≡ true) clause t.member (AllPass-from_list_all says_it clause parts.1) t.is_in in
+        let lit = found (lit_says s.relations statements t.member) lits one in
+        record {
+          lit = lit.0;
+          is_in = lit.1;
+          is_true = lit_told s.relations c answers statements t.member lit.0 completion t.sound t.holds lit.2;
+        }
 
 -- where the judge takes the clause of an axiom for true, it is true
 pub clause_true : (s : Spec) (wanted : Wanted) (posed : Posed) (c : Rankings) (answers : ℕ → Type 0) (truths : List Bool)

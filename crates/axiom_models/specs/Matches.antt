@@ -58,10 +58,10 @@ AnswersHaveMatches = (s : Spec) (wanted : Wanted) (posed : Posed) (query : Query
     → (tuple : List Value) (answer : ℕ) → IsAskedAt wanted posed query tuple answer
     → IsAnswer query instance tuple → (m : Match) × IsMatch query instance tuple m × HasAxiom s wanted posed c answer m
 
--- and what has such an axiom is an answer over it, if it is consistent
+-- and what has such an axiom is an answer over it
 abbrev pub AxiomsMakeAnswers : Type 0
-AxiomsMakeAnswers = (s : Spec) (wanted : Wanted) (posed : Posed) (query : Query) → IsSpecification s
-    → (c : Rankings) → IsConsistent s c → (instance : List (List (List Value))) → IsCurrentInstance s.relations c instance
+AxiomsMakeAnswers = (s : Spec) (wanted : Wanted) (posed : Posed) (query : Query)
+    → (c : Rankings) → IsCompletion s.relations c → (instance : List (List (List Value))) → IsCurrentInstance s.relations c instance
     → (tuple : List Value) (answer : ℕ) → IsAskedAt wanted posed query tuple answer
     → (m : Match) → HasAxiom s wanted posed c answer m → IsAnswer query instance tuple
 

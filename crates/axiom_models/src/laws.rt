@@ -24,8 +24,8 @@ pub fn completions_have_assignments()
     satisfied_by_instances();
 }
 
-/// Laws: over the current instance of a consistent completion a tuple is an answer exactly where a match has an axiom
-/// of which one literal says so and all others are false, and each match by which it is one has such an axiom.
+/// Laws: over the current instance of a completion a tuple is an answer exactly where a match has an axiom of which one
+/// literal says so and all others are false, and each match by which it is one has such an axiom.
 pub fn answers_are_matches()
     ensures matches { MatchesHaveAxioms }
     ensures answers { AnswersHaveMatches }
