@@ -61,7 +61,8 @@ AnswersHaveMatches = (s : Spec) (wanted : Wanted) (posed : Posed) (query : Query
 -- and what has such an axiom is an answer over it
 abbrev pub AxiomsMakeAnswers : Type 0
 AxiomsMakeAnswers = (s : Spec) (wanted : Wanted) (posed : Posed) (query : Query)
-    → (c : Rankings) → IsCompletion s.relations c → (instance : List (List (List Value))) → IsCurrentInstance s.relations c instance
+    → (c : Rankings) → IsCompletion s.relations c → (instance : List (List (List Value)))
+    → IsCurrentInstance s.relations c instance
     → (tuple : List Value) (answer : ℕ) → IsAskedAt wanted posed query tuple answer
     → (m : Match) → HasAxiom s wanted posed c answer m → IsAnswer query instance tuple
 
