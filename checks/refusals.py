@@ -4,7 +4,7 @@
 A small library, built of `refusals.c` and preloaded, counts the program's allocations, reads, opens and writes and refuses one of
 them: each allocation once, and it and each later one; each read, open and write; and each read and write is cut to one byte. So it is
 done over a handful of specifications and questions, `verify` of their reports, `forced`, `explain`, `conflicts`, `golden`,
-`possible`, and the generated documents.
+`possible`, edits in sessions, and the generated documents.
 
 Right is: the status and the text without a refusal; or, where a guide was refused memory and is not asked any more, another report
 that `verify` accepts, or the same explanation with other completions (these cases have one each); or what the table of causes in
@@ -78,6 +78,28 @@ rule n4 on R (s, t): if t before s in a and s before t in b and s before t in c 
     "r.csv": "id,eid,a,b,c\nr1,x,0,0,0\nr2,x,0,0,0\n",
     "q": "consistent;\n",
 }
+# (what each reply of these shows follows without a search, so it hangs on no guide)
+CONTRADICTED = """ask consistent;
+add rule up on R (s, t): if s.a < t.a then s before t in a;
+withdraw order R.a: r1 < r2;
+add order R.a: r2 < r1;
+ask certain R.a: r1 < r2;
+withdraw rule none;
+withdraw rule up;
+add order R.a: r1 < r1;
+ask consistent;
+"""
+EDITED = """withdraw copy c: d1 from s1;
+add rule again on Emp (s, t): if s.salary < t.salary and s.last != "a b" then s before t in salary;
+add copy c: d1 from s3;
+withdraw rule wed;
+add copy c: d1 from s1;
+add rule wed on Dept (s, t): if s before t in mgr then s before t in budget;
+add order Dept.mgr: d1 < d2;
+withdraw rule pay;
+add rule pay on Emp (s, t, u, v, w): false;
+withdraw order Dept.mgr: d1 < d2;
+"""
 ASK = ["ask", "s", "q"]
 CASES = [
     ("circle", CIRCLE, ASK),
@@ -104,6 +126,8 @@ CASES = [
     ("possible, circle", CIRCLE, ["possible", "s", "q"]),
     ("possible, either", EITHER, ["possible", "s", "q"]),
     ("possible, eight clauses", EIGHT_CLAUSES, ["possible", "s", "q", "--budget", "1"]),
+    ("session, circle", {**CIRCLE, "c": CONTRADICTED}, ["session", "s", "c"]),
+    ("session, department", {**DEPARTMENT, "c": EDITED}, ["session", "s", "c"]),
     ("trial 2", {}, ["trial", "2"]),
     ("refused words", CIRCLE, ["ask", "s"]),
     ("refused document", {**CIRCLE, "q": "consistent"}, ASK),

@@ -65,6 +65,8 @@ mod rings;
 #[cfg(test)]
 mod rules;
 #[cfg(test)]
+mod sessions;
+#[cfg(test)]
 mod steered;
 #[cfg(test)]
 mod steered_rows;
