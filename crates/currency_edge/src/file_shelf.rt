@@ -49,7 +49,10 @@ impl<'a, R: Files> Shelf for FileShelf<'a, R> {
         at_most: usize,
         into: &mut Vec<u8>,
     ) -> Result<(), ShelfFault> {
-        let outcome = read_file(self.files, alloc, name, at_most, into);
+        let outcome = match fs::open(self.files, name) {
+            Ok(mut file) => read_file(&mut file, alloc, at_most, into),
+            Err(error) => Err(fault_of(&error)),
+        };
         if let Err(ShelfFault::Failed) = outcome {
             self.faults = self.faults.saturating_add(1);
         }
@@ -57,26 +60,25 @@ impl<'a, R: Files> Shelf for FileShelf<'a, R> {
     }
 }
 
-// Reads a file into an empty buffer, or its first `at_most + 1` bytes where it is longer.
-fn read_file<R: Files>(
-    files: &R,
+// Reads an open file into an empty buffer, or its first `at_most + 1` bytes where it is longer.
+fn read_file<R: Read>(
+    file: &mut R,
     alloc: Global,
-    path: &str,
     at_most: usize,
     into: &mut Vec<u8>,
 ) -> Result<(), ShelfFault>
     requires { into.old.items ≡ [] }
     ensures within { OnOk result (vec_len into.new ≤ at_most) }
+    ensures whole { OnOk result (IfSome (R.remaining file.old) (λ bytes. into.new.items ≡ bytes)) }
     ensures filled { IsErrOf result ShelfFault.TooLong → vec_len into.new ≡ at_most + 1 }
+    ensures front { IsErrOf result ShelfFault.TooLong → IfSome (R.remaining file.old)
+        (λ bytes. into.new.items ≡ take (at_most + 1) bytes) }
 {
     let piece_len = at_most.saturating_add(1).min(LONGEST_PIECE);
     let Ok(mut piece) = Vec::from_elem(alloc, 0u8, piece_len) else {
         return Err(ShelfFault::NoMemory);
     };
-    match fs::open(files, path) {
-        Ok(mut file) => read_within(&mut file, &mut piece, at_most, into),
-        Err(error) => Err(fault_of(&error)),
-    }
+    read_within(file, &mut piece, at_most, into)
 }
 
 // Reads all there is into an empty buffer, or the first `at_most + 1` bytes where there are more,
