@@ -6,6 +6,8 @@ mod GoldenPrinted
 mod SessionsPrinted
 pub mod InRange
 pub mod JobsDone
+mod KeptGuides
 pub mod OneDue
+pub mod OneText
 pub mod Refusals
 pub mod Replies

@@ -34,6 +34,12 @@ IsDueFor told (CertainTableFor t) outcome = IsCertainTableDue told t outcome
 IsDueFor told (PossibleTableFor t) outcome = IsPossibleTableDue told t outcome
 IsDueFor told (SessionOver a) outcome = IsSessionDue told a outcome
 
+-- a command that searches for nothing
+abbrev pub SearchesNothing : CommandSaid → Type 0
+SearchesNothing (VerifyOf v) = Unit {0}
+SearchesNothing (ForcedOf name) = Unit {0}
+SearchesNothing other = ⊥
+
 -- what is due for words, where so many guides are handed in
 abbrev pub IsDue : List (List ℕ × List ℕ) → ℕ → List (List ℕ) → Result Done Trouble → Type 0
 IsDue told count words outcome = MatchOption (command_for count words) (outcome ≡ Err trouble.Words)

@@ -165,3 +165,10 @@ pub record NamesUnread (texts : Option (List (List ℕ × List ℕ))) (count : �
   pub name : List ℕ
   pub due : IfSome texts (λ told. IsReadDue told count words name)
   pub text : AppendsPrefix old new (trouble_text (ReadFault name))
+
+-- a job that is due was done, and the sink failed before it had the whole text, of which it got a front
+pub record IsCutShort (texts : Option (List (List ℕ × List ℕ))) (count : ℕ) (words : List (List ℕ))
+    (old new : Option (List ℕ)) : Type 0 where
+  pub done : Done
+  pub due : IfSome texts (λ told. IsDue told count words (Ok done))
+  pub text : AppendsPrefix old new done.text

@@ -1,12 +1,12 @@
 -- The commands that words say, where so many guides are handed in.
-use Rattle.std.specs.Prelude.{◌≤◌, ℕ, Bool, true, List, Option, Some, None, nat_le, option_and_then, if◌then◌else◌}
+use Rattle.std.specs.Prelude.{◌≤◌, ◌&&◌, ℕ, Bool, true, List, Option, Some, None, nat_le, option_and_then, if◌then◌else◌}
 use Rattle.program_words.specs.Words.{AskFor, CertainTableFor, CommandSaid, ConflictsIn, ExplainFor, ForcedOf, GoldenIn}
 use Rattle.program_words.specs.Words.{PossibleFor, PossibleTableFor, SessionOver, TrialOf, VerifyOf, command_of}
 
 -- the guide that is to be kept, if one is, is among so many, counted from 1
 abbrev pub is_guide : ℕ → Option ℕ → Bool
 is_guide count None = true
-is_guide count (Some k) = nat_le k count
+is_guide count (Some k) = nat_le 1 k && nat_le k count
 
 -- the command, if the guide that it keeps is there
 abbrev pub with_guides : ℕ → CommandSaid → Option CommandSaid

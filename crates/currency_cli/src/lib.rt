@@ -6,5 +6,5 @@ mod laws;
 mod program;
 mod words;
 
-pub use laws::one_due;
+pub use laws::{one_due, one_text};
 pub use program::run;

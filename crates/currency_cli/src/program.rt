@@ -1,11 +1,9 @@
 ghost use Rattle.std.specs.Prelude.{◌≡◌, None, Ok, Err, map, string_bytes};
-ghost use Rattle.command_stages.specs.declared.done.Done.{Done};
 ghost use Rattle.currency_cli.specs.Clauses.{Answered, Blames, Complete, Conducts, Ends, Exact, Explains, Imagines, Listed, PossiblyTables};
 ghost use Rattle.currency_cli.specs.Clauses.{Records, Refused, Steady, Tables, Tries, Verified, WordsRefused};
-ghost use Rattle.currency_cli.specs.Ends.{EndsWith, IsDenied, IsDone, IsInconsistent, IsUndecided, NamesUnread};
+ghost use Rattle.currency_cli.specs.Ends.{EndsWith, IsCutShort, IsDenied, IsDone, IsInconsistent, IsUndecided, NamesUnread};
 ghost use Rattle.currency_cli.specs.Words.{command_for};
 ghost use Rattle.currency_edge.specs.Fault.{Rose};
-ghost use Rattle.currency_edge.specs.Sink.{AppendsPrefix};
 ghost use Rattle.solver_guides.specs.Rings.{count_of};
 
 use crate::commands::outcome;
@@ -168,7 +166,8 @@ pub fn run<S: Shelf, K: Sink>(
         (K.written out.old) (K.written out.new) }
     ensures write_fault { result ≡ 8 → Rose (K.faults out.old) (K.faults out.new) }
     ensures write_fault_text { result ≡ 8
-        → (done : Done) × AppendsPrefix (K.written out.old) (K.written out.new) done.text }
+        → IsCutShort (S.texts shelf.old) (count_of guides.old) (map (λ w. string_bytes w) words.now)
+        (K.written out.old) (K.written out.new) }
 {
     one_due();
     one_read();

@@ -1,2 +1,3 @@
 pub mod ForcedTexts
+pub mod OneText
 pub mod Replies

@@ -2,5 +2,7 @@
 #![tactic(auto)]
 
 mod forcing;
+mod laws;
 
 pub use forcing::forced_document;
+pub use laws::one_listing;

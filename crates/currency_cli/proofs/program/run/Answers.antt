@@ -38,8 +38,11 @@ returns-in-Err-clause-undecided g c status = absurd (refusal_not_three _ _ _ _ c
     c.refuse.ensures status)
 
 pub returns-in-Ok-clause-write_fault_text : goal.returns-in-Ok-clause-write_fault_text
-returns-in-Ok-clause-write_fault_text g c status =
-    (c.in-Ok.done, prefix_written _ _ _ _ c.in-Ok.done c.hand_out.result c.hand_out.ensures status)
+returns-in-Ok-clause-write_fault_text g c status = record {
+  done = c.in-Ok.done;
+  due = c.in-Ok.ensures.due tt;
+  text = prefix_written _ _ _ _ c.in-Ok.done c.hand_out.result c.hand_out.ensures status;
+}
 
 pub returns-in-Err-clause-write_fault_text : goal.returns-in-Err-clause-write_fault_text
 returns-in-Err-clause-write_fault_text g c status =
