@@ -63,25 +63,24 @@ printed_as text e = record { text = text; ending = e }
 
 of_printed : (size : ℕ) (P : Spec → Type 0) (text : List ℕ) (e : Ending) → IsTrialPrinted size text e
     → ((s : Spec) → IsSpecRead (documents size) (codes "spec") (Ok s) → (questions : List Question)
+    → AreQuestionsRead (documents size) s.relations (Ok questions)
     → AreTried size s questions (Ok (printed_as text e)) → P s)
     → (s : Spec) × IsSpecRead (documents size) (codes "spec") (Ok s) × P s
 of_printed size P text e told by = of_spec told.0 told.1 told.2
   where
     of_questions : (s : Spec) → IsSpecRead (documents size) (codes "spec") (Ok s) → (r : Result (List Question) Trouble)
+        → AreQuestionsRead (documents size) s.relations r
         → MatchResult r (λ qs. AreTried size s qs (Ok (printed_as text e)))
         (λ t. ◌≡◌ {A = Result Done Trouble} (Ok (printed_as text e)) (Err t)) → P s
-    of_questions s read (Ok qs) h = by s read qs h
-    of_questions s read (Err t) h = absurd (done_apart (printed_as text e) t h)
+    of_questions s read (Ok qs) asked h = by s read qs asked h
+    of_questions s read (Err t) asked h = absurd (done_apart (printed_as text e) t h)
 
     of_spec : (r : Result Spec Trouble) → IsSpecRead (documents size) (codes "spec") r
         → MatchResult r (λ s. Then (AreQuestionsRead (documents size) s.relations) (AreTried size s) (Ok (printed_as text e)))
         (λ t. ◌≡◌ {A = Result Done Trouble} (Ok (printed_as text e)) (Err t))
         → (s : Spec) × IsSpecRead (documents size) (codes "spec") (Ok s) × P s
-    of_spec (Ok s) read h = (s, read, of_questions s read h.0 h.2)
+    of_spec (Ok s) read h = (s, read, of_questions s read h.0 h.1 h.2)
     of_spec (Err t) read h = absurd (done_apart (printed_as text e) t h)
-
-same_text : (a b : List ℕ) (d e : Ending) → ◌≡◌ {A = Result Done Trouble} (Ok (printed_as a d)) (Ok (printed_as b e)) → a ≡ b
-same_text a b d e same = ap (λ (x : Done). x.text) (same_done (printed_as a d) (printed_as b e) same)
 
 same_end : (a b : List ℕ) (d e : Ending) → ◌≡◌ {A = Result Done Trouble} (Ok (printed_as a d)) (Ok (printed_as b e)) → d ≡ e
 same_end a b d e same = ap (λ (x : Done). x.ending) (same_done (printed_as a d) (printed_as b e) same)
@@ -101,7 +100,7 @@ ends_as_question size text e s questions (inr (inr h)) = absurd (done_apart (pri
 pub of_question : (size : ℕ) (text : List ℕ) (e : Ending) → IsTrialPrinted size text e → IsOfQuestion e
 of_question size text e h =
     (of_printed size (λ s. IsOfQuestion e) text e h
-    (λ s read questions tried. ends_as_question size text e s questions tried)).2
+    (λ s read questions asked tried. ends_as_question size text e s questions tried)).2
 
 pub decided_printed : (size : ℕ) (text : List ℕ) (e : Ending) → ending_status e ≡ 0 → IsTrialPrinted size text e
     → IsTrialPrinted size text ending.Decided
@@ -114,20 +113,20 @@ decided_printed size text ending.Denied zero h = absurd (of_question size text e
 decided_printed size text ending.Undecided zero h = absurd (omega (arith, zero))
 
 spent_of : (size : ℕ) (text : List ℕ) (s : Spec) (questions : List Question) → IsTrialPrinted size text ending.Undecided
-    → IsSpecRead (documents size) (codes "spec") (Ok s) → AreTried size s questions
-    (Ok (printed_as text ending.Undecided)) → IsTrialSpent size text
-spent_of size text s questions told read (inl h) = absurd (not_both (same_end text _ ending.Undecided ending.Decided h.is_text))
-spent_of size text s questions told read (inr (inl h)) = record {
+    → IsSpecRead (documents size) (codes "spec") (Ok s) → AreQuestionsRead (documents size) s.relations (Ok questions)
+    → AreTried size s questions (Ok (printed_as text ending.Undecided)) → IsTrialSpent size text
+spent_of size text s questions told read asked (inl h) =
+    absurd (not_both (same_end text _ ending.Undecided ending.Decided h.is_text))
+spent_of size text s questions told read asked (inr (inl h)) = record {
   printed = told;
   spec = s;
-  question = h.question;
-  report = h.report;
   spec_read = read;
-  answer = h.answer;
-  is_text = same_text text _ ending.Undecided ending.Undecided h.is_text;
+  questions = questions;
+  questions_read = asked;
+  spent = h;
   short = short s h.question trial_budget h.report h.answer h.undecided;
 }
-spent_of size text s questions told read (inr (inr h)) = absurd (done_apart (printed_as text ending.Undecided)
+spent_of size text s questions told read asked (inr (inr h)) = absurd (done_apart (printed_as text ending.Undecided)
     (trouble.Limit 3) h.is_limit)
 
 pub spent_printed : (size : ℕ) (text : List ℕ) (e : Ending) → ending_status e ≡ 3 → IsTrialPrinted size text e
@@ -140,4 +139,4 @@ spent_printed size text ending.Decided three h = absurd (omega (arith, three))
 spent_printed size text ending.Denied three h = absurd (of_question size text ending.Denied h)
 spent_printed size text ending.Undecided three h =
     (of_printed size (λ s. IsTrialSpent size text) text ending.Undecided h
-    (λ s read questions tried. spent_of size text s questions h read tried)).2
+    (λ s read questions asked tried. spent_of size text s questions h read asked tried)).2

@@ -125,13 +125,13 @@ IsTrialDue size = IsTrialDueOver (documents size) size
 abbrev pub IsTrialPrinted : ℕ → List ℕ → Ending → Type 0
 IsTrialPrinted size text ending = IsTrialDue size (Ok (record { text = text; ending = ending }))
 
--- the documents of `trial` have a question that the budget was spent on, and this is the text of a report that says so
+-- the generated documents are read as a specification and four questions; each question before one of the four is decided, the
+-- budget was spent on that one, and this is the text of the report that says so
 pub record IsTrialSpent (size : ℕ) (text : List ℕ) : Type 0 where
   pub printed : IsTrialPrinted size text Undecided
   pub spec : Spec
-  pub question : Question
-  pub report : Report
   pub spec_read : IsSpecRead (documents size) (codes "spec") (Ok spec)
-  pub answer : IsAnswer spec question trial_budget report
-  pub is_text : text ≡ text_of (report_pieces spec.relations report)
-  pub short : IsShort spec question trial_budget report.verdict
+  pub questions : List Question
+  pub questions_read : AreQuestionsRead (documents size) spec.relations (Ok questions)
+  pub spent : IsSpentAt spec questions (Ok (record { text = text; ending = Undecided }))
+  pub short : IsShort spec spent.question trial_budget spent.report.verdict
