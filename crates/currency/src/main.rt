@@ -1,6 +1,11 @@
 //! The program `currency`: real files and standard output around `currency_cli::run`.
 #![tactic(auto)]
 
+ghost use Rattle.std.specs.Prelude.{◌≡◌, ◌+◌, None, IfErr, IfOk, OnOk, map, string_bytes, vec_len};
+ghost use Rattle.currency.specs.Runs.{IsRun};
+ghost use Rattle.currency_cli.specs.Clauses.{WordsRefused};
+ghost use Rattle.currency_cli.specs.Words.{command_for};
+
 use currency_base::NoMemory;
 use currency_cli::run;
 use currency_edge::{FileShelf, Shelf, Sink, StdSink};
@@ -26,21 +31,29 @@ fn words<R: Env + AllocGlobal>(rt: &R) -> Result<Vec<String>, u8> {
 }
 
 // Puts a guide after the others.
-fn put(boxes: &mut Vec<Box<dyn Guide>>, guide: Box<dyn Guide>) -> Result<(), NoMemory> {
+fn put(boxes: &mut Vec<Box<dyn Guide>>, guide: Box<dyn Guide>) -> Result<(), NoMemory>
+    ensures { OnOk result (vec_len boxes.new ≡ vec_len boxes.old + 1) }
+{
     match boxes.push(guide) {
         Ok(()) => Ok(()),
         Err(_) => Err(NoMemory),
     }
 }
 
-// The status of a run with one guide of each kind. The boxes are made here and not handed out, so that nothing that is
-// proved hangs on what is in them.
+// The status of a run with one guide of each kind, in which all holds that `run` promises where four are handed in; with no
+// memory for these nothing is written. The boxes are made here and not handed out, so that nothing that is proved hangs on what
+// is in them.
 fn guided<S: Shelf, K: Sink>(
     alloc: Global,
     words: &[String],
     shelf: &mut S,
     out: &mut K,
-) -> Result<u8, NoMemory> {
+) -> Result<u8, NoMemory>
+    ensures runs { IfOk result (λ status. IsRun (S.texts shelf.old) 4 (map (λ w. string_bytes w) words.now)
+        (S.faults shelf.old) (S.faults shelf.new) (K.written out.old) (K.written out.new) (K.faults out.old) (K.faults out.new)
+        status) }
+    ensures silent { IfErr result (λ _. K.written out.new ≡ K.written out.old) }
+{
     let mut boxes: Vec<Box<dyn Guide>> = Vec::new(alloc);
     put(&mut boxes, Box::new(alloc, FirstFree::new(alloc))?)?;
     put(&mut boxes, Box::new(alloc, Activity::new(alloc))?)?;
@@ -50,11 +63,17 @@ fn guided<S: Shelf, K: Sink>(
     Ok(run(alloc, words, shelf, out, &mut guides))
 }
 
-// The same over files and standard output.
-fn over_files(rt: &HostRuntime, words: &[String]) -> u8 {
+// The same over files and standard output, of which contracts see no content.
+fn over_files(rt: &HostRuntime, words: &[String]) -> u8
+    ensures no_command { result ≡ 2 → command_for 4 (map (λ w. string_bytes w) words.now) ≡ None }
+    ensures words_refused { WordsRefused 4 (map (λ w. string_bytes w) words.now) result }
+{
     let mut shelf = FileShelf::new(rt);
     let mut sink = StdSink::new(io::writer(rt));
-    guided(rt.alloc(), words, &mut shelf, &mut sink).unwrap_or(NO_MEMORY)
+    match guided(rt.alloc(), words, &mut shelf, &mut sink) {
+        Ok(status) => status,
+        Err(NoMemory) => NO_MEMORY,
+    }
 }
 
 fn main(rt: HostRuntime) -> ExitCode {
