@@ -1,3 +1,4 @@
 mod Following
+mod Leading
 mod SameAtoms
 mod Sided

@@ -51,3 +51,8 @@ pub record Equated : Type 0 where
 abbrev pub IsImplied : List Test → Equated → Type 0
 IsImplied tests e = (values : List Value) (x : Value) → All (TestHolds values) tests → value_of values e.side ≡ Some x
     → slice_get values e.var ≡ Some x
+
+-- wherever they hold the value of a variable is that of another
+abbrev pub IsLed : List Test → ℕ → ℕ → Type 0
+IsLed tests var led = (values : List Value) (x : Value) → All (TestHolds values) tests → slice_get values var ≡ Some x
+    → slice_get values led ≡ Some x

@@ -22,10 +22,9 @@ pub record AreSameAtoms (atoms steps : List Atom) : Type 0 where
   pub each : (atom : Atom) → Contains steps atom → Contains atoms atom
   pub all : (atom : Atom) → Contains atoms atom → Contains steps atom
 
--- a disjunct that fits, what its comparisons say, and two orders of its atoms
-pub record IsPlanned (d : Disjunct) (conditions : Conditioned) (from_nothing from_head : List Atom) : Type 0 where
+-- a disjunct that fits, what its comparisons say, and an order of its atoms
+pub record IsPlanned (d : Disjunct) (conditions : Conditioned) (steps : List Atom) : Type 0 where
   pub fits : IsDisjunct d
   pub tests : conditions.tests ≡ d.tests
   pub implied : All (IsImplied conditions.tests) conditions.equalities
-  pub nothing : AreSameAtoms d.atoms from_nothing
-  pub head : AreSameAtoms d.atoms from_head
+  pub same : AreSameAtoms d.atoms steps

@@ -1,8 +1,8 @@
 ghost use Rattle.std.specs.Prelude.{◌≡◌, All, IfOk};
 ghost use Rattle.std.specs.Bool.{OnTrue};
-ghost use Rattle.query_plan.specs.Implied.{AreContrary, IsImplied};
+ghost use Rattle.query_plan.specs.Implied.{AreContrary, IsImplied, IsLed};
 
-use crate::equalities::{Equality, equalities};
+use crate::equalities::{Equality, equalities, leader_of};
 use crate::standings::Standings;
 use currency_base::NoMemory;
 use query_model::Test;
@@ -57,6 +57,14 @@ impl<'a> Conditions<'a> {
         ensures implied { All (IsImplied self.now.tests) self.now.equalities }
     {
         &self.equalities
+    }
+
+    /// The variable whose value a variable has wherever the comparisons hold: of variables that have one value the same
+    /// for all.
+    pub fn leader(&self, var: u32) -> u32
+        ensures { IsLed self.now.tests var result }
+    {
+        leader_of(&self.equalities, var)
     }
 
     /// Was it seen that the comparisons hold for no values: by constants, or by going from side to side?

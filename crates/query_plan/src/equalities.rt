@@ -1,5 +1,6 @@
-ghost use Rattle.std.specs.Prelude.{◌≡◌, All, IfOk, IfSome, OnOk};
-ghost use Rattle.query_plan.specs.Implied.{IsImplied};
+ghost use Rattle.std.specs.Prelude.{◌≡◌, All, List, IfOk, IfSome, OnOk};
+ghost use Rattle.query_model.specs.declared.query.Test.{Test};
+ghost use Rattle.query_plan.specs.Implied.{IsImplied, IsLed};
 
 use crate::standings::Standings;
 use currency_base::NoMemory;
@@ -154,4 +155,36 @@ fn leader(standings: &Standings, number: usize) -> usize {
         }
     }
     number
+}
+
+/// The variable whose value a variable has: of variables that have one value the same for all.
+pub(crate) fn leader_of(equalities: &[Equality], var: u32) -> u32
+    ensures { (tests : List Test) → All (IsImplied tests) equalities.now → IsLed tests var result }
+{
+    for equality in equalities {
+        if let Some(led) = led_by(equality, var) {
+            return led;
+        }
+    }
+    var
+}
+
+// The variable of an equality, if it or its side is this one.
+fn led_by(equality: &Equality, var: u32) -> Option<u32>
+    ensures { IfSome result (λ led. (tests : List Test) → IsImplied tests equality.now → IsLed tests var led) }
+{
+    if equality.var == var {
+        return Some(var);
+    }
+    match equality.side {
+        TestTerm::Var(side) => one_led(*side, var, equality.var),
+        TestTerm::Constant(_) => None,
+    }
+}
+
+// What a variable is led to, if it is this one.
+fn one_led(side: u32, var: u32, led: u32) -> Option<u32>
+    ensures { IfSome result (λ to. (side ≡ var) × (to ≡ led)) }
+{
+    if side == var { Some(led) } else { None }
 }

@@ -10,6 +10,7 @@ use crate::equalities::Equality;
 use currency_base::{Cmp, NoMemory, RelId};
 use query_model::{Atom, Disjunct, Term, Test, TestTerm};
 use std::alloc::Global;
+use std::cmp::Ordering;
 use std::marker::Model;
 
 /// A place of a relation at which values are looked up.
@@ -42,16 +43,13 @@ impl<'a> Step<'a> {
     }
 }
 
-/// A disjunct, what follows of its comparisons, and orders in which its atoms are searched. Contracts see the
+/// A disjunct, what follows of its comparisons, and an order in which its atoms are searched. Contracts see the
 /// disjunct.
 #[derive(Drop)]
 pub struct PlannedDisjunct<'a> {
     disjunct: &'a Disjunct,
     conditions: Conditions<'a>,
-    // where no variable has a value
-    from_nothing: Vec<Step<'a>>,
-    // where the head's variables have values
-    from_head: Vec<Step<'a>>,
+    steps: Vec<Step<'a>>,
 }
 
 impl<'a> Model for PlannedDisjunct<'a> {
@@ -62,7 +60,7 @@ impl<'a> Model for PlannedDisjunct<'a> {
 
     ghost view = { λ p. p.disjunct.now };
 
-    ghost invariant = { λ p. IsPlanned p.disjunct.now p.conditions p.from_nothing.items p.from_head.items };
+    ghost invariant = { λ p. IsPlanned p.disjunct.now p.conditions p.steps.items };
 }
 
 impl<'a> PlannedDisjunct<'a> {
@@ -75,17 +73,16 @@ impl<'a> PlannedDisjunct<'a> {
         requires { IsDisjunct disjunct.now }
         ensures { IfOk result (λ planned. planned ≡ disjunct.now) }
     {
-        let atoms = disjunct.atoms.as_slice();
         let conditions = Conditions::new(alloc, disjunct.tests.as_slice())?;
-        let nothing = vec![in alloc; false; disjunct.vars as usize]?;
-        let from_nothing = planned(alloc, atoms, &conditions, nothing, looked_up)?;
         let head = known_head(alloc, disjunct)?;
-        let from_head = planned(alloc, atoms, &conditions, head, looked_up)?;
+        let steps = planned(alloc, disjunct.atoms.as_slice(), &conditions, &head)?;
+        let nothing = vec![in alloc; false; disjunct.vars as usize]?;
+        look_up_steps(&steps, &conditions, nothing, looked_up)?;
+        look_up_steps(&steps, &conditions, head, looked_up)?;
         Ok(PlannedDisjunct {
             disjunct,
             conditions,
-            from_nothing,
-            from_head,
+            steps,
         })
     }
 
@@ -118,20 +115,22 @@ impl<'a> PlannedDisjunct<'a> {
         self.disjunct.atoms.as_slice()
     }
 
-    /// The order of its atoms where no variable has a value, those that say the same once.
+    /// The order of its atoms, those that say the same once: those first that have variables of the head, and after
+    /// these each time one that shares most variables with those before it. Where atoms hang together as a tree each
+    /// so stands after one that has all variables that it shares with those before it (maximum cardinality search).
     pub fn from_nothing(&self) -> &[Step<'a>]
         ensures same { AreSameAtoms self.now.atoms result.now }
         ensures fits { IsDisjunct self.now }
     {
-        &self.from_nothing
+        &self.steps
     }
 
-    /// The order of its atoms where the head's variables have values, those that say the same once.
+    /// The order of its atoms where the head's variables have values: the same, since it begins with them.
     pub fn from_head(&self) -> &[Step<'a>]
         ensures same { AreSameAtoms self.now.atoms result.now }
         ensures fits { IsDisjunct self.now }
     {
-        &self.from_head
+        &self.steps
     }
 }
 
@@ -144,29 +143,23 @@ fn known_head(alloc: Global, disjunct: &Disjunct) -> Result<Vec<bool>, NoMemory>
     Ok(known)
 }
 
-// An order of atoms, those that say the same once, in which each has a variable with a value before it, or else a
-// constant, where one is left that has. Adds the places at which values are looked up.
+// An order of atoms, those that say the same once: each time the one that shares most variables with those before it,
+// of these the one that has most variables of the head, and of these one that has a constant.
 fn planned<'a>(
     alloc: Global,
     atoms: &'a [Atom],
     conditions: &Conditions<'a>,
-    mut known: Vec<bool>,
-    looked_up: &mut Vec<LookedUp>,
+    head: &[bool],
 ) -> Result<Vec<Step<'a>>, NoMemory>
     ensures { IfOk result (λ steps. AreSameAtoms atoms.now steps.items) }
 {
     let mut left = steps_of(alloc, atoms)?;
     let mut steps = Vec::new(alloc);
-    spread(conditions.equalities(), &mut known);
+    let mut known = vec![in alloc; false; head.len()]?;
     while left.len() > 0 {
-        let place = next_place(&left, &known);
+        let place = next_place(&left, &known, head);
         let step = left.remove(place);
-        look_up(
-            step.atom(),
-            bounding(conditions, &steps),
-            &mut known,
-            looked_up,
-        )?;
+        note_all(step.atom(), &mut known);
         spread(conditions.equalities(), &mut known);
         steps.push(step)?;
     }
@@ -200,29 +193,69 @@ fn is_among(steps: &[Step], atom: &Atom) -> bool
 }
 
 // Where among atoms the one stands that is searched next.
-fn next_place(left: &[Step], known: &[bool]) -> usize
+fn next_place(left: &[Step], known: &[bool], head: &[bool]) -> usize
     requires { 0 < length left.now }
     ensures { result < length left.now }
 {
-    let joined = left
-        .iter()
-        .position(|step| has_known_var(step.atom(), known));
-    if let Some(place) = joined {
-        return place;
+    let mut best = 0;
+    for place in 1..left.len() {
+        if is_before(left[place].atom(), left[best].atom(), known, head) {
+            best = place;
+        }
     }
-    let constant = left.iter().position(|step| has_constant(step.atom()));
-    if let Some(place) = constant {
-        return place;
-    }
-    0
+    best
 }
 
-// Has the atom a variable that has a value?
-fn has_known_var(atom: &Atom, known: &[bool]) -> bool {
-    atom.terms.as_slice().iter().any(|term| match term {
-        Term::Var(var) => is_known(known, *var),
+// Is an atom searched before another?
+fn is_before(one: &Atom, other: &Atom, known: &[bool], head: &[bool]) -> bool {
+    let shared = among(one, known).cmp(&among(other, known));
+    let headed = among(one, head).cmp(&among(other, head));
+    match (shared, headed) {
+        (Ordering::Greater, _) => true,
+        (Ordering::Less, _) => false,
+        (Ordering::Equal, Ordering::Greater) => true,
+        (Ordering::Equal, Ordering::Less) => false,
+        (Ordering::Equal, Ordering::Equal) => has_constant(one) && !has_constant(other),
+    }
+}
+
+// How many of some variables stand in an atom.
+fn among(atom: &Atom, noted: &[bool]) -> usize {
+    let terms = atom.terms.as_slice();
+    let mut count = 0usize;
+    for place in 0..terms.len() {
+        if is_first(terms, place) && is_noted(&terms[place], noted) {
+            count = count.saturating_add(1);
+        }
+    }
+    count
+}
+
+// Is a term a variable that is one of those noted?
+fn is_noted(term: &Term, noted: &[bool]) -> bool {
+    match term {
+        Term::Var(var) => is_known(noted, *var),
+        Term::Any => false,
+        Term::Constant(_) => false,
+    }
+}
+
+// Stands the term of a place at none before it?
+fn is_first(terms: &[Term], place: usize) -> bool {
+    for earlier in 0..place {
+        if is_one_variable(terms.get(earlier), terms.get(place)) {
+            return false;
+        }
+    }
+    true
+}
+
+// Are two terms one variable?
+fn is_one_variable(one: Option<&Term>, other: Option<&Term>) -> bool {
+    match (one, other) {
+        (Some(Term::Var(one)), Some(Term::Var(other))) => *one == *other,
         _ => false,
-    })
+    }
 }
 
 // Has the atom a constant?
@@ -233,22 +266,33 @@ fn has_constant(atom: &Atom) -> bool {
     })
 }
 
-// The comparisons that may bound values where an atom is searched after these: all, and none at the first, which is
-// gone through once.
-fn bounding<'a>(conditions: &Conditions<'a>, steps: &[Step]) -> &'a [Test] {
-    if steps.len() > 0 {
-        conditions.tests()
-    } else {
-        &[]
+// Adds the places at which values are looked up where those of some variables are known.
+fn look_up_steps(
+    steps: &[Step],
+    conditions: &Conditions,
+    mut known: Vec<bool>,
+    looked_up: &mut Vec<LookedUp>,
+) -> Result<(), NoMemory> {
+    spread(conditions.equalities(), &mut known);
+    for (number, step) in steps.iter().enumerate() {
+        look_up(step.atom(), bounding(conditions, number), &known, looked_up)?;
+        note_all(step.atom(), &mut known);
+        spread(conditions.equalities(), &mut known);
     }
+    Ok(())
 }
 
-// Adds the places of an atom at which values are looked up, and then notes its variables. Where no value of its
-// places is known these are those at which comparisons bound the value.
+// The comparisons that may bound values at a step: all, and none at the first, which is gone through once.
+fn bounding<'a>(conditions: &Conditions<'a>, number: usize) -> &'a [Test] {
+    if number > 0 { conditions.tests() } else { &[] }
+}
+
+// Adds the places of an atom at which values are looked up. Where no value of its places is known these are those at
+// which comparisons bound the value.
 fn look_up(
     atom: &Atom,
     tests: &[Test],
-    known: &mut Vec<bool>,
+    known: &[bool],
     looked_up: &mut Vec<LookedUp>,
 ) -> Result<(), NoMemory> {
     let is_asked = is_asked(atom, known);
@@ -260,12 +304,16 @@ fn look_up(
             })?;
         }
     }
+    Ok(())
+}
+
+// Notes the variables of an atom.
+fn note_all(atom: &Atom, known: &mut Vec<bool>) {
     for term in atom.terms.as_slice() {
         if let Term::Var(var) = term {
             note(known, *var);
         }
     }
-    Ok(())
 }
 
 // Notes the variables that have the values of sides that are known.

@@ -43,6 +43,8 @@ mod hints;
 #[cfg(test)]
 mod hostile;
 #[cfg(test)]
+mod joins;
+#[cfg(test)]
 mod labels;
 #[cfg(test)]
 mod limits;
