@@ -23,7 +23,7 @@ from runs import build, end, timed
 # what may be beside `ask` an edit, and a question after an edit; beside `verify` a kept reply; beside a tenth as many the time of an
 # edit; and the memory of 1,000 edits beside that of ten
 EDIT, QUESTION, KEPT, GROWTH, MEMORY = 1 / 20, 0.6, 1, 1.5, 1.1
-RUNS, ASKED, AGAIN = 3, 8, 8
+RUNS, ASKED, AGAIN, LEAST = 3, 8, 8, 0.02
 # an addition and its withdrawal, of each kind, and how many are run
 EDITS = {
     "given pairs": ("add order item.b: {x} < {y};\nwithdraw order item.b: {x} < {y};\n", 100_000),
@@ -69,12 +69,14 @@ def measure_edits(folder, links, asked, above):
             if said.count(" accepted;\n") != count:
                 above.append(f"{kind}: an edit is refused")
             each[count] = max(spent - none, 0.0) / count
-        beside, growth = each[most] / asked, each[most] / max(each[most // 10], 1e-9)
-        print(f"{kind}: {each[most] * 1e6:.1f} us an edit of {most}, {beside:.6f} times ask (mark {EDIT:.2f}), "
-              f"{growth:.2f} times an edit of {most // 10} (mark {GROWTH})")
+        beside, few = each[most] / asked, each[most // 10]
+        # (what is within the noise of two runs is no time)
+        growth = each[most] / few if few * (most // 10) > LEAST else 0.0
+        told = f"{growth:.2f} times an edit of {most // 10} (mark {GROWTH})" if growth else f"{most // 10} take no time"
+        print(f"{kind}: {each[most] * 1e6:.1f} us an edit of {most}, {beside:.6f} times ask (mark {EDIT:.2f}), {told}")
         if beside > EDIT:
             above.append(f"{kind}: {beside:.3f} times ask")
-        if growth > GROWTH and each[most] * most > 0.05:
+        if growth > GROWTH:
             above.append(f"{kind}: {growth:.2f} times the time of an edit")
     forms = "".join(form for form, _ in EDITS.values())
     few, many = (session(folder, edits_of(forms, links, count // 3))[1] for count in (12, 1_002))
