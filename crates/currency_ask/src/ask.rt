@@ -77,6 +77,77 @@ fn answered(
     }
 }
 
+/// Answers a question as `answer` does, beginning from a consistent completion that is known: what `answer` finds first is
+/// not looked for. The guides' first guess is as it was.
+pub fn answer_from(
+    alloc: Global,
+    spec: &Specification,
+    question: &Question,
+    first: Completion,
+    budget: u64,
+    guides: &mut Guides,
+) -> Result<Report, AskFault>
+    requires within { IsWithin spec.now }
+    requires question { IsQuestionOn spec.now.relations question.now }
+    requires first { IsConsistent spec.now first }
+    ensures shown { IfOk result (ShowsVerdict spec.now question.now) }
+    ensures right { IfOk result (λ r. is_decided (kind_of r.verdict) ≡ true → IsRight spec.now question.now r.verdict) }
+    ensures writable { IfOk result (IsWritableReport spec.now.relations) }
+    ensures lists { IfOk result (IsAnswerWithin spec.now question.now budget) }
+    ensures enough { IfOk result (IsDecidedBy spec.now question.now budget) }
+    ensures first { IfOk result (λ r. NamesFirst spec.now question.now r.verdict) }
+    ensures too_many { (c : Rankings) → result ≡ Err (fault.TooMany c) → HasTooMany spec.now question.now c }
+{
+    shown_is_right();
+    answered_from(alloc, spec, question, first, budget, guides)
+}
+
+// The same, and nothing of what follows from it.
+fn answered_from(
+    alloc: Global,
+    spec: &Specification,
+    question: &Question,
+    first: Completion,
+    budget: u64,
+    guides: &mut Guides,
+) -> Result<Report, AskFault>
+    requires within { IsWithin spec.now }
+    requires question { IsQuestionOn spec.now.relations question.now }
+    requires first { IsConsistent spec.now first }
+    ensures report { IfOk result (IsReported spec.now question.now budget) }
+    ensures too_many { (c : Rankings) → result ≡ Err (fault.TooMany c) → HasTooMany spec.now question.now c }
+{
+    match question {
+        Question::Consistent => or_no_memory(consistent(alloc, spec, first)),
+        Question::Answers(query) => answers(alloc, spec, query, first, budget, guides),
+        _ => claimed_from(alloc, spec, question, first, budget, guides),
+    }
+}
+
+// The same, by a search in which nothing is decided yet.
+fn claimed_from(
+    alloc: Global,
+    spec: &Specification,
+    question: &Question,
+    first: Completion,
+    budget: u64,
+    guides: &mut Guides,
+) -> Result<Report, AskFault>
+    requires within { IsWithin spec.now }
+    requires question { IsQuestionOn spec.now.relations question.now }
+    requires first { IsConsistent spec.now first }
+    ensures report { IfOk result (IsReported spec.now question.now budget) }
+    ensures too_many { (c : Rankings) → result ≡ Err (fault.TooMany c) → HasTooMany spec.now question.now c }
+{
+    match searched(alloc, spec, question, guides) {
+        Ok(search) => {
+            let units = Budget::new(budget);
+            claimed(alloc, spec, question, search, first, units, budget, guides)
+        }
+        Err(_) => Err(AskFault::NoMemory),
+    }
+}
+
 // A search for a question, in which no tuple's being an answer is numbered.
 fn searched<'a>(
     alloc: Global,

@@ -11,5 +11,5 @@ mod goal;
 mod pairs;
 mod reporting;
 
-pub use ask::answer;
+pub use ask::{answer, answer_from};
 pub use fault::AskFault;

@@ -4,3 +4,4 @@ mod Trials
 mod Room
 mod Edited
 mod Named
+mod Known

@@ -1,6 +1,7 @@
 -- Sessions: what is kept, and what a reply is.
-use Rattle.std.specs.Prelude.{◌≡◌, ◌⊎◌, ◌≤◌, ◌+◌, ◌-◌, ◌^◌, ℕ, true, false, min, nat_lt, List, [], ◌∷◌, ◌++◌, drop, take, length, All, Option, Some, Result, Ok, Err, if◌then◌else◌, slice_get}
-use Rattle.currency_ask.specs.Answered.{HasTooMany, IsAnswerWithin, IsDecidedBy, NamesFirst}
+use Rattle.std.specs.Prelude.{◌≡◌, ◌⊎◌, ◌≤◌, ◌+◌, ◌-◌, ◌^◌, ℕ, true, false, min, nat_lt, List, [], ◌∷◌, ◌++◌, drop, take, length, All, IfSome, Option, Some, Result, Ok, Err, if◌then◌else◌, slice_get}
+use Rattle.currency_ask.specs.Answered.{HasTooMany}
+use Rattle.currency_ask.specs.Reported.{IsReported}
 use Rattle.currency_ask.specs.declared.fault.AskFault.{AskFault}
 use Rattle.currency_ask.specs.declared.fault.AskFault.TheVariants.{NoMemory, TooMany}
 use Rattle.report_model.specs.Verdicts.{is_decided, kind_of}
@@ -9,6 +10,7 @@ use Rattle.report_verify.specs.Right.{IsRight}
 use Rattle.report_verify.specs.Shown.{ShowsVerdict}
 use Rattle.report_write.specs.Writable.{IsWritableReport}
 use Rattle.spec_model.specs.Completion.{Rankings}
+use Rattle.spec_model.specs.Consistent.{IsConsistent}
 use Rattle.spec_model.specs.Spec.{Spec}
 use Rattle.spec_model.specs.declared.question.Question.{Question}
 use Rattle.spec_model.specs.declared.relation.Relation.{Relation}
@@ -31,6 +33,11 @@ pub record AreKept (relations : List Relation) (kept : List Report) : Type 0 whe
   pub few : length kept ≤ 4
   pub each : All (IsKeptReport relations) kept
 
+-- what a session holds of a specification: such reports, and a consistent completion, if one is known
+pub record IsHeld (s : Spec) (reports : List Report) (found : Option Rankings) : Type 0 where
+  pub kept : AreKept s.relations reports
+  pub known : IfSome found (IsConsistent s)
+
 -- none of these reports shows its verdict
 abbrev pub NoneShows : Spec → Question → List Report → Type 0
 NoneShows s q kept = All (λ r. ShowsVerdict s q r → ⊥) kept
@@ -41,14 +48,6 @@ pub record IsFirstShown (s : Spec) (q : Question) (kept : List Report) (place : 
   pub is_report : slice_get kept place ≡ Some report
   pub shows : ShowsVerdict s q report
   pub before : NoneShows s q (take place kept)
-
--- a report as a search gives it
-pub record IsAnswerOf (s : Spec) (q : Question) (budget : ℕ) (r : Report) : Type 0 where
-  pub shown : ShowsVerdict s q r
-  pub writable : IsWritableReport s.relations r
-  pub lists : IsAnswerWithin s q budget r
-  pub enough : IsDecidedBy s q budget r
-  pub first : NamesFirst s q r.verdict
 
 -- the kept reports without the oldest, where there are four
 abbrev pub making_room : List Report → List Report
@@ -73,7 +72,7 @@ pub record IsReused (old new : Session) (q : Question) (place : ℕ) : Type 0 wh
 pub record IsNewlyKept (old new : Session) (q : Question) (budget place : ℕ) : Type 0 where
   pub none_shows : NoneShows old.spec q old.kept
   pub report : Report
-  pub answer : IsAnswerOf old.spec q budget report
+  pub answer : IsReported old.spec q budget report
   pub decided : is_decided (kind_of report.verdict) ≡ true
   pub is_last : place ≡ length (making_room old.kept)
   pub kept : new ≡ record old { kept = making_room old.kept ++ report ∷ [] }
@@ -81,7 +80,7 @@ pub record IsNewlyKept (old new : Session) (q : Question) (budget place : ℕ) :
 -- no kept report shows its verdict, and the search was cut off
 pub record IsOpenReply (old new : Session) (q : Question) (budget : ℕ) (r : Report) : Type 0 where
   pub none_shows : NoneShows old.spec q old.kept
-  pub answer : IsAnswerOf old.spec q budget r
+  pub answer : IsReported old.spec q budget r
   pub undecided : is_decided (kind_of r.verdict) ≡ false
   pub same : new ≡ old
 

@@ -2,21 +2,24 @@
 
 ghost use Rattle.std.specs.Prelude.{◌≡◌, Err, IfNone, IfOk, IfSome, All, true, false};
 ghost use Rattle.currency_ask.specs.Answered.{HasTooMany};
+ghost use Rattle.currency_ask.specs.Reported.{IsReported};
 ghost use Rattle.currency_ask.specs.declared.fault.AskFault.TheVariants as fault;
-ghost use Rattle.currency_session.specs.Sessions.{IsAnswerOf, IsFirstShown, IsKeptReport, NoneShows};
+ghost use Rattle.currency_session.specs.Sessions.{IsFirstShown, IsKeptReport, NoneShows};
 ghost use Rattle.report_verify.specs.Shown.{ShowsVerdict};
 ghost use Rattle.search_logs.specs.SearchLogs.{IsWithin};
 ghost use Rattle.spec_model.specs.Completion.{Rankings};
+ghost use Rattle.spec_model.specs.Consistent.{IsConsistent};
 ghost use Rattle.spec_model.specs.Questions.{IsQuestionOn};
 
+use crate::knowing::{known_copy, learn};
 use crate::looks::may_show;
-use currency_ask::{AskFault, answer};
+use currency_ask::{AskFault, answer, answer_from};
 use currency_base::NoMemory;
 use log_form::literals_are_of_statements;
 use report_model::Report;
 use report_verify::{VerifyFault, verify};
 use solver_guides::Guides;
-use spec_model::{Question, Specification};
+use spec_model::{Completion, Question, Specification};
 use std::alloc::Global;
 
 /// The place of the first of these reports that shows its verdict, as `verify` sees; none, where none does.
@@ -62,18 +65,75 @@ fn is_shown(
     }
 }
 
-/// The report that a search within a budget gives.
+/// The report that a search within a budget gives, which begins from a known completion where one is there.
 pub(crate) fn searched(
     alloc: Global,
     spec: &Specification,
     question: &Question,
+    known: &mut Option<Completion>,
+    kept: &[Report],
     budget: u64,
     guides: &mut Guides,
 ) -> Result<Report, AskFault>
     requires within { IsWithin spec.now }
     requires question { IsQuestionOn spec.now.relations question.now }
-    ensures answer { IfOk result (IsAnswerOf spec.now question.now budget) }
+    requires known { IfSome known.old (IsConsistent spec.now) }
+    requires kept { All (IsKeptReport spec.now.relations) kept.now }
+    ensures answer { IfOk result (IsReported spec.now question.now budget) }
+    ensures too_many { (c : Rankings) → result ≡ Err (fault.TooMany c) → HasTooMany spec.now question.now c }
+    ensures known { IfSome known.new (IsConsistent spec.now) }
+{
+    match known_copy(alloc, spec, known, kept) {
+        Ok(first) => told(alloc, spec, question, known, first, budget, guides),
+        Err(_) => Err(AskFault::NoMemory),
+    }
+}
+
+/// The report that a search gives which begins from the first completion, if one is handed in. Where none was known, one that
+/// the report lists then is.
+fn told(
+    alloc: Global,
+    spec: &Specification,
+    question: &Question,
+    known: &mut Option<Completion>,
+    first: Option<Completion>,
+    budget: u64,
+    guides: &mut Guides,
+) -> Result<Report, AskFault>
+    requires within { IsWithin spec.now }
+    requires question { IsQuestionOn spec.now.relations question.now }
+    requires known { IfSome known.old (IsConsistent spec.now) }
+    requires first { IfSome first (IsConsistent spec.now) }
+    ensures answer { IfOk result (IsReported spec.now question.now budget) }
+    ensures too_many { (c : Rankings) → result ≡ Err (fault.TooMany c) → HasTooMany spec.now question.now c }
+    ensures known { IfSome known.new (IsConsistent spec.now) }
+{
+    match begun(alloc, spec, question, first, budget, guides) {
+        Ok(report) => match learn(alloc, spec, known, &report) {
+            Ok(()) => Ok(report),
+            Err(_) => Err(AskFault::NoMemory),
+        },
+        Err(fault) => Err(fault),
+    }
+}
+
+/// The report that a search gives which begins from this completion, if one is handed in.
+fn begun(
+    alloc: Global,
+    spec: &Specification,
+    question: &Question,
+    first: Option<Completion>,
+    budget: u64,
+    guides: &mut Guides,
+) -> Result<Report, AskFault>
+    requires within { IsWithin spec.now }
+    requires question { IsQuestionOn spec.now.relations question.now }
+    requires first { IfSome first (IsConsistent spec.now) }
+    ensures answer { IfOk result (IsReported spec.now question.now budget) }
     ensures too_many { (c : Rankings) → result ≡ Err (fault.TooMany c) → HasTooMany spec.now question.now c }
 {
-    answer(alloc, spec, question, budget, guides)
+    match first {
+        Some(first) => answer_from(alloc, spec, question, first, budget, guides),
+        None => answer(alloc, spec, question, budget, guides),
+    }
 }

@@ -7,13 +7,14 @@ ghost use Rattle.spec_model.specs.Questions.{IsQuestionOn};
 use crate::Reply;
 use crate::asking::{first_shown, searched};
 use crate::keeping::put;
+use crate::knowing::edit_known;
 use currency_ask::AskFault;
 use currency_base::NoMemory;
 use report_model::Report;
 use report_verify::shown_is_right;
 use solver_guides::Guides;
 use spec_edits::{Edit, EditFault, EditedSpec};
-use spec_model::{Question, Specification};
+use spec_model::{Completion, Question, Specification};
 use std::alloc::Global;
 use std::marker::Model;
 
@@ -23,17 +24,19 @@ use std::marker::Model;
 pub struct Session {
     edited: EditedSpec,
     kept: Vec<Report>,
+    // A consistent completion of the specification as it is now, if one is known.
+    known: Option<Completion>,
     reused: u64,
 }
 
 impl Model for Session {
-    ghost use Rattle.currency_session.specs.Sessions.{AreKept, Session as Sessions};
+    ghost use Rattle.currency_session.specs.Sessions.{IsHeld, Session as Sessions};
 
     ghost Value = { Sessions };
 
     ghost view = { λ s. record { spec = s.edited; kept = s.kept.items; reused = s.reused } };
 
-    ghost invariant = { λ s. AreKept s.edited.relations s.kept.items };
+    ghost invariant = { λ s. IsHeld s.edited s.kept.items s.known };
 }
 
 impl Session {
@@ -46,6 +49,7 @@ impl Session {
             Ok(edited) => Ok(Session {
                 edited,
                 kept: Vec::new(alloc),
+                known: None,
                 reused: 0,
             }),
             Err(error) => Err(error),
@@ -62,7 +66,8 @@ impl Session {
     }
 
     /// Does an edit of the specification, as `EditedSpec::edit` does, and leaves the kept reports and the count. A refusal
-    /// changes nothing. A withdrawal takes no memory, and no limit refuses it.
+    /// changes nothing. A withdrawal takes no memory, and no limit refuses it. Of a known completion it is seen whether it
+    /// has an added pair, and a withdrawal keeps it.
     pub fn edit(&mut self, alloc: Global, edit: Edit) -> Result<(), EditFault>
         requires { IsEditOf self.old.spec edit }
         ensures ok { OnOk result (edited self.old.spec edit ≡ Ok self.new.spec) }
@@ -72,7 +77,7 @@ impl Session {
         ensures kept { self.new.kept ≡ self.old.kept }
         ensures reused { self.new.reused ≡ self.old.reused }
     {
-        self.edited.edit(alloc, edit)
+        edit_known(alloc, &mut self.edited, &mut self.known, edit)
     }
 
     /// The reports that are kept, oldest first. Takes no memory.
@@ -91,8 +96,8 @@ impl Session {
     }
 
     /// Answers a question about the specification as it is now: with the first kept report that shows its verdict for it, as
-    /// `verify` sees, or else by a search within a budget. A decided reply of a search is kept, after the oldest was dropped
-    /// where there are four. A refusal changes nothing.
+    /// `verify` sees, or else by a search within a budget, which begins from a consistent completion where one is known. A
+    /// decided reply of a search is kept, after the oldest was dropped where there are four. A refusal changes nothing.
     pub fn ask(
         &mut self,
         alloc: Global,
@@ -143,7 +148,15 @@ impl Session {
         ensures { Replies self.old self.new question.now budget result }
     {
         is_within(&self.edited);
-        match searched(alloc, self.edited.spec(), question, budget, guides) {
+        match searched(
+            alloc,
+            self.edited.spec(),
+            question,
+            &mut self.known,
+            self.kept.as_slice(),
+            budget,
+            guides,
+        ) {
             Ok(report) => match put(&mut self.kept, report) {
                 Ok(reply) => Ok(reply),
                 Err(_) => Err(AskFault::NoMemory),

@@ -3,5 +3,9 @@ use Rattle.currency_session.proofs.session.Session.edit.Goals as goal
 
 pub invariant_of-self : goal.invariant_of-self
 invariant_of-self c =
-    edited_kept c.self.inside.edited c.edit.new.self c.args.edit c.self.inside.kept.items c.edit.result c.edit.ensures.ok
-    c.edit.ensures.err c.self.invariant
+    record {
+      kept =
+          edited_kept c.self.inside.edited c.edit_known.new.spec c.args.edit c.self.inside.kept.items c.edit_known.result
+          c.edit_known.ensures.ok c.edit_known.ensures.err c.self.invariant.kept;
+      known = c.edit_known.ensures.known;
+    }

@@ -1,0 +1,4 @@
+mod Lists
+mod Over
+mod Edits
+mod Filled
