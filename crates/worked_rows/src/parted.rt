@@ -77,9 +77,9 @@ completion;
 -- q: same R;
 >> ask s q
 0 currency report 2;
-verdict not same R.a of p;
+verdict same;
 ...
->> verify s q p => 0 accepted not same
+>> verify s q p => 0 accepted same
 :: a query that joins two parts, and one whose matches are in three
 -- q: answers (v) where R("p", _, _, _, v) and R("w", _, _, _, v);
 >> ask s q
