@@ -239,7 +239,7 @@ ranking Emp.salary of mary: s2 < s1 < s3;
 ranking Emp.address of mary: s2 < s1 < s3;
 end;
 
-== of two causes one is wrong_ends
+== of two causes one is told
 -- s
 relation R from "r.csv" row id entity eid (a: int, b: int);
 order R.a: r1 < r2;
@@ -252,7 +252,7 @@ r2,x,2,2
 >> explain s q 1
 0 currency explanation 1;
 explains 1;
-item given R.a: r1 < r2;
+item rule up;
 completion;
 ranking R.a of x: r2 < r1;
 ranking R.b of x: r2 < r1;
