@@ -269,7 +269,7 @@ ranking S.a of y: s1 < s2;
 ranking T.b of x: t1 < t2;
 end;
 
-== refusals are wrong_ends
+== refusals are told
 >> ask s q --budget 0 => 2 words refused
 >> ask s q --budget 10000001 => 2 words refused
 >> ask s q --budget 18446744073709551617 => 2 words refused

@@ -95,7 +95,7 @@ axiom given 1 1 1 3: 1;
 derive 1 by 1;
 end;
 end;
-:: Of whether there is a consistent completion nothing else is wrong_ends.
+:: Of whether there is a consistent completion nothing else is told.
 -- q: consistent;
 >> possible s q
 0 currency possible 1;
