@@ -5,6 +5,7 @@ ghost use Rattle.std.specs.Prelude.{◌≡◌, ◌+◌, None, IfErr, IfOk, OnOk,
 ghost use Rattle.currency.specs.Runs.{IsRun};
 ghost use Rattle.currency_cli.specs.Clauses.{WordsRefused};
 ghost use Rattle.currency_cli.specs.Words.{command_for};
+ghost use Rattle.solver_guides.specs.Rings.{count_of};
 
 use currency_base::NoMemory;
 use currency_cli::run;
@@ -40,6 +41,21 @@ fn put(boxes: &mut Vec<Box<dyn Guide>>, guide: Box<dyn Guide>) -> Result<(), NoM
     }
 }
 
+// A run where four guides are handed in, in which all holds that `run` promises.
+fn run_with_four<S: Shelf, K: Sink>(
+    alloc: Global,
+    words: &[String],
+    shelf: &mut S,
+    out: &mut K,
+    guides: &mut Guides,
+) -> u8
+    requires { count_of guides.old ≡ 4 }
+    ensures { IsRun (S.texts shelf.old) 4 (map (λ w. string_bytes w) words.now) (S.faults shelf.old) (S.faults shelf.new)
+        (K.written out.old) (K.written out.new) (K.faults out.old) (K.faults out.new) result }
+{
+    run(alloc, words, shelf, out, guides)
+}
+
 // The status of a run with one guide of each kind, in which all holds that `run` promises where four are handed in; with no
 // memory for these nothing is written. The boxes are made here and not handed out, so that nothing that is proved hangs on what
 // is in them.
@@ -60,7 +76,7 @@ fn guided<S: Shelf, K: Sink>(
     put(&mut boxes, Box::new(alloc, KeepPhase::new(alloc))?)?;
     put(&mut boxes, Box::new(alloc, Seeded::new(1))?)?;
     let mut guides = Guides::new(boxes);
-    Ok(run(alloc, words, shelf, out, &mut guides))
+    Ok(run_with_four(alloc, words, shelf, out, &mut guides))
 }
 
 // The same over files and standard output, of which contracts see no content.
