@@ -132,8 +132,8 @@ FAMILIES = {
 
 
 def write_documents(folder, family, rows):
-    """The tables, the specification and the query of a family. Free rows stand two in an entity."""
-    spec = []
+    """The tables of a family, which have so many rows together, the specification and the query. Free rows stand two in an entity."""
+    spec, each = [], rows // len(family.tables)
     for name, columns, records in family.tables:
         heads = ", ".join(f"{column}: int" for column in columns)
         spec.append(f'relation {name} from "{name}.csv" row id entity eid ({heads});\n')
@@ -142,7 +142,7 @@ def write_documents(folder, family, rows):
             ",".join(["id", "eid", *columns]),
             (
                 f"r{row},e{row // 2 if family.free else row}," + ",".join(map(str, record))
-                for row, record in enumerate(records(rows))
+                for row, record in enumerate(records(each))
             ),
         )
     (folder / "s").write_text("".join(spec))
@@ -182,9 +182,9 @@ def measure(name, family, rows, before, above):
         theirs, found = outside(folder, family)
     beside = f"{spent / theirs:.2f} times SQLite's {theirs:.2f} s" + ("" if found is not None else " and more (stopped)")
     print(f"{name}, {rows} rows: {spent:.2f} s, {megabytes:.0f} MB, {count} answers; {beside}", end="")
-    if not family.free and found is not None and said.startswith(b"currency report") and count != found:
+    if not family.free and found is not None and said.startswith(b"currency brief") and count != found:
         above.append(f"{name} at {rows} rows: {count} answers, SQLite has {found}")
-    if not said.startswith(b"currency report"):
+    if not said.startswith(b"currency brief"):
         above.append(f"{name} at {rows} rows: {said[:60]!r}")
     if spent > FROM_SECONDS and spent > MOST_RATIO * theirs:
         above.append(f"{name} at {rows} rows: {spent / theirs:.1f} times SQLite's time")
