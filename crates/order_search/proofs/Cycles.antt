@@ -1,6 +1,6 @@
 -- A cycle whose list was brought in is false under every assignment that makes the clauses true.
 use Rattle.std.proofs.Common.{◌≡◌, ◌≢◌, ◌⊎◌, ◌<◌, ◌≤◌, ◌+◌, ◌∙◌, ℕ, zero, suc, Bool, true, false, List, [], ◌∷◌, All, Some, Contains, get_or, length, option_map, slice_get, slice_set, refl, sym, ap, subst, inl, inr, arith}
-use Rattle.std.proofs.lemmas.List.Elements.{All-contains}
+use Rattle.std.proofs.lemmas.List.Elements.{All-contains, All-weaker}
 use Rattle.std.proofs.lemmas.Option.{same_Some, slice_get-get_or, slice_get-map}
 use Rattle.currency_base.specs.Literals.{var_of}
 use Rattle.currency_base.specs.declared.ids.AttrId.{AttrId}
@@ -24,9 +24,15 @@ use Rattle.completion_build.specs.Ranked.{IsCycle}
 use Rattle.completion_build.specs.declared.built.Cycle.{Cycle}
 use Rattle.watch_propagate.proofs.KeptLists.{contains_at, stands_at}
 use Rattle.watch_solver.specs.Decided.{Solver}
-use Rattle.order_search.specs.Kept.{AreBrought, AreBroughtIn, AreTrue, Brings, HaveThrees, IsBrought, IsHeld, IsMarked, IsOfList, unmarked, vars_of}
+use Rattle.order_search.specs.Kept.{AreBrought, AreBroughtIn, AreTrue, AreTrueOn, Brings, HaveThrees, IsBrought, IsHeld, IsMarked, IsOfList, IsOnList, unmarked, vars_of}
 use Rattle.order_search.specs.Searches.{Subject}
 use Rattle.order_search.proofs.Marking.{brought_mark, unmarked_fewer, unmarked_later}
+
+-- where all clauses are true, those on a list are
+pub all_on : (s : Subject) (truths : List Bool) (steps : List Step) (cycles : List Cycle) → AreTrue truths steps
+    → All (AreTrueOn s truths steps) cycles
+all_on s truths steps cycles all =
+    λ k d h lits is_in on. All-contains (IsClauseTrue truths) (clauses_of steps) lits all is_in
 
 -- ---- a cycle is of a list
 
@@ -63,7 +69,7 @@ among_three x a b c is = go (stands_at (a ∷ b ∷ c ∷ []) x is)
     go (suc (suc zero), e) = inr (inr (sym (same_Some c x e)))
     go (suc (suc (suc k)), e) = let no : ⊥ = cc in absurd no
 
-module _ (s : Subject) (steps : List Step) (truths : List Bool) (c : Cycle) (holds : AreTrue truths steps)
+module _ (s : Subject) (steps : List Step) (truths : List Bool) (c : Cycle) (holds : AreTrueOn s truths steps c)
     (is : IsCycle s.spec.relations (vars_of s) truths c) where
   -- two of its rows are different ones of one entity
   two_of : (a b : RowId) → entity_of is.relation.rows a.0 ≡ Some c.ent.0 → entity_of is.relation.rows b.0 ≡ Some c.ent.0
@@ -109,12 +115,44 @@ module _ (s : Subject) (steps : List Step) (truths : List Bool) (c : Cycle) (hol
       (subst (IsSaidTrue (vars_of s) truths) e t)
       is.third_first.put
 
+  -- its literals are on the list
+  on_list : (lit : Lit) (a b : RowId) (negative : Bool) → entity_of is.relation.rows a.0 ≡ Some c.ent.0
+      → entity_of is.relation.rows b.0 ≡ Some c.ent.0
+      → Says (vars_of s) lit (record { statement = says.Before c.rel c.attr a b; negative = negative }) → IsOnList s c lit
+  on_list lit a b negative of_a of_b told = record {
+    relation = is.relation;
+    is_relation = is.is_relation;
+    first = a;
+    second = b;
+    negative = negative;
+    first_of = of_a;
+    second_of = of_b;
+    says = told;
+  }
+
+  one_on : (lit : Lit) (said : Said) → (said ≡ not_before c.rel c.attr c.first c.second)
+      ⊎ ((said ≡ not_before c.rel c.attr c.second c.third) ⊎ (said ≡ before c.rel c.attr c.first c.third))
+      → Says (vars_of s) lit said → IsOnList s c lit
+  one_on lit said (inl e) told =
+      on_list lit c.first c.second true is.first_second.first_of is.first_second.second_of (subst (Says (vars_of s) lit) e told)
+  one_on lit said (inr (inl e)) told =
+      on_list lit c.second c.third true is.second_third.first_of is.second_third.second_of (subst (Says (vars_of s) lit) e told)
+  one_on lit said (inr (inr e)) told =
+      on_list lit c.first c.third false is.third_first.second_of is.third_first.first_of (subst (Says (vars_of s) lit) e told)
+
+  said_on : (lit : Lit) → SaysOneOf (vars_of s) clause lit → IsOnList s c lit
+  unfolding clause
+  said_on lit told =
+      one_on lit told.said
+      (among_three told.said (not_before c.rel c.attr c.first c.second) (not_before c.rel c.attr c.second c.third)
+      (before c.rel c.attr c.first c.third) told.is_in) told.says
+
   refuted : HaveThrees s steps c.rel c.attr c.ent.0 → ⊥
   unfolding clause
   refuted threes =
       let stands = threes is.relation is.is_relation c.first c.second c.third is.first_second.first_of clause is_axiom in
-      let one = All-contains (IsClauseTrue truths) (clauses_of steps) stands.lits holds
-      (clause_in steps (Axiom stands.label stands.lits) stands.is_in) in
+      let one = holds stands.lits (clause_in steps (Axiom stands.label stands.lits) stands.is_in)
+      (All-weaker (SaysOneOf (vars_of s) clause) (IsOnList s c) said_on stands.lits stands.are_lits.each) in
       let told = All-contains (SaysOneOf (vars_of s) clause) stands.lits one.lit stands.are_lits.each one.is_in in
       one_false told.said
       (among_three told.said (not_before c.rel c.attr c.first c.second) (not_before c.rel c.attr c.second c.third)
@@ -193,7 +231,6 @@ module _ (s : Subject) (c : Cycle) (is : IsOfList s c) (old new : List Bool) (ma
   pub marked_held : (solver : Solver) → IsHeld s solver old → HaveThrees s solver.steps c.rel c.attr c.ent.0 → IsHeld s solver new
   marked_held solver held threes = record {
     search = held.search;
-    scope = held.scope;
     lists = subst (AreBrought s solver.steps) (sym marked.marks)
         (brought_mark s solver.steps old (var_of marked.lit) held.lists
         (brought_of s solver.steps c is marked.lit marked.lit_says threes));
@@ -225,7 +262,8 @@ in_more s cycles zero c first_steps first old_steps old new_steps new at so_far 
   begun = λ e. absurd (omega (arith, e));
   fewer = λ h truths holds all.
       let same = so_far.begun refl in
-      let one = fewer truths (subst (AreTrue truths) (sym same.0) holds)
+      let one = fewer truths (subst (λ (ss : List Step). AreTrueOn s truths ss c) (sym same.0)
+      (All-contains (AreTrueOn s truths first_steps) cycles c holds (contains_at cycles zero c at)))
       (All-contains (IsCycle s.spec.relations (vars_of s) truths) cycles c all (contains_at cycles zero c at)) in
       let before = so_far.later in
       omega (arith, one, before);
@@ -239,7 +277,7 @@ in_more s cycles (suc place) c first_steps first old_steps old new_steps new at 
 pub in_all : (s : Subject) (cycles : List Cycle) (place : ℕ) (old_steps : List Step) (old : List Bool)
     (new_steps : List Step) (new : List Bool)
     → length cycles ≤ place → AreBroughtIn s cycles place old_steps old new_steps new → (truths : List Bool)
-    → AreTrue truths old_steps
+    → All (AreTrueOn s truths old_steps) cycles
     → All (IsCycle s.spec.relations (vars_of s) truths) cycles → cycles ≢ [] → unmarked new < unmarked old
 in_all s [] place old_steps old new_steps new past so_far truths holds all some = absurd (some refl)
 in_all s (c ∷ cycles) place old_steps old new_steps new past so_far truths holds all some = so_far.fewer

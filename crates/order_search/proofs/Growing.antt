@@ -2,8 +2,8 @@
 use Rattle.std.proofs.Common.{Result, Ok, Err, OnOk, ◌≡◌, ◌⊎◌, ◌<◌, ◌≤◌, ◌+◌, ◌∙◌, ℕ, zero, suc, Bool, true, false, cond, List, [], ◌∷◌, ◌++◌, All, Some, Contains, get_or, length, take, slice_get, refl, sym, ap, subst, inl, inr, arith}
 use Rattle.std.proofs.lemmas.Bool.{cases_lt}
 use Rattle.std.proofs.lemmas.List.{append-nil, append_assoc, take-append-le, take_more}
-use Rattle.std.proofs.lemmas.Option.{get_or_from_slice_get, slice_get_within}
-use Rattle.std.proofs.lemmas.List.Elements.{All-contains, All-head, All-nil, All-tail, All-take, Contains-append_left, Contains-append_right}
+use Rattle.std.proofs.lemmas.Option.{get_or_from_slice_get, slice_get-get_or, slice_get_within}
+use Rattle.std.proofs.lemmas.List.Elements.{All-append, All-contains, All-head, All-nil, All-tail, All-take, Contains-append_left, Contains-append_right}
 use Rattle.std.proofs.lemmas.List.Sums.{sum_by-append, sum_by-cons}
 use Rattle.currency_base.specs.declared.ids.AttrId.{AttrId}
 use Rattle.currency_base.specs.declared.ids.RelId.{RelId}
@@ -17,12 +17,11 @@ use Rattle.refutation_log.specs.declared.step.Step.TheVariants.{Axiom, Learn, On
 use Rattle.log_axioms.specs.Posed.{Posed}
 use Rattle.order_literals.proofs.Sayings.{says_within}
 use Rattle.order_clauses.specs.Clauses.{AreAxioms, AreTransitive}
-use Rattle.search_trail.specs.Trails.{whole_scope}
 use Rattle.search_state.specs.States.{Frame, IsFit}
 use Rattle.watch_propagate.proofs.KeptLists.{contains_at, get_front}
 use Rattle.watch_solver.specs.Decided.{HasGrown, IsLearnedAfter, Solver}
 use Rattle.search_logs.specs.SearchLogs.{IsPosed, IsSearchStep}
-use Rattle.order_search.specs.Kept.{AreBrought, HasAdded, HasAxioms, HaveThrees, IsAxiomOf, IsFitAxiom, IsHeld, posed_of, vars_of}
+use Rattle.order_search.specs.Kept.{AreBrought, ArePlain, HasAdded, HasAxioms, HaveThrees, IsAxiomOf, IsFitAxiom, IsHeld, IsPlain, posed_of, vars_of}
 use Rattle.order_search.specs.Searches.{Subject}
 
 -- ---- lists
@@ -78,7 +77,7 @@ brought_more s old added new brought is were = record {
 }
 
 module _ (s : Subject) (solver new : Solver) (brought : List Bool) (held : IsHeld s solver brought)
-    (frame : new.frame ≡ solver.frame) (scope : new.trail.scope ≡ solver.trail.scope)
+    (frame : new.frame ≡ solver.frame)
     (next : AreNext s (posed_of s solver.frame) solver.steps new.steps) where
   search_steps : (place : ℕ) (taken : Step) → slice_get new.steps place ≡ Some taken → (place < length solver.steps)
       ⊎ (length solver.steps ≤ place)
@@ -121,7 +120,6 @@ module _ (s : Subject) (solver new : Solver) (brought : List Bool) (held : IsHel
       };
       counted_new = λ place taken at counted. counted_new place taken at counted (cases_lt place (length solver.steps));
     };
-    scope = scope ∙ held.scope ∙ ap (λ (f : Frame). whole_scope (length f.statements)) (sym frame);
     lists = brought_more s solver.steps next.added new.steps brought next.steps held.lists;
   }
 
@@ -145,10 +143,10 @@ grown_next s posed old new grown = record {
 }
 
 pub held_grown : (s : Subject) (solver new : Solver) (brought : List Bool) → IsHeld s solver brought → new.frame ≡ solver.frame
-    → new.trail.scope ≡ solver.trail.scope → HasGrown (length solver.frame.statements) solver.steps new.steps
+    → HasGrown (length solver.frame.statements) solver.steps new.steps
     → IsHeld s new brought
-held_grown s solver new brought held frame scope grown =
-    held_next s solver new brought held frame scope
+held_grown s solver new brought held frame grown =
+    held_next s solver new brought held frame
     (grown_next s (posed_of s solver.frame) solver.steps new.steps
     (subst (λ (ss : List Statement). HasGrown (length ss) solver.steps new.steps) held.search.log.statements grown))
 
@@ -254,9 +252,9 @@ some_axioms s count axioms all = All-take (IsAxiomOf s) count axioms all
 
 -- where axioms were put after the others
 pub held_axioms : (s : Subject) (solver new : Solver) (brought : List Bool) → IsHeld s solver brought → new.frame ≡ solver.frame
-    → new.trail.scope ≡ solver.trail.scope → HasAxioms s solver.steps new.steps → IsHeld s new brought
-held_axioms s solver new brought held frame scope has =
-    held_next s solver new brought held frame scope (axioms_next s (posed_of s solver.frame) solver.steps has.axioms
+    → HasAxioms s solver.steps new.steps → IsHeld s new brought
+held_axioms s solver new brought held frame has =
+    held_next s solver new brought held frame (axioms_next s (posed_of s solver.frame) solver.steps has.axioms
     new.steps has.steps has.are_axioms)
 
 pub same_units : (s : Subject) (old new : List Step) → HasAxioms s old new → counted_steps new ≡ counted_steps old
@@ -282,6 +280,37 @@ has_some s rel attr ent old axioms new is are = record {
   steps = is.1;
   are_axioms = some_axioms s is.0 axioms (three_axioms s rel attr ent axioms are);
 }
+
+-- ---- steps that no match brought in
+
+plain_axiom : (s : Subject) (taken : Step) → IsAxiomOf s taken → IsPlain s taken
+plain_axiom s (Axiom l lits) is = is
+plain_axiom s (OnDemand l lits) is = let e = is.step.is_step in let no : ⊥ = cc in absurd no
+plain_axiom s (Learn lits hints counted) is = record {}
+
+pub all_plain : (s : Subject) (axioms : List Step) → All (IsAxiomOf s) axioms → ArePlain s axioms
+all_plain s axioms all = λ k d h. plain_axiom s (get_or axioms k d) (all k d h)
+
+pub plain_axioms : (s : Subject) (old new : List Step) → HasAxioms s old new → ArePlain s old → ArePlain s new
+plain_axioms s old new has plain =
+    subst (ArePlain s) (sym has.steps) (All-append (IsPlain s) old has.axioms plain (all_plain s has.axioms has.are_axioms))
+
+plain_learned : (s : Subject) (vars : ℕ) (earlier : List (List Lit)) (taken : Step) → IsLearnedAfter vars earlier taken
+    → IsPlain s taken
+plain_learned s vars earlier (Axiom l lits) learned = absurd learned
+plain_learned s vars earlier (OnDemand l lits) learned = absurd learned
+plain_learned s vars earlier (Learn lits hints counted) learned = record {}
+
+pub plain_grown : (s : Subject) (vars : ℕ) (old new : List Step) → HasGrown vars old new → ArePlain s old → ArePlain s new
+plain_grown s vars old new grown plain = λ k d h. go k d h (cases_lt k (length old))
+  where
+    go : (k : ℕ) (d : Step) → k < length new → (k < length old) ⊎ (length old ≤ k) → IsPlain s (get_or new k d)
+    go k d h (inl below) =
+        let at = stood old grown.added new k (get_or new k d) grown.steps below (slice_get-get_or new k d h) in
+        subst (IsPlain s) (get_or_from_slice_get old k (get_or new k d) d at) (plain k d below)
+    go k d h (inr above) =
+        plain_learned s vars (clauses_of (take k new)) (get_or new k d)
+        (grown.learned k (get_or new k d) above (slice_get-get_or new k d h))
 
 -- ---- one after another
 

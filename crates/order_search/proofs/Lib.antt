@@ -6,3 +6,8 @@ mod Beginning
 mod Falsified
 mod Matched
 mod Rows
+mod PartValues
+mod PartCycles
+mod PartMade
+mod PartTold
+mod PartNumbers

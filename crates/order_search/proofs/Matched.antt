@@ -137,12 +137,12 @@ module _ (total : IsTotalOrder (slice_cmp value_cmp)) (s : Subject) (solver : So
         (step_is counted lits (clauses_of solver.steps) are is_new));
   }
 
-  pub held_matched : (new : Solver) (counted : Bool) → new.frame ≡ solver.frame → new.trail.scope ≡ solver.trail.scope →
+  pub held_matched : (new : Solver) (counted : Bool) → new.frame ≡ solver.frame →
       (has : HasMatched s c m answer counted solver.steps new.steps)
       → (counted ≡ true → IsNew (clauses_of solver.steps) (OnDemand (label.Match m.disjunct m.entities m.values)
       has.lits)) → IsHeld s new brought
-  held_matched new counted frame scope has is_new =
-      held_next s solver new brought held frame scope (one_next counted has.lits new.steps has.are_lits is_new has.steps)
+  held_matched new counted frame has is_new =
+      held_next s solver new brought held frame (one_next counted has.lits new.steps has.are_lits is_new has.steps)
 
 -- a step more is counted or not
 pub counted_one : (old new : List Step) (l : Label) (lits : List Lit) (counted : Bool) → new ≡ old
@@ -161,9 +161,9 @@ counted_one old new l lits counted e =
 
 -- where nothing was put, all stays
 pub held_same : (s : Subject) (solver new : Solver) (brought : List Bool) → IsHeld s solver brought
-    → new.frame ≡ solver.frame → new.trail.scope ≡ solver.trail.scope → new.steps ≡ solver.steps
+    → new.frame ≡ solver.frame → new.steps ≡ solver.steps
     → IsHeld s new brought
-held_same s solver new brought held frame scope steps = held_axioms s solver new brought held frame scope
+held_same s solver new brought held frame steps = held_axioms s solver new brought held frame
     (has_none s solver.steps new.steps steps)
 
 -- ---- truths

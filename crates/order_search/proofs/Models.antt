@@ -8,6 +8,7 @@ use Rattle.currency_base.specs.declared.lit.Lit.{Lit}
 use Rattle.spec_model.specs.Completion.{Rankings}
 use Rattle.refutation_log.specs.Counted.{IsOpenLog, holds}
 use Rattle.refutation_log.specs.Steps.{clause_of, clauses_of}
+use Rattle.refutation_log.specs.declared.statement.Statement.{Statement}
 use Rattle.refutation_log.specs.declared.step.Step.{Step}
 use Rattle.order_literals.specs.Said.{IsClauseTrue, IsLitTrue}
 use Rattle.order_adequacy.specs.Laws.{IsModelOf, ModelsAreCompletions}
@@ -48,15 +49,16 @@ model_true vars steps goal truths fit model = λ k d h.
 
 -- the truths of the solver's trail are a model, where the trail is one
 pub model_is : WholeScopeGivesModels → (s : Subject) (solver : Solver) (marks truths : List Bool) (goal : Option Lit)
-    → IsHeld s solver marks → solver.trail.vars ≡ length solver.frame.statements
+    → IsHeld s solver marks → solver.trail.scope ≡ whole_scope (length (vars_of s))
+    → solver.trail.vars ≡ length solver.frame.statements
     → All (λ step. IsFit (length solver.frame.statements) (clause_of step)) solver.steps → AreEntries solver.trail
     → IsModelOn solver.steps goal solver.trail → AreTruths (values_of solver.trail).given truths
     → IsModel (length solver.frame.statements) solver.steps goal truths
-model_is law s solver marks truths goal held vars fit are on of =
+model_is law s solver marks truths goal held whole vars fit are on of =
     subst (λ (n : ℕ). IsModel n solver.steps goal truths) vars
     (law solver.steps goal solver.trail truths are
     (subst (λ (n : ℕ). All (λ step. IsFit n (clause_of step)) solver.steps) (sym vars) fit)
-    (held.scope ∙ ap whole_scope (sym vars)) on of)
+    (whole ∙ ap (λ (ss : List Statement). whole_scope (length ss)) (sym held.search.log.statements) ∙ ap whole_scope (sym vars)) on of)
 
 -- ---- completions
 

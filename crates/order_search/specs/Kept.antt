@@ -1,5 +1,5 @@
 -- What a search keeps from one decision to the next.
-use Rattle.std.specs.Prelude.{◌≡◌, ◌<◌, ◌≤◌, ℕ, zero, suc, Bool, true, false, List, [], ◌∷◌, ◌++◌, All, Some, length, slice_get, slice_set}
+use Rattle.std.specs.Prelude.{◌≡◌, ◌<◌, ◌≤◌, ℕ, zero, suc, Bool, true, false, List, [], ◌∷◌, ◌++◌, All, Contains, Some, length, slice_get, slice_set}
 use Rattle.currency_base.specs.Literals.{var_of}
 use Rattle.currency_base.specs.declared.ids.AttrId.{AttrId}
 use Rattle.currency_base.specs.declared.ids.RelId.{RelId}
@@ -10,7 +10,6 @@ use Rattle.entity_lists.specs.Lists.{entities_of, rows_of}
 use Rattle.partial_orders.specs.Pairs.{entity_of}
 use Rattle.spec_model.specs.declared.relation.Relation.{Relation}
 use Rattle.refutation_log.specs.Steps.{clauses_of}
-use Rattle.search_trail.specs.Trails.{whole_scope}
 use Rattle.refutation_log.specs.declared.statement.Statement.{Statement}
 use Rattle.refutation_log.specs.declared.statement.Statement.TheVariants as says
 use Rattle.refutation_log.specs.declared.step.Label.{Label}
@@ -67,6 +66,16 @@ pub record HasAxioms (s : Subject) (old new : List Step) : Type 0 where
   pub steps : new ≡ old ++ axioms
   pub are_axioms : All (IsAxiomOf s) axioms
 
+-- a step that is an axiom of the specification, or learned: not one that a match of a query brought in
+abbrev pub IsPlain : Subject → Step → Type 0
+IsPlain s (step.Axiom l lits) = IsAxiomOf s (step.Axiom l lits)
+IsPlain s (step.OnDemand l lits) = ⊥
+IsPlain s (step.Learn lits hints counted) = Unit {0}
+
+-- no step was brought in by a match
+abbrev pub ArePlain : Subject → List Step → Type 0
+ArePlain s steps = All (IsPlain s) steps
+
 -- ---- lists that are brought in
 
 -- each clause on three rows of an entity in an attribute stands among the steps
@@ -110,10 +119,9 @@ search_of s solver = record {
   log = record { answers = solver.frame.answers; statements = solver.frame.statements; steps = solver.steps };
 }
 
--- what is kept; all variables are of the scope
+-- what is kept
 pub record IsHeld (s : Subject) (solver : Solver) (brought : List Bool) : Type 0 where
   pub search : IsSearch (search_of s solver)
-  pub scope : solver.trail.scope ≡ whole_scope (length solver.frame.statements)
   pub lists : AreBrought s solver.steps brought
 
 -- ---- rows of lists
@@ -145,10 +153,26 @@ pub record IsMarked (s : Subject) (c : Cycle) (old new : List Bool) : Type 0 whe
 abbrev pub AreTrue : List Bool → List Step → Type 0
 AreTrue truths steps = All (IsClauseTrue truths) (clauses_of steps)
 
+-- a literal says of two rows of a cycle's list which of them stands before the other
+pub record IsOnList (s : Subject) (c : Cycle) (lit : Lit) : Type 0 where
+  pub relation : Relation
+  pub is_relation : slice_get s.spec.relations c.rel.0 ≡ Some relation
+  pub first : RowId
+  pub second : RowId
+  pub negative : Bool
+  pub first_of : entity_of relation.rows first.0 ≡ Some c.ent.0
+  pub second_of : entity_of relation.rows second.0 ≡ Some c.ent.0
+  pub says : Says (vars_of s) lit (record { statement = says.Before c.rel c.attr first second; negative = negative })
+
+-- an assignment makes those clauses of steps true whose literals are all on a cycle's list
+abbrev pub AreTrueOn : Subject → List Bool → List Step → Cycle → Type 0
+AreTrueOn s truths steps c = (lits : List Lit) → Contains (clauses_of steps) lits → All (IsOnList s c) lits
+    → IsClauseTrue truths lits
+
 -- the list of a cycle was brought in: fewer variables are without a mark, where the cycle is of an assignment that
--- makes the clauses of the steps so far true
+-- makes the clauses of the steps so far true that are on the list
 abbrev pub Brings : Subject → Cycle → List Step → List Bool → List Bool → Type 0
-Brings s c steps old new = (truths : List Bool) → AreTrue truths steps → IsCycle s.spec.relations (vars_of s) truths
+Brings s c steps old new = (truths : List Bool) → AreTrueOn s truths steps c → IsCycle s.spec.relations (vars_of s) truths
     c → unmarked new < unmarked old
 
 -- the first lists of these cycles, so many, were brought in
@@ -157,7 +181,7 @@ pub record AreBroughtIn (s : Subject) (cycles : List Cycle) (place : ℕ) (old_s
     (new : List Bool) : Type 0 where
   pub later : unmarked new ≤ unmarked old
   pub begun : place ≡ 0 → (new_steps ≡ old_steps) × (new ≡ old)
-  pub fewer : 0 < place → (truths : List Bool) → AreTrue truths old_steps
+  pub fewer : 0 < place → (truths : List Bool) → All (AreTrueOn s truths old_steps) cycles
       → All (IsCycle s.spec.relations (vars_of s) truths) cycles
       → unmarked new < unmarked old
 

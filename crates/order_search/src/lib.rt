@@ -3,14 +3,18 @@
 #![tactic(auto)]
 
 mod bringing;
+mod finding;
 mod linked;
 mod matching;
 mod opening;
 mod outcome;
+mod parting;
+mod partwise;
 mod progress;
 mod rounds;
 mod search;
 mod subject;
+mod telling;
 mod when;
 
 pub use outcome::Outcome;

@@ -2,7 +2,7 @@ ghost use Rattle.std.specs.Prelude.{◌≡◌, ◌≢◌, ◌<◌, All, length, 
 ghost use Rattle.currency_base.specs.Literals.{var_of};
 ghost use Rattle.refutation_log.specs.Counted.{counted_steps};
 ghost use Rattle.order_links.specs.Lists.{IsListOf};
-ghost use Rattle.order_search.specs.Kept.{AreRowsOf, HasAdded, IsHeld, IsOfList, vars_of};
+ghost use Rattle.order_search.specs.Kept.{ArePlain, AreRowsOf, HasAdded, IsHeld, IsOfList, vars_of};
 
 use crate::When;
 use crate::bringing::bring_in;
@@ -42,6 +42,7 @@ pub(crate) fn bring_linked(
     requires links { links.old ≡ subject.now.spec.relations }
     ensures held { IsHeld subject.now progress.new.solver progress.new.brought.items }
     ensures added { HasAdded progress.old.solver progress.new.solver }
+    ensures plain { ArePlain subject.now progress.old.solver.steps → ArePlain subject.now progress.new.solver.steps }
     ensures units { counted_steps progress.new.solver.steps ≡ counted_steps progress.old.solver.steps }
     ensures links { links.new ≡ links.old }
 {
@@ -75,6 +76,7 @@ fn bring_lists(
     requires lists { All (IsListOf subject.now.spec.relations) lists.now }
     ensures held { IsHeld subject.now progress.new.solver progress.new.brought.items }
     ensures added { HasAdded progress.old.solver progress.new.solver }
+    ensures plain { ArePlain subject.now progress.old.solver.steps → ArePlain subject.now progress.new.solver.steps }
     ensures units { counted_steps progress.new.solver.steps ≡ counted_steps progress.old.solver.steps }
 {
     for place in 0..lists.len() {
@@ -99,6 +101,7 @@ fn bring_list(
     requires list { IsListOf subject.now.spec.relations list }
     ensures held { IsHeld subject.now progress.new.solver progress.new.brought.items }
     ensures added { HasAdded progress.old.solver progress.new.solver }
+    ensures plain { ArePlain subject.now progress.old.solver.steps → ArePlain subject.now progress.new.solver.steps }
     ensures units { counted_steps progress.new.solver.steps ≡ counted_steps progress.old.solver.steps }
 {
     let rows = subject.rows(list);

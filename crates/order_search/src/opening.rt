@@ -1,7 +1,7 @@
 ghost use Rattle.std.specs.Prelude.{◌≡◌, IfOk, false, length, replicate};
 ghost use Rattle.refutation_log.specs.Counted.{counted_steps};
 ghost use Rattle.search_logs.specs.SearchLogs.{IsPosed, IsWithin};
-ghost use Rattle.order_search.specs.Kept.{IsHeld, vars_of};
+ghost use Rattle.order_search.specs.Kept.{ArePlain, IsHeld, vars_of};
 
 use crate::progress::Progress;
 use crate::subject::Subject;
@@ -23,6 +23,7 @@ pub(crate) fn begun(
     requires many { subject.now.wanted.answers ≡ length answers }
     ensures answers { IfOk result (λ p. p.solver.frame.answers ≡ answers) }
     ensures held { IfOk result (λ p. IsHeld subject.now p.solver p.brought.items) }
+    ensures plain { IfOk result (λ p. ArePlain subject.now p.solver.steps) }
     ensures uncounted { IfOk result (λ p. counted_steps p.solver.steps ≡ 0) }
 {
     let mut solver = match solver_of(subject, alloc, answers) {
@@ -46,6 +47,7 @@ fn solver_of(subject: &Subject<'_>, alloc: Global, answers: TupleList) -> Result
     requires many { subject.now.wanted.answers ≡ length answers }
     ensures answers { IfOk result (λ s. s.frame.answers ≡ answers) }
     ensures held { IfOk result (λ s. IsHeld subject.now s (replicate (length (vars_of subject.now)) false)) }
+    ensures plain { IfOk result (λ s. ArePlain subject.now s.steps) }
     ensures uncounted { IfOk result (λ s. counted_steps s.steps ≡ 0) }
 {
     one_literal();

@@ -1,9 +1,10 @@
-ghost use Rattle.std.specs.Prelude.{◌≡◌, ◌+◌, ◌<◌, ℕ, length, IfOk, IfSome, IfNone};
+ghost use Rattle.std.specs.Prelude.{◌≡◌, ◌+◌, ◌<◌, ℕ, length, IfOk, IfSome, IfNone, OnOk};
 ghost use Rattle.currency_base.specs.Literals.{var_of};
 ghost use Rattle.refutation_log.specs.Counted.{counted_steps};
 ghost use Rattle.order_adequacy.specs.Laws.{IsModelOf};
-ghost use Rattle.order_search.specs.Kept.{AreTrue, HasAdded, IsHeld, search_of, unmarked, vars_of};
+ghost use Rattle.order_search.specs.Kept.{ArePlain, AreTrue, HasAdded, IsHeld, search_of, unmarked, vars_of};
 ghost use Rattle.order_search.specs.Searches.{Tells};
+ghost use Rattle.search_trail.specs.Trails.{whole_scope};
 ghost use Rattle.watch_solver.specs.Decided.{IsModelOn};
 
 use crate::Outcome;
@@ -19,7 +20,7 @@ use spec_model::Completion;
 use std::alloc::Global;
 use watch_solver::{Budget, Found, counted_stay_new, whole_scope_gives_models};
 
-/// Decides, by one round after another, until there is an answer.
+/// Decides over all variables.
 pub(crate) fn decided(
     subject: &Subject<'_>,
     progress: &mut Progress,
@@ -32,6 +33,31 @@ pub(crate) fn decided(
     requires goal { IfSome goal (λ lit. var_of lit < length (vars_of subject.now)) }
     ensures held { IsHeld subject.now progress.new.solver progress.new.brought.items }
     ensures added { HasAdded progress.old.solver progress.new.solver }
+    ensures plain { ArePlain subject.now progress.old.solver.steps → ArePlain subject.now progress.new.solver.steps }
+    ensures units { counted_steps progress.new.solver.steps + budget.new ≡ counted_steps progress.old.solver.steps + budget.old }
+    ensures found { IfOk result (Tells (search_of subject.now progress.new.solver) goal budget.new) }
+{
+    match widen(subject, progress, alloc, guides) {
+        Ok(()) => decided_on_all(subject, progress, alloc, goal, budget, guides),
+        Err(error) => Err(error),
+    }
+}
+
+// The same, where all variables are of the scope: by one round after another, until there is an answer.
+fn decided_on_all(
+    subject: &Subject<'_>,
+    progress: &mut Progress,
+    alloc: Global,
+    goal: Option<Lit>,
+    budget: &mut Budget,
+    guides: &mut Guides,
+) -> Result<Outcome, NoMemory>
+    requires held { IsHeld subject.now progress.old.solver progress.old.brought.items }
+    requires scope { progress.old.solver.trail.scope ≡ whole_scope (length (vars_of subject.now)) }
+    requires goal { IfSome goal (λ lit. var_of lit < length (vars_of subject.now)) }
+    ensures held { IsHeld subject.now progress.new.solver progress.new.brought.items }
+    ensures added { HasAdded progress.old.solver progress.new.solver }
+    ensures plain { ArePlain subject.now progress.old.solver.steps → ArePlain subject.now progress.new.solver.steps }
     ensures units { counted_steps progress.new.solver.steps + budget.new ≡ counted_steps progress.old.solver.steps + budget.old }
     ensures found { IfOk result (Tells (search_of subject.now progress.new.solver) goal budget.new) }
 {
@@ -44,6 +70,43 @@ pub(crate) fn decided(
     }
 }
 
+// Takes all variables for the scope, unless it has them.
+fn widen(
+    subject: &Subject<'_>,
+    progress: &mut Progress,
+    alloc: Global,
+    guides: &mut Guides,
+) -> Result<(), NoMemory>
+    requires { IsHeld subject.now progress.old.solver progress.old.brought.items }
+    ensures held { IsHeld subject.now progress.new.solver progress.new.brought.items }
+    ensures frame { progress.new.solver.frame ≡ progress.old.solver.frame }
+    ensures steps { progress.new.solver.steps ≡ progress.old.solver.steps }
+    ensures scope { OnOk result (progress.new.solver.trail.scope ≡ whole_scope (length (vars_of subject.now))) }
+{
+    progress.solver.is_solver();
+    let values = progress.solver.trail().values();
+    if values.scope().len() == values.len() as usize {
+        return Ok(());
+    }
+    match all_vars(alloc, subject.vars()) {
+        Ok(vars) => progress.solver.focus(alloc, vars.as_slice(), guides),
+        Err(error) => Err(error),
+    }
+}
+
+// So many variables.
+fn all_vars(alloc: Global, count: u32) -> Result<Vec<u32>, NoMemory>
+    ensures { IfOk result (λ vars. vars.items ≡ whole_scope count) }
+{
+    let mut vars = Vec::new(alloc);
+    for var in 0..count {
+        let Ok(()) = vars.push(var) else {
+            return Err(NoMemory);
+        };
+    }
+    Ok(vars)
+}
+
 // What the solver decides; a model that is no completion has a list that goes round, and this is brought in.
 fn round(
     subject: &Subject<'_>,
@@ -54,9 +117,12 @@ fn round(
     guides: &mut Guides,
 ) -> Result<Option<Outcome>, NoMemory>
     requires held { IsHeld subject.now progress.old.solver progress.old.brought.items }
+    requires scope { progress.old.solver.trail.scope ≡ whole_scope (length (vars_of subject.now)) }
     requires goal { IfSome goal (λ lit. var_of lit < length (vars_of subject.now)) }
     ensures held { IsHeld subject.now progress.new.solver progress.new.brought.items }
+    ensures scope { progress.new.solver.trail.scope ≡ progress.old.solver.trail.scope }
     ensures added { HasAdded progress.old.solver progress.new.solver }
+    ensures plain { ArePlain subject.now progress.old.solver.steps → ArePlain subject.now progress.new.solver.steps }
     ensures units { counted_steps progress.new.solver.steps + budget.new ≡ counted_steps progress.old.solver.steps + budget.old }
     ensures some { IfOk result (λ outcome. IfSome outcome (Tells (search_of subject.now progress.new.solver) goal budget.new)) }
     ensures none { IfOk result (λ outcome. IfNone outcome
@@ -85,9 +151,12 @@ fn modelled(
     guides: &mut Guides,
 ) -> Result<Option<Outcome>, NoMemory>
     requires held { IsHeld subject.now progress.old.solver progress.old.brought.items }
+    requires scope { progress.old.solver.trail.scope ≡ whole_scope (length (vars_of subject.now)) }
     requires model { IsModelOn progress.old.solver.steps goal progress.old.solver.trail }
     ensures held { IsHeld subject.now progress.new.solver progress.new.brought.items }
+    ensures scope { progress.new.solver.trail.scope ≡ progress.old.solver.trail.scope }
     ensures added { HasAdded progress.old.solver progress.new.solver }
+    ensures plain { ArePlain subject.now progress.old.solver.steps → ArePlain subject.now progress.new.solver.steps }
     ensures units { counted_steps progress.new.solver.steps ≡ counted_steps progress.old.solver.steps }
     ensures some { (left : ℕ) → IfOk result (λ outcome. IfSome outcome (Tells (search_of subject.now
         progress.new.solver) goal left)) }
@@ -120,7 +189,9 @@ fn completed(
     requires whole { length truths.now ≡ length (vars_of subject.now) }
     requires holds { AreTrue truths.now progress.old.solver.steps }
     ensures held { IsHeld subject.now progress.new.solver progress.new.brought.items }
+    ensures scope { progress.new.solver.trail.scope ≡ progress.old.solver.trail.scope }
     ensures added { HasAdded progress.old.solver progress.new.solver }
+    ensures plain { ArePlain subject.now progress.old.solver.steps → ArePlain subject.now progress.new.solver.steps }
     ensures units { counted_steps progress.new.solver.steps ≡ counted_steps progress.old.solver.steps }
     ensures some { IfOk result (λ completion. IfSome completion (IsModelOf subject.now.spec subject.now.wanted truths.now)) }
     ensures kept { IfOk result (λ completion. IfSome completion (λ c. progress.new.solver.steps ≡ progress.old.solver.steps)) }

@@ -10,11 +10,12 @@ ghost use Rattle.order_literals.specs.Said.{Says, before, last};
 ghost use Rattle.spec_model.specs.declared.relation.Relation.{Relation};
 ghost use Rattle.value_names.specs.Names.{name_of};
 
+use crate::finding::found;
 use crate::linked::bring_linked;
 use crate::matching::{add_match, demand_match};
 use crate::opening::{begun, guess};
+use crate::parting::{Parting, none_done};
 use crate::progress::Progress;
-use crate::rounds::decided;
 use crate::subject::Subject;
 use crate::{Outcome, When};
 use currency_base::{Assignment, AttrId, Lit, NoMemory, RelId, RowId, TupleList};
@@ -35,20 +36,27 @@ pub struct Search<'a> {
     progress: Progress,
     // which lists were brought in for a goal
     links: Links<'a>,
+    parting: Parting,
+    // the axiom of a match was put after the steps, or there was no memory for it
+    is_matched: bool,
     // a call was refused memory
     failed: bool,
 }
 
 impl<'a> Model for Search<'a> {
-    ghost use Rattle.std.specs.Prelude.{◌≡◌};
-    ghost use Rattle.order_search.specs.Kept.{IsHeld, search_of};
+    ghost use Rattle.std.specs.Prelude.{◌≡◌, false};
+    ghost use Rattle.order_search.specs.Kept.{ArePlain, IsHeld, search_of};
+    ghost use Rattle.order_search.specs.Parts.{IsParting};
     ghost use Rattle.order_search.specs.Searches.{Search as Searches};
 
     ghost Value = { Searches };
 
     ghost view = { λ s. search_of s.subject s.progress.solver };
 
-    ghost invariant = { λ s. IsHeld s.subject s.progress.solver s.progress.brought.items × (s.links ≡ s.subject.spec.relations) };
+    ghost invariant = { λ s. IsHeld s.subject s.progress.solver s.progress.brought.items
+        × (s.links ≡ s.subject.spec.relations)
+        × IsParting s.subject s.parting.parts s.parting.known
+        × (s.is_matched ≡ false → ArePlain s.subject s.progress.solver.steps) };
 }
 
 impl<'a> Search<'a> {
@@ -82,11 +90,17 @@ impl<'a> Search<'a> {
             Ok(links) => links,
             Err(error) => return Err(error),
         };
+        let parting = match none_done(&subject, alloc) {
+            Ok(parting) => parting,
+            Err(error) => return Err(error),
+        };
         match begun(&subject, alloc, answers, guides) {
             Ok(progress) => Ok(Search {
                 subject,
                 progress,
                 links,
+                parting,
+                is_matched: false,
                 failed: false,
             }),
             Err(error) => Err(error),
@@ -115,7 +129,9 @@ impl<'a> Search<'a> {
     }
 
     /// Decides whether the goal is true in every consistent completion, or, where there is none, whether there is a
-    /// consistent completion. Each list that goes round in a model has all its axioms on three rows brought in, and
+    /// consistent completion. Where no axiom of a match is among the steps it goes part by part: the part of the goal, and
+    /// those for which no model is known yet, or, where there is no goal, each anew; so a goal costs what its part costs, and
+    /// the copy of the model. Else, and where the goal is on an answer, it goes over all variables. Each list that goes round in a model has all its axioms on three rows brought in, and
     /// the search goes on; so a list is brought in at most once. Each clause that is learned takes a unit of the
     /// budget; axioms take none. After want of memory every later call answers it.
     pub fn decide(
@@ -133,9 +149,11 @@ impl<'a> Search<'a> {
         if self.failed {
             return Err(NoMemory);
         }
-        let outcome = decided(
+        let outcome = found(
             &self.subject,
             &mut self.progress,
+            &mut self.parting,
+            self.is_matched,
             alloc,
             goal,
             budget,
@@ -193,6 +211,7 @@ impl<'a> Search<'a> {
         if self.failed {
             return Err(NoMemory);
         }
+        self.is_matched = true;
         let outcome = add_match(
             &self.subject,
             &mut self.progress,
@@ -229,6 +248,7 @@ impl<'a> Search<'a> {
         if self.failed {
             return Err(NoMemory);
         }
+        self.is_matched = true;
         let outcome = demand_match(
             &self.subject,
             &mut self.progress,

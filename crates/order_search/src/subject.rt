@@ -1,5 +1,7 @@
-ghost use Rattle.std.specs.Prelude.{◌≡◌, ◌<◌, ◌≤◌, ◌^◌, length, option_map, take, Some, slice_get, IfOk};
+ghost use Rattle.std.specs.Prelude.{◌≡◌, ◌<◌, ◌≤◌, ◌^◌, length, option_map, take, Contains, Some, slice_get, IfOk, IfSome};
+ghost use Rattle.entity_ties.specs.Parts.{list_at};
 ghost use Rattle.match_clauses.specs.Clauses.{SaysAnswer};
+ghost use Rattle.spec_model.specs.Completion.{HasShape};
 ghost use Rattle.spec_model.specs.declared.relation.Relation.{Relation};
 ghost use Rattle.order_literals.specs.Numbers.{IsPairOf, numbers_of};
 ghost use Rattle.order_literals.specs.Said.{Says, before, last};
@@ -12,10 +14,15 @@ ghost use Rattle.completion_build.specs.Ranked.{IsBuilt};
 ghost use Rattle.order_start.specs.Guess.{IsGuess};
 ghost use Rattle.search_logs.specs.SearchLogs.{IsWithin};
 ghost use Rattle.order_search.specs.Kept.{AreLitsFor, AreRowsOf, IsMatchFor, vars_of};
+ghost use Rattle.order_search.specs.Parts.{AreParts, IsRowIn, parted_of};
 ghost use Rattle.order_search.specs.Searches.{IsWantedRow};
+ghost use Rattle.variable_parts.specs.Parts.{label_at, row_cell};
 
 use completion_build::{Built, rank};
+use completion_fill::fill;
 use currency_base::{Assignment, AttrId, EntId, Lit, LitList, NoMemory, RelId, RowId, TupleList};
+use entity_ties::Ties;
+use known_models::PartedSpec;
 use match_clauses::{answer_lit, match_lits};
 use order_clauses::{clauses, transitive};
 use order_limits::number;
@@ -23,11 +30,12 @@ use order_links::ListId;
 use order_literals::{Numbering, Wanted};
 use order_start::start;
 use query_model::{Match, Query};
-use refutation_log::{Log, StatementList, Steps};
+use refutation_log::{Log, Statement, StatementList, Steps};
 use search_trail::Values;
 use spec_model::{Completion, Relation, Specification};
 use std::alloc::Global;
 use std::marker::Model;
+use variable_parts::VariableParts;
 
 /// A specification, the query that is posed of it, if one is, and the numbers of the statements on it. Contracts see these two
 /// and what is wanted.
@@ -83,6 +91,68 @@ impl<'a> Subject<'a> {
         ensures few { result < 2 ^ 31 }
     {
         self.numbering.vars()
+    }
+
+    /// The smallest closed parts, and the variables of each.
+    pub(crate) fn parts(&self, alloc: Global) -> Result<VariableParts, NoMemory>
+        ensures { IfOk result (AreParts self.now) }
+    {
+        let ties = match Ties::new(alloc, self.spec) {
+            Ok(ties) => ties,
+            Err(error) => return Err(error),
+        };
+        VariableParts::new(alloc, self.spec, &self.numbering, &self.wanted, ties)
+    }
+
+    /// What is numbered, with its parts.
+    pub(crate) fn parted<'b>(&'b self, parts: &'b VariableParts) -> PartedSpec<'b>
+        requires { AreParts self.now parts.now }
+        ensures { result ≡ parted_of self.now parts.now }
+    {
+        PartedSpec::new(self.spec, &self.wanted, &self.numbering, parts)
+    }
+
+    /// The part of a variable, unless its statement is on an answer. Takes logarithmic time and no memory.
+    pub(crate) fn part_of(&self, parts: &VariableParts, var: u32) -> Option<u32>
+        requires within { var < length (vars_of self.now) }
+        requires parts { AreParts self.now parts.now }
+        ensures { IfSome result (λ part. Contains (list_at parts.now.parts part) var) }
+    {
+        match self.numbering.meaning_of(var) {
+            Statement::Before { rel, earlier, .. } => Some(self.part_of_row(parts, rel, earlier)),
+            Statement::Top { rel, row, .. } => Some(self.part_of_row(parts, rel, row)),
+            Statement::Last { rel, row, .. } => Some(self.part_of_row(parts, rel, row)),
+            Statement::Answer { .. } => None,
+        }
+    }
+
+    // The part of the entity of a row.
+    fn part_of_row(&self, parts: &VariableParts, rel: RelId, row: RowId) -> u32
+        requires row { IsRowIn self.now.spec rel row }
+        requires parts { AreParts self.now parts.now }
+        ensures { label_at parts.now.ties (row_cell self.now.spec.relations rel.0 row.0) ≡ Some result }
+    {
+        let relation = self.relation(rel);
+        parts.part_of(rel, relation.rows.get(row.0 as usize).entity)
+    }
+
+    /// A copy of a completion.
+    pub(crate) fn copied(
+        &self,
+        alloc: Global,
+        completion: &Completion,
+    ) -> Result<Completion, NoMemory>
+        requires { HasShape self.now.spec.relations completion.now }
+        ensures { IfOk result (λ c. c ≡ completion.now) }
+    {
+        let mut copy = match Completion::new(alloc, self.spec) {
+            Ok(copy) => copy,
+            Err(error) => return Err(error),
+        };
+        match fill(alloc, self.spec, completion, &mut copy) {
+            Ok(()) => Ok(copy),
+            Err(error) => Err(error),
+        }
     }
 
     /// A log of these answers with the axioms that are brought in from the start.

@@ -9,6 +9,8 @@ loop-place-preserved g c = record {
   added = added_then c.args.progress.now.solver c.loop-place.progress.solver c.bring_in.new.progress.solver
       c.loop-place.invariant.added
       c.bring_in.ensures.added;
+  scope = c.bring_in.ensures.scope ∙ c.loop-place.invariant.scope;
+  plain = λ h. c.bring_in.ensures.plain (c.loop-place.invariant.plain h);
   units = c.bring_in.ensures.units ∙ c.loop-place.invariant.units;
   so_far = in_more c.args.subject.now c.args.cycles.now c.loop-place.place c.get-cycle.result.now c.args.progress.now.solver.steps
       c.args.progress.now.brought.items c.loop-place.progress.solver.steps c.loop-place.progress.brought.items

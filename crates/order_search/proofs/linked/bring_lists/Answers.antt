@@ -8,5 +8,6 @@ loop-place-preserved g c = record {
   added = added_then c.args.progress.now.solver c.loop-place.progress.solver c.bring_list.new.progress.solver
       c.loop-place.invariant.added
       c.bring_list.ensures.added;
+  plain = λ h. c.bring_list.ensures.plain (c.loop-place.invariant.plain h);
   units = c.bring_list.ensures.units ∙ c.loop-place.invariant.units;
 }

@@ -15,7 +15,7 @@ returns-in-Ok-clause-held g c =
     let old = c.args.progress.now in
     held_matched c.laws_of_tuple_order.ensures.total c.args.subject.now old.solver old.brought.items c.requires.held
     c.args.completion.now c.args.m.now
-    c.args.answer c.requires.is_match c.put_match.new.solver false c.put_match.ensures.frame c.put_match.ensures.scope
+    c.args.answer c.requires.is_match c.put_match.new.solver false c.put_match.ensures.frame
     c.in-Ok.ensures.ok
     (λ counted. let no : ⊥ = cc in absurd no)
 
@@ -32,4 +32,4 @@ pub returns-in-Err-clause-held : goal.returns-in-Err-clause-held
 returns-in-Err-clause-held g c =
     let old = c.args.progress.now in
     held_same c.args.subject.now old.solver c.put_match.new.solver old.brought.items c.requires.held
-    c.put_match.ensures.frame c.put_match.ensures.scope c.in-Err.ensures.err
+    c.put_match.ensures.frame c.in-Err.ensures.err

@@ -19,7 +19,7 @@ returns-in-Ok-clause-held g c =
     let has = c.in-Ok.ensures.ok in
     held_matched c.laws_of_tuple_order.ensures.total c.args.subject.now old.solver old.brought.items c.requires.held
     c.args.completion.now m
-    c.args.answer c.requires.is_match c.put_match.new.solver true c.put_match.ensures.frame c.put_match.ensures.scope has
+    c.args.answer c.requires.is_match c.put_match.new.solver true c.put_match.ensures.frame has
     (λ counted. demanded_new c.one_literal.ensures.one c.args.subject.now old.solver old.brought.items
     c.requires.held c.args.completion.now m c.args.answer
     c.args.truths.now c.requires.counter has.lits has.are_lits asked (label.Match m.disjunct m.entities m.values))
@@ -38,4 +38,4 @@ pub returns-in-Err-clause-held : goal.returns-in-Err-clause-held
 returns-in-Err-clause-held g c =
     let old = c.args.progress.now in
     held_same c.args.subject.now old.solver c.put_match.new.solver old.brought.items c.requires.held
-    c.put_match.ensures.frame c.put_match.ensures.scope c.in-Err.ensures.err
+    c.put_match.ensures.frame c.in-Err.ensures.err

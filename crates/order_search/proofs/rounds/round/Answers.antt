@@ -1,4 +1,5 @@
-use Rattle.order_search.proofs.Growing.{held_grown}
+use Rattle.std.proofs.Common.{length}
+use Rattle.order_search.proofs.Growing.{held_grown, plain_grown}
 use Rattle.order_search.proofs.Models.{open_log}
 use Rattle.order_search.proofs.rounds.round.Goals as goal
 
@@ -6,7 +7,7 @@ pub modelled-requires-clause-held : goal.modelled-requires-clause-held
 modelled-requires-clause-held g c =
     held_grown c.args.subject.now c.args.progress.now.solver c.decide.new.self
     c.args.progress.now.brought.items c.requires.held
-    c.decide.ensures.frame c.decide.ensures.scope c.decide.ensures.grown
+    c.decide.ensures.frame c.decide.ensures.grown
 
 pub returns-in-Ok-Model-clause-some : goal.returns-in-Ok-Model-clause-some
 returns-in-Ok-Model-clause-some g c = c.modelled.ensures.some c.decide.new.budget
@@ -15,19 +16,19 @@ pub returns-in-Ok-Proved-clause-held : goal.returns-in-Ok-Proved-clause-held
 returns-in-Ok-Proved-clause-held g c =
     held_grown c.args.subject.now c.args.progress.now.solver c.decide.new.self
     c.args.progress.now.brought.items c.requires.held
-    c.decide.ensures.frame c.decide.ensures.scope c.decide.ensures.grown
+    c.decide.ensures.frame c.decide.ensures.grown
 
 pub returns-in-Ok-Empty-clause-held : goal.returns-in-Ok-Empty-clause-held
 returns-in-Ok-Empty-clause-held g c =
     held_grown c.args.subject.now c.args.progress.now.solver c.decide.new.self
     c.args.progress.now.brought.items c.requires.held
-    c.decide.ensures.frame c.decide.ensures.scope c.decide.ensures.grown
+    c.decide.ensures.frame c.decide.ensures.grown
 
 pub returns-in-Ok-Spent-clause-held : goal.returns-in-Ok-Spent-clause-held
 returns-in-Ok-Spent-clause-held g c =
     held_grown c.args.subject.now c.args.progress.now.solver c.decide.new.self
     c.args.progress.now.brought.items c.requires.held
-    c.decide.ensures.frame c.decide.ensures.scope c.decide.ensures.grown
+    c.decide.ensures.frame c.decide.ensures.grown
 
 pub returns-in-Ok-Spent-clause-some : goal.returns-in-Ok-Spent-clause-some
 returns-in-Ok-Spent-clause-some g c =
@@ -39,4 +40,24 @@ pub returns-in-Err-clause-held : goal.returns-in-Err-clause-held
 returns-in-Err-clause-held g c =
     held_grown c.args.subject.now c.args.progress.now.solver c.decide.new.self
     c.args.progress.now.brought.items c.requires.held
-    c.decide.ensures.frame c.decide.ensures.scope c.decide.ensures.grown
+    c.decide.ensures.frame c.decide.ensures.grown
+
+pub returns-in-Ok-Model-clause-plain : goal.returns-in-Ok-Model-clause-plain
+returns-in-Ok-Model-clause-plain g c = λ h. c.modelled.ensures.plain (plain_grown c.args.subject.now (length c.args.progress.now.solver.frame.statements)
+    c.args.progress.now.solver.steps c.decide.new.self.steps c.decide.ensures.grown h)
+
+pub returns-in-Ok-Proved-clause-plain : goal.returns-in-Ok-Proved-clause-plain
+returns-in-Ok-Proved-clause-plain g c = plain_grown c.args.subject.now (length c.args.progress.now.solver.frame.statements)
+    c.args.progress.now.solver.steps c.decide.new.self.steps c.decide.ensures.grown
+
+pub returns-in-Ok-Empty-clause-plain : goal.returns-in-Ok-Empty-clause-plain
+returns-in-Ok-Empty-clause-plain g c = plain_grown c.args.subject.now (length c.args.progress.now.solver.frame.statements)
+    c.args.progress.now.solver.steps c.decide.new.self.steps c.decide.ensures.grown
+
+pub returns-in-Ok-Spent-clause-plain : goal.returns-in-Ok-Spent-clause-plain
+returns-in-Ok-Spent-clause-plain g c = plain_grown c.args.subject.now (length c.args.progress.now.solver.frame.statements)
+    c.args.progress.now.solver.steps c.decide.new.self.steps c.decide.ensures.grown
+
+pub returns-in-Err-clause-plain : goal.returns-in-Err-clause-plain
+returns-in-Err-clause-plain g c = plain_grown c.args.subject.now (length c.args.progress.now.solver.frame.statements)
+    c.args.progress.now.solver.steps c.decide.new.self.steps c.decide.ensures.grown

@@ -1,0 +1,191 @@
+-- A part made anew: what is known of it and of the others, and what a decision tells in the end.
+use Rattle.std.proofs.Common.{◌≡◌, ◌⊎◌, ◌<◌, ◌≤◌, ◌+◌, ◌∙◌, ℕ, Bool, true, false, not, List, All, Contains, Option, Some, None, IfSome, IfNone, length, get_or, slice_get, slice_set, refl, sym, ap, subst, inl, inr, arith}
+use Rattle.std.proofs.lemmas.Bool.{cases_eq, cases_lt}
+use Rattle.std.proofs.lemmas.List.{get_or-set_other, get_or-set_same, length-set, same_lists}
+use Rattle.std.proofs.lemmas.Option.{IfSome_then, get_or_from_slice_get, none-some, same_Some, slice_get-get_or, slice_get_within}
+use Rattle.currency_base.specs.Literals.{is_negative, negation, var_of}
+use Rattle.currency_base.specs.declared.lit.Lit.{Lit}
+use Rattle.order_literals.proofs.Sayings.{negation_sign, negation_var, not_not}
+use Rattle.entity_ties.specs.Parts.{list_at}
+use Rattle.variable_parts.specs.Laws.{PartsAreDisjoint}
+use Rattle.variable_parts.specs.Parts.{Parted}
+use Rattle.search_trail.specs.Trails.{lits_of, values_of}
+use Rattle.watch_solver.specs.Decided.{Solver}
+use Rattle.known_models.specs.Changes.{IsReplaced}
+use Rattle.known_models.specs.Known.{IsWhole, KnownModel, PartedSpec, vars_in}
+use Rattle.order_search.specs.Kept.{vars_of}
+use Rattle.order_search.specs.Parts.{AreParts, Ends, IsFalseIn, IsMade, IsParting, parted_of}
+use Rattle.order_search.specs.Searches.{Search, Subject, Tells}
+use Rattle.order_search.specs.declared.outcome.Outcome.{Outcome}
+use Rattle.order_search.specs.declared.outcome.Outcome.TheVariants.{Model, Proved, Empty, Spent}
+use Rattle.order_search.proofs.PartValues.{IsOnPart, true_value}
+
+-- ---- which parts are done
+
+done_here : (done : List Bool) (part : ℕ) → part < length done → slice_get (slice_set done part true) part ≡ Some true
+done_here done part within =
+    slice_get-get_or (slice_set done part true) part true (omega (arith, within, length-set done part true))
+    ∙ ap Some (get_or-set_same done part true true within)
+
+done_other : (done : List Bool) (part other : ℕ) → slice_get done other ≡ Some true
+    → slice_get (slice_set done part true) other ≡ Some true
+done_other done part other is = by (cases_eq other part)
+  where
+    within : other < length done
+    within = slice_get_within done other true is
+
+    by : (other ≡ part) ⊎ (other ≡ part → ⊥) → slice_get (slice_set done part true) other ≡ Some true
+    by (inl e) =
+        subst (λ (n : ℕ). slice_get (slice_set done part true) n ≡ Some true) (sym e)
+        (done_here done part (omega (arith, within, e)))
+    by (inr d) =
+        slice_get-get_or (slice_set done part true) other true (omega (arith, within, length-set done part true))
+        ∙ ap Some (get_or-set_other done part other true true d ∙ get_or_from_slice_get done other true true is)
+
+-- ---- a part is made anew
+
+pub made_of : (s : Subject) (p : Parted) (solver : Solver) (goal : Option Lit) (part : ℕ) → IsOnPart s p solver goal part
+    → part < length p.parts → IfSome goal (λ lit. Contains (list_at p.parts part) (var_of lit)) → (old new : KnownModel)
+    → IsParting s p old → IsReplaced (parted_of s p) (values_of solver.trail).given part old new
+    → IsMade (parted_of s p) part goal old new
+made_of s p solver goal part is within of_goal old new parting replaced = record {
+  known = replaced.known;
+  done = replaced.done;
+  others = replaced.truths.kept;
+  goal_false = λ lit e. false_lit lit e;
+}
+  where
+    false_lit : (lit : Lit) → goal ≡ Some lit → IsFalseIn (parted_of s p) new (Some part) lit
+    false_lit lit e =
+        let in_part : Contains (list_at p.parts part) (var_of lit) =
+        (subst (λ (g : Option Lit). IfSome g (λ l. Contains (list_at p.parts part) (var_of l))) e of_goal) in
+        let told = subst (λ (g : Option Lit). IfSome g (λ l. Contains (lits_of solver.trail) (negation l))) e is.on.goal_false in
+        let value = true_value solver.trail is.entries (negation lit) told in
+        let same : slice_get (values_of solver.trail).given (var_of lit) ≡ Some (Some (is_negative lit)) =
+        ap (slice_get (values_of solver.trail).given) (sym (negation_var lit)) ∙ value
+        ∙ ap (λ (b : Bool). Some (Some b)) (ap not (negation_sign lit) ∙ not_not (is_negative lit)) in
+        record {
+          part = part;
+          is_own = refl;
+          of_part = in_part;
+          is_false = replaced.truths.taken (var_of lit) (is_negative lit) in_part same;
+        }
+
+pub made_parting : (s : Subject) (p : Parted) (part : ℕ) (goal : Option Lit) (old new : KnownModel) → IsParting s p old
+    → IsMade (parted_of s p) part goal old new → IsParting s p new
+made_parting s p part goal old new parting made = record { parts = parting.parts; few = parting.few; known = made.known }
+
+pub made_done : (s : Subject) (p : Parted) (part : ℕ) (goal : Option Lit) (old new : KnownModel) → IsParting s p old
+    → part < length p.parts → IsMade (parted_of s p) part goal old new → slice_get new.done part ≡ Some true
+made_done s p part goal old new parting within made =
+    ap (λ (ds : List Bool). slice_get ds part) made.done
+    ∙ done_here old.done part (omega (arith, within, parting.known.per_part))
+
+pub made_kept : (p : PartedSpec) (part : ℕ) (goal : Option Lit) (old new : KnownModel) → IsMade p part goal old new
+    → (other : ℕ) → slice_get old.done other ≡ Some true → slice_get new.done other ≡ Some true
+made_kept p part goal old new made other is =
+    ap (λ (ds : List Bool). slice_get ds other) made.done ∙ done_other old.done part other is
+
+-- a goal that is false in its part stays so where another part is made anew
+false_kept : PartsAreDisjoint → (s : Subject) (p : Parted) (part : ℕ) (own : Option ℕ) (old new : KnownModel)
+    → IsParting s p old → IsMade (parted_of s p) part None old new → (own ≡ Some part → ⊥) → (lit : Lit)
+    → IsFalseIn (parted_of s p) old own lit → IsFalseIn (parted_of s p) new own lit
+false_kept law s p part own old new parting made differ lit f = record {
+  part = f.part;
+  is_own = f.is_own;
+  of_part = f.of_part;
+  is_false = made.others (var_of lit) apart ∙ f.is_false;
+}
+  where
+    apart : Contains (list_at p.parts part) (var_of lit) → ⊥
+    apart here =
+        differ (f.is_own ∙ ap Some (law s.spec (vars_of s) p.ties p.parts f.part part (var_of lit) parting.parts.parts
+        f.of_part here))
+
+pub goal_kept : PartsAreDisjoint → (s : Subject) (p : Parted) (part : ℕ) (own : Option ℕ) (goal : Option Lit)
+    → (old new : KnownModel) → IsParting s p old → IsMade (parted_of s p) part None old new → (own ≡ Some part → ⊥)
+    → IfSome goal (IsFalseIn (parted_of s p) old own) → IfSome goal (IsFalseIn (parted_of s p) new own)
+goal_kept law s p part own goal old new parting made differ false_before =
+    IfSome_then goal false_before (λ lit f. false_kept law s p part own old new parting made differ lit f)
+
+-- ---- all parts
+
+pub all_done : (s : Subject) (p : Parted) (k : KnownModel) (count : ℕ) → IsParting s p k → length p.parts ≤ count
+    → ((other : ℕ) → other < count → slice_get k.done other ≡ Some true) → IsWhole k
+all_done s p k count parting past each =
+    λ at d within.
+    let h = each at (omega (arith, within, past, parting.known.per_part)) in
+    get_or_from_slice_get k.done at true d h
+
+pub done_more : (done : List Bool) (count : ℕ) → ((other : ℕ) → other < count → slice_get done other ≡ Some true)
+    → slice_get done count ≡ Some true → (other : ℕ) → other < count + 1 → slice_get done other ≡ Some true
+done_more done count each here other below = by (cases_eq other count)
+  where
+    by : (other ≡ count) ⊎ (other ≡ count → ⊥) → slice_get done other ≡ Some true
+    by (inl e) = ap (slice_get done) e ∙ here
+    by (inr d) = each other (below_of (cases_lt other count))
+      where
+        below_of : (other < count) ⊎ (count ≤ other) → other < count
+        below_of (inl h) = h
+        below_of (inr h) = let same : other ≡ count = omega (arith, h, below) in absurd (d same)
+
+-- ---- a copy of truths, one after another
+
+pub copy_none : (truths copy : List Bool) → (var : ℕ) → var < 0 → slice_get copy var ≡ slice_get truths var
+copy_none truths copy var below = absurd (omega (arith, below))
+
+pub copy_more : (truths copy : List Bool) (count : ℕ) (truth : Bool) → length copy ≡ length truths
+    → slice_get truths count ≡ Some truth
+    → ((var : ℕ) → var < count → slice_get copy var ≡ slice_get truths var)
+    → (var : ℕ) → var < count + 1 → slice_get (slice_set copy count truth) var ≡ slice_get truths var
+copy_more truths copy count truth many at same var below = by (cases_eq var count)
+  where
+    within : count < length copy
+    within = let h = slice_get_within truths count truth at in omega (arith, h, many)
+
+    by : (var ≡ count) ⊎ (var ≡ count → ⊥) → slice_get (slice_set copy count truth) var ≡ slice_get truths var
+    by (inl e) =
+        subst (λ (n : ℕ). slice_get (slice_set copy count truth) n ≡ slice_get truths n) (sym e)
+        (slice_get-get_or (slice_set copy count truth) count truth (omega (arith, within, length-set copy count truth))
+        ∙ ap Some (get_or-set_same copy count truth truth within) ∙ sym at)
+    by (inr d) =
+        slice_get-get_or (slice_set copy count truth) var truth (omega (arith, within, below, length-set copy count truth))
+        ∙ ap Some (get_or-set_other copy count var truth truth d)
+        ∙ sym (slice_get-get_or copy var truth (omega (arith, within, below)))
+        ∙ same var (omega (arith, below, ne_below d))
+      where
+        ne_below : (var ≡ count → ⊥) → var < count
+        ne_below differ = lower (cases_lt var count)
+          where
+            lower : (var < count) ⊎ (count ≤ var) → var < count
+            lower (inl h) = h
+            lower (inr h) = let e : var ≡ count = omega (arith, h, below) in absurd (differ e)
+
+pub copy_all : (truths copy : List Bool) (count : ℕ) → length copy ≡ length truths → length truths ≤ count
+    → ((var : ℕ) → var < count → slice_get copy var ≡ slice_get truths var) → copy ≡ truths
+copy_all truths copy count many past same =
+    same_lists copy truths many
+    (λ var d within.
+    sym (get_or_from_slice_get truths var (get_or copy var d) d
+    (sym (same var (omega (arith, within, many, past))) ∙ slice_get-get_or copy var d within)))
+
+-- ---- what a decision tells where it ends with no model
+
+pub ends_tell : (s : Search) (goal : Option Lit) (left : ℕ) (outcome : Outcome) → Ends s goal left outcome
+    → Tells s goal left outcome
+ends_tell s goal left (Model truths c) ends = absurd ends
+ends_tell s goal left (Proved place) ends = ends
+ends_tell s goal left (Empty place) ends = ends
+ends_tell s goal left Spent ends = ends
+
+pub ends_none : (s : Search) (goal : Option Lit) (left : ℕ) (outcome : Outcome) → Ends s None left outcome
+    → Ends s goal left outcome
+ends_none s goal left (Model truths c) ends = ends
+ends_none s goal left (Proved place) ends = absurd (none-some ends.0 (ends.1))
+ends_none s goal left (Empty place) ends = ends
+ends_none s goal left Spent ends = ends
+
+-- the same of an answer that may be none
+pub ended_tell : (s : Search) (goal : Option Lit) (left : ℕ) (ended : Option Outcome) → IfSome ended (Ends s None left)
+    → IfSome ended (Ends s goal left)
+ended_tell s goal left ended ends = IfSome_then ended ends (λ o e. ends_none s goal left o e)

@@ -1,0 +1,152 @@
+-- The variables of a part as a scope, all variables as one, and the part of a variable.
+use Rattle.std.proofs.Common.{◌≡◌, ◌<◌, ◌≤◌, ◌+◌, ◌-◌, ◌∙◌, ℕ, zero, suc, List, [], Contains, Some, get_or, length, slice_get, sym, ap, subst, arith}
+use Rattle.std.specs.List.Sorted.{IsStrictlyIncreasing}
+use Rattle.std.proofs.lemmas.List.{same_lists}
+use Rattle.std.proofs.lemmas.List.FromFn.{get_or-range_with_len, length-range_with_len}
+use Rattle.std.proofs.lemmas.Option.{get_or_from_slice_get, slice_get-get_or, slice_get_within}
+use Rattle.currency_base.specs.declared.ids.AttrId.{AttrId}
+use Rattle.currency_base.specs.declared.ids.RelId.{RelId}
+use Rattle.currency_base.specs.declared.ids.RowId.{RowId}
+use Rattle.spec_model.specs.Spec.{Spec}
+use Rattle.refutation_log.specs.declared.statement.Statement.{Statement}
+use Rattle.refutation_log.specs.declared.statement.Statement.TheVariants as says
+use Rattle.order_literals.specs.declared.wanted.Wanted.{Wanted}
+use Rattle.search_logs.specs.SearchLogs.{variables}
+use Rattle.entity_ties.specs.Parts.{list_at}
+use Rattle.entity_ties.specs.Tied.{Cell}
+use Rattle.variable_parts.specs.Parts.{Parted, part_of, row_cell}
+use Rattle.variable_parts.proofs.Cells.{of_row_cell, row_at}
+use Rattle.variable_parts.proofs.Numbered.{statement_cell}
+use Rattle.variable_parts.proofs.Staying.{in_list, list_there}
+use Rattle.search_trail.specs.Trails.{Ascend, IsScope, whole_scope}
+use Rattle.watch_propagate.proofs.KeptLists.{contains_at}
+use Rattle.order_search.specs.Kept.{vars_of}
+use Rattle.order_search.specs.Parts.{AreParts, IsRowIn}
+use Rattle.order_search.specs.Searches.{Subject}
+
+-- ---- the scope of a part
+
+-- of numbers each below the next, an earlier one is below a later one
+increasing : (xs : List ℕ) → IsStrictlyIncreasing xs → (i n : ℕ) → i + n + 1 < length xs → get_or xs i 0 < get_or xs (i + n + 1) 0
+increasing xs up i zero within =
+    let same : i + 1 ≡ i + 0 + 1 = omega arith in
+    subst (λ (k : ℕ). get_or xs i 0 < get_or xs k 0) same (up i (omega (arith, within)))
+increasing xs up i (suc n) within =
+    let front = increasing xs up i n (omega (arith, within)) in
+    let step = up (i + n + 1) (omega (arith, within)) in
+    let same : i + n + 1 + 1 ≡ i + suc n + 1 = omega arith in
+    let last : get_or xs (i + n + 1) 0 < get_or xs (i + suc n + 1) 0 =
+    subst (λ (k : ℕ). get_or xs (i + n + 1) 0 < get_or xs k 0) same step in
+    omega (arith, front, last)
+
+ascends_by : (xs : List ℕ) → IsStrictlyIncreasing xs → (i j gap low high : ℕ) → i + gap + 1 ≡ j
+    → slice_get xs i ≡ Some low → slice_get xs j ≡ Some high → low < high
+ascends_by xs up i j gap low high same at_i at_j =
+    let within = slice_get_within xs j high at_j in
+    let one : get_or xs i 0 < get_or xs j 0 =
+    subst (λ (k : ℕ). get_or xs i 0 < get_or xs k 0) same (increasing xs up i gap (omega (arith, within, same))) in
+    omega (arith, one, get_or_from_slice_get xs i low 0 at_i, get_or_from_slice_get xs j high 0 at_j)
+
+pub ascends : (xs : List ℕ) → IsStrictlyIncreasing xs → Ascend xs
+ascends xs up i j low high less at_i at_j = ascends_by xs up i j (j - i - 1) low high (omega (arith, less)) at_i at_j
+
+pub part_scope : (s : Subject) (p : Parted) (part : ℕ) (vars : List ℕ) → AreParts s p → slice_get p.parts part ≡ Some vars
+    → IsScope (length (vars_of s)) vars
+part_scope s p part vars are at =
+    let these = are.parts.each part vars at in
+    record {
+      ascend = ascends vars these.ascend;
+      within = λ i var is.
+          let of = ((these.are var).0 (contains_at vars i var is)) in
+          slice_get_within (vars_of s) var of.statement of.is_statement;
+    }
+
+-- the list of a part is read at its place
+pub list_is : (parts : List (List ℕ)) (part : ℕ) (vars : List ℕ) → slice_get parts part ≡ Some vars → vars ≡ list_at parts part
+list_is parts part vars at = sym (get_or_from_slice_get parts part vars [] at)
+
+-- where a variable stands in the list of a part, the part is there
+pub part_there : (parts : List (List ℕ)) (part var : ℕ) → Contains (list_at parts part) var → part < length parts
+part_there parts part var is_in = slice_get_within parts part (list_at parts part) (list_there parts part var is_in)
+
+-- ---- all variables
+
+module _ (n : ℕ) (xs : List ℕ) (is : IsScope n xs) (many : length xs ≡ n) where
+  there : (i : ℕ) → i < length xs → slice_get xs i ≡ Some (get_or xs i 0)
+  there i within = slice_get-get_or xs i 0 within
+
+  next : (i : ℕ) → i + 1 < length xs → get_or xs i 0 < get_or xs (i + 1) 0
+  next i within =
+      is.ascend i (i + 1) (get_or xs i 0) (get_or xs (i + 1) 0) (omega arith) (there i (omega (arith, within)))
+      (there (i + 1) within)
+
+  at_least : (i : ℕ) → i < length xs → i ≤ get_or xs i 0
+  at_least zero within = omega arith
+  at_least (suc i) within =
+      let before = at_least i (omega (arith, within)) in
+      let step = next i (omega (arith, within)) in
+      let same : i + 1 ≡ suc i = omega arith in
+      let here : get_or xs i 0 < get_or xs (suc i) 0 = subst (λ (k : ℕ). get_or xs i 0 < get_or xs k 0) same step in
+      omega (arith, before, here)
+
+  -- with so many behind it
+  at_most : (behind i : ℕ) → i + behind + 1 ≡ length xs → get_or xs i 0 + behind + 1 ≤ n
+  at_most zero i e =
+      let below = is.within i (get_or xs i 0) (there i (omega (arith, e))) in
+      omega (arith, below)
+  at_most (suc behind) i e =
+      let more = at_most behind (i + 1) (omega (arith, e)) in
+      let step = next i (omega (arith, e)) in
+      omega (arith, more, step)
+
+  each_is : (i : ℕ) → i < length xs → get_or xs i 0 ≡ i
+  each_is i within =
+      let low = at_least i within in
+      let high = at_most (length xs - i - 1) i (omega (arith, within)) in
+      omega (arith, low, high, many, within)
+
+  pub whole_is : xs ≡ whole_scope n
+  whole_is =
+      same_lists xs (whole_scope n) (many ∙ sym (length-range_with_len 0 n))
+      (λ i d within.
+      let read : get_or (whole_scope n) i d ≡ 0 + i = get_or-range_with_len 0 n i d (omega (arith, within, many)) in
+      let here = get_or_from_slice_get xs i (get_or xs i 0) d (there i within) in
+      let same = each_is i within in
+      omega (arith, read, here, same))
+
+-- ---- the part of a variable
+
+row_in : (s : Spec) (rel : RelId) (row : RowId) → (cell : (c : Cell) × (row_cell s.relations rel.0 row.0 ≡ Some c))
+    → IsRowIn s rel row
+row_in s rel row cell =
+    let of = of_row_cell s.relations rel.0 row.0 cell.0 cell.1 in
+    let x = row_at of.relation.rows row.0 of.ent of.of_row in
+    record {
+      relation = of.relation;
+      is_relation = of.is_relation;
+      within = slice_get_within of.relation.rows row.0 x.0 x.1;
+    }
+
+pub before_row : (s : Spec) (wanted : Wanted) (var : ℕ) (rel : RelId) (attr : AttrId) (earlier later : RowId)
+    → slice_get (variables s wanted) var ≡ Some (says.Before rel attr earlier later) → IsRowIn s rel earlier
+before_row s wanted var rel attr earlier later at =
+    row_in s rel earlier (statement_cell s.relations wanted var (says.Before rel attr earlier later) at
+    (λ tuple e. cc))
+
+pub top_row : (s : Spec) (wanted : Wanted) (var : ℕ) (rel : RelId) (attr : AttrId) (row : RowId)
+    → slice_get (variables s wanted) var ≡ Some (says.Top rel attr row) → IsRowIn s rel row
+top_row s wanted var rel attr row at =
+    row_in s rel row (statement_cell s.relations wanted var (says.Top rel attr row) at (λ tuple e. cc))
+
+pub last_row : (s : Spec) (wanted : Wanted) (var : ℕ) (rel : RelId) (attr : AttrId) (row : RowId)
+    → slice_get (variables s wanted) var ≡ Some (says.Last rel attr row) → IsRowIn s rel row
+last_row s wanted var rel attr row at =
+    row_in s rel row (statement_cell s.relations wanted var (says.Last rel attr row) at (λ tuple e. cc))
+
+-- a variable whose statement has a part stands in its list
+pub stands_in : (s : Subject) (p : Parted) (part var : ℕ) (statement : Statement) → AreParts s p
+    → slice_get (vars_of s) var ≡ Some statement → part_of p.ties s.spec.relations statement ≡ Some part
+    → Contains (list_at p.parts part) var
+stands_in s p part var statement are at of =
+    in_list s.spec (vars_of s) p.ties p.parts are.parts are.ties part var
+    (record { statement = statement; is_statement = at; of_part = of })

@@ -1,0 +1,163 @@
+-- A trail that is a model on the variables of a part: its values are a model of the part.
+use Rattle.std.proofs.Common.{◌≡◌, ◌⊎◌, ◌<◌, ◌∙◌, ℕ, Bool, true, false, not, List, ◌++◌, All, Contains, Option, Some, None, length, map, slice_get, slice_index_or, refl, sym, ap, subst, inl, inr, arith}
+use Rattle.std.proofs.lemmas.List.{map-append}
+use Rattle.std.proofs.lemmas.List.Elements.{All-contains, All-contains_itself, All-map, All-weaker, Contains-append_left}
+use Rattle.std.proofs.lemmas.Option.{slice_get-get_or, slice_get_within}
+use Rattle.currency_base.specs.Literals.{is_negative, var_of}
+use Rattle.currency_base.specs.declared.lit.Lit.{Lit}
+use Rattle.refutation_log.specs.Counted.{IsAtRest}
+use Rattle.refutation_log.specs.Steps.{clause_of, clauses_of}
+use Rattle.refutation_log.specs.declared.statement.Statement.{Statement}
+use Rattle.refutation_log.specs.declared.step.Step.{Step}
+use Rattle.order_literals.specs.Said.{IsClauseTrue}
+use Rattle.entity_ties.specs.Parts.{list_at}
+use Rattle.variable_parts.specs.Parts.{Parted}
+use Rattle.variable_parts.proofs.Staying.{var_of_part}
+use Rattle.search_trail.specs.Trails.{AreEntries, Entry, HasNoFree, Trail, lits_of, value_in, values_of}
+use Rattle.search_trail.proofs.KnownValues.{as_many_values, is_value}
+use Rattle.search_state.specs.States.{IsFit}
+use Rattle.watch_propagate.proofs.KeptLists.{contains_at, stands_at}
+use Rattle.watch_propagate.proofs.KeptLits.{lits_consistent}
+use Rattle.watch_propagate.proofs.WalkLits.{lit_vars, value_false, value_none, value_true}
+use Rattle.watch_solver.specs.Decided.{IsModelOn, Solver}
+use Rattle.known_models.specs.Changes.{AreModelOf, HasValue, IsTrueBy, Takes}
+use Rattle.known_models.specs.Laws.{ValuesAreModels}
+use Rattle.order_search.specs.Kept.{IsHeld, vars_of}
+use Rattle.order_search.specs.Parts.{AreParts, parted_of}
+use Rattle.order_search.specs.Searches.{Subject}
+
+-- ---- values and literals
+
+signs : (b n : Bool) → (not n ≡ b) ⊎ (n ≡ b)
+signs true true = inr refl
+signs true false = inl refl
+signs false true = inl refl
+signs false false = inr refl
+
+module _ (t : Trail) (are : AreEntries t) where
+  lit_within : (lit : Lit) → Contains (lits_of t) lit → var_of lit < t.vars
+  lit_within lit is_in =
+      let at = stands_at (lits_of t) lit is_in in
+      All-contains (λ v. v < t.vars) (map (λ (e : Entry). var_of e.lit) t.entries) (var_of lit)
+      (All-map (λ v. v < t.vars) (λ (e : Entry). var_of e.lit) t.entries are.within)
+      (contains_at (map (λ (e : Entry). var_of e.lit) t.entries) at.0 (var_of lit) (lit_vars t at.0 lit at.1))
+
+  -- the value of a literal that is true
+  pub true_value : (lit : Lit) → Contains (lits_of t) lit
+      → slice_get (values_of t).given (var_of lit) ≡ Some (Some (not (is_negative lit)))
+  true_value lit is_in =
+      by (slice_index_or (values_of t).given (var_of lit) None)
+      (slice_get-get_or (values_of t).given (var_of lit) None (omega (arith, lit_within lit is_in, as_many_values t)))
+    where
+      of : (b : Bool) → slice_get (values_of t).given (var_of lit) ≡ Some (Some b)
+          → (not (is_negative lit) ≡ b) ⊎ (is_negative lit ≡ b)
+          → slice_get (values_of t).given (var_of lit) ≡ Some (Some (not (is_negative lit)))
+      of b is (inl e) = is ∙ ap (λ (x : Bool). Some (Some x)) (sym e)
+      of b is (inr e) =
+          absurd (lits_consistent t are lit is_in (value_false (lits_of t) lit b (is_value t (var_of lit) (Some b) is) e))
+
+      by : (o : Option Bool) → slice_get (values_of t).given (var_of lit) ≡ Some o
+          → slice_get (values_of t).given (var_of lit) ≡ Some (Some (not (is_negative lit)))
+      by None is =
+          let at = stands_at (lits_of t) lit is_in in
+          absurd (value_none (lits_of t) (var_of lit) at.0 lit (is_value t (var_of lit) None is) at.1 refl)
+      by (Some b) is = of b is (signs b (is_negative lit))
+
+  module _ (none : HasNoFree (values_of t)) where
+    -- a variable of the scope has a value
+    pub has_value : (var : ℕ) → Contains t.scope var → var < t.vars → HasValue (values_of t).given var
+    has_value var is_in within =
+        by (slice_index_or (values_of t).given var None)
+        (slice_get-get_or (values_of t).given var None (omega (arith, within, as_many_values t)))
+      where
+        by : (o : Option Bool) → slice_get (values_of t).given var ≡ Some o → HasValue (values_of t).given var
+        by None is = absurd (none var (record { is_in = is_in; free = is }))
+        by (Some b) is = record { value = b; is_value = is }
+
+    -- a clause at rest whose variables are all of the scope has a literal that is true
+    pub clause_true : (clause : List Lit) → All (λ lit. Contains t.scope (var_of lit)) clause
+        → All (λ lit. var_of lit < t.vars) clause → IsAtRest (lits_of t) clause → IsTrueBy (values_of t).given clause
+    clause_true clause of within (inl h) = record { lit = h.lit; is_in = h.is_in; is_true = true_value h.lit h.is_true }
+    clause_true clause of within (inr h) =
+        let v = has_value (var_of h.first) (All-contains (λ (l : Lit). Contains t.scope (var_of l)) clause h.first of h.first_in)
+        (All-contains (λ (l : Lit). var_of l < t.vars) clause h.first within h.first_in) in
+        let is = is_value t (var_of h.first) (Some v.value) v.is_value in
+        absurd (shut v.value is (signs v.value (is_negative h.first)))
+      where
+        shut : (b : Bool) → value_in (lits_of t) (var_of h.first) ≡ Some b
+            → (not (is_negative h.first) ≡ b) ⊎ (is_negative h.first ≡ b) → ⊥
+        shut b is (inl e) = h.first_open.not_true (value_true (lits_of t) h.first b is e)
+        shut b is (inr e) = h.first_open.not_false (value_false (lits_of t) h.first b is e)
+
+-- ---- the values are a model of the part
+
+-- each clause whose variables are all of the part is true by them
+pub part_true : (t : Trail) (steps : List Step) (goal : Option Lit) → AreEntries t
+    → All (λ step. IsFit t.vars (clause_of step)) steps → IsModelOn steps goal t → (clause : List Lit)
+    → Contains (clauses_of steps) clause → All (λ lit. Contains t.scope (var_of lit)) clause
+    → IsTrueBy (values_of t).given clause
+part_true t steps goal are fit on clause is_in of =
+    let here = All-contains (λ (c : List Lit). IsFit t.vars c) (clauses_of steps) clause
+    (All-map (λ (c : List Lit). IsFit t.vars c) clause_of steps fit) is_in in
+    clause_true t are on.no_free clause of here.within
+    (All-contains (IsAtRest (lits_of t)) (clauses_of steps) clause on.at_rest is_in)
+
+-- the solver's trail is a model on a part
+pub record IsOnPart (s : Subject) (p : Parted) (solver : Solver) (goal : Option Lit) (part : ℕ) : Type 0 where
+  pub statements : solver.frame.statements ≡ vars_of s
+  pub vars : solver.trail.vars ≡ length solver.frame.statements
+  pub fit : All (λ step. IsFit (length solver.frame.statements) (clause_of step)) solver.steps
+  pub entries : AreEntries solver.trail
+  pub scope : solver.trail.scope ≡ list_at p.parts part
+  pub on : IsModelOn solver.steps goal solver.trail
+
+module _ (s : Subject) (p : Parted) (solver : Solver) (goal : Option Lit) (part : ℕ) (are : AreParts s p)
+    (is : IsOnPart s p solver goal part) where
+  many : solver.trail.vars ≡ length (vars_of s)
+  many = is.vars ∙ ap (λ (ss : List Statement). length ss) is.statements
+
+  pub clause_by : (clause : List Lit) → Contains (clauses_of solver.steps) clause
+      → All (λ lit. Contains (list_at p.parts part) (var_of lit)) clause → IsTrueBy (values_of solver.trail).given clause
+  clause_by clause is_in within =
+      part_true solver.trail solver.steps goal is.entries
+      (subst (λ (n : ℕ). All (λ step. IsFit n (clause_of step)) solver.steps) (sym is.vars) is.fit) is.on clause is_in
+      (subst (λ (scope : List ℕ). All (λ lit. Contains scope (var_of lit)) clause) (sym is.scope) within)
+
+  value_by : (var : ℕ) → Contains (list_at p.parts part) var → HasValue (values_of solver.trail).given var
+  value_by var is_in =
+      let of = var_of_part s.spec (vars_of s) p.ties p.parts are.parts part var is_in in
+      let below = slice_get_within (vars_of s) var of.statement of.is_statement in
+      has_value solver.trail is.entries is.on.no_free var
+      (subst (λ (scope : List ℕ). Contains scope var) (sym is.scope) is_in) (omega (arith, below, many))
+
+  -- a clause of the front of the steps is one of all
+  clause_later : (axioms later : List Step) → solver.steps ≡ axioms ++ later → (clause : List Lit)
+      → Contains (clauses_of axioms) clause → Contains (clauses_of solver.steps) clause
+  clause_later axioms later e clause is_in =
+      let both : clauses_of (axioms ++ later) ≡ clauses_of axioms ++ clauses_of later = map-append clause_of axioms later in
+      subst (λ (cs : List (List Lit)). Contains cs clause) (sym (ap clauses_of e ∙ both))
+      (Contains-append_left (clauses_of axioms) (clauses_of later) clause is_in)
+
+  pub model_of_part : ValuesAreModels → (marks : List Bool) → IsHeld s solver marks
+      → AreModelOf (parted_of s p) (values_of solver.trail).given part
+  model_of_part law marks held =
+      let begins = held.search.begins in
+      law (parted_of s p) part (values_of solver.trail).given begins.axioms begins.are_axioms
+      (as_many_values solver.trail ∙ many)
+      (All-weaker (Contains (list_at p.parts part)) (HasValue (values_of solver.trail).given) value_by (list_at p.parts part)
+      (All-contains_itself (list_at p.parts part)))
+      (λ lits is_in within. clause_by lits (clause_later begins.axioms begins.later begins.steps_are lits is_in) within)
+
+  -- and truths that take them make each clause true whose variables are of the part
+  pub takes_true : (old truths : List Bool) → Takes (list_at p.parts part) (values_of solver.trail).given old truths
+      → (clause : List Lit) → Contains (clauses_of solver.steps) clause
+      → All (λ lit. Contains (list_at p.parts part) (var_of lit)) clause → IsClauseTrue truths clause
+  takes_true old truths takes clause is_in within =
+      let found = clause_by clause is_in within in
+      record {
+        lit = found.lit;
+        is_in = found.is_in;
+        is_true = takes.taken (var_of found.lit) (not (is_negative found.lit))
+            (All-contains (λ (lit : Lit). Contains (list_at p.parts part) (var_of lit)) clause found.lit within found.is_in)
+            found.is_true;
+      }
