@@ -312,6 +312,24 @@ plain_grown s vars old new grown plain = λ k d h. go k d h (cases_lt k (length 
         plain_learned s vars (clauses_of (take k new)) (get_or new k d)
         (grown.learned k (get_or new k d) above (slice_get-get_or new k d h))
 
+-- ---- nothing that is added
+
+pub same_added : (old new : Solver) → new.frame ≡ old.frame → new.steps ≡ old.steps → HasAdded old new
+same_added old new frame steps = record { frame = frame; added = []; steps = steps ∙ sym (append-nil old.steps) }
+
+pub held_same : (s : Subject) (solver new : Solver) (brought : List Bool) → IsHeld s solver brought → new.frame ≡ solver.frame
+    → new.steps ≡ solver.steps → IsHeld s new brought
+held_same s solver new brought held frame steps =
+    held_axioms s solver new brought held frame (has_none s solver.steps new.steps steps)
+
+pub plain_same : (s : Subject) (old new : List Step) → new ≡ old → ArePlain s old → ArePlain s new
+plain_same s old new same plain = subst (ArePlain s) (sym same) plain
+
+-- ---- what a solver learns is added
+
+pub grown_added : (vars : ℕ) (old new : Solver) → new.frame ≡ old.frame → HasGrown vars old.steps new.steps → HasAdded old new
+grown_added vars old new frame grown = record { frame = frame; added = grown.added; steps = grown.steps }
+
 -- ---- one after another
 
 pub take_one : (first axioms old new : List Step) (place : ℕ) (taken : Step) → old ≡ first ++ take place axioms

@@ -1,5 +1,5 @@
 -- Lists of a part that go round: the clauses on them are clauses of the part.
-use Rattle.std.proofs.Common.{◌≡◌, ◌⊎◌, ◌∙◌, ℕ, List, All, Contains, Option, Some, ap, inl, inr}
+use Rattle.std.proofs.Common.{◌≡◌, ◌⊎◌, ◌∙◌, ℕ, Bool, List, All, Contains, Option, Some, ap, subst, inl, inr}
 use Rattle.std.proofs.lemmas.List.Elements.{All-weaker}
 use Rattle.currency_base.specs.Literals.{var_of}
 use Rattle.currency_base.specs.declared.lit.Lit.{Lit}
@@ -13,13 +13,14 @@ use Rattle.entity_ties.specs.Parts.{list_at}
 use Rattle.variable_parts.specs.Parts.{IsVarOf, Parted, label_at}
 use Rattle.variable_parts.proofs.Cells.{cell_at}
 use Rattle.variable_parts.proofs.Staying.{in_list}
-use Rattle.search_trail.specs.Trails.{values_of}
+use Rattle.search_trail.specs.Trails.{ScopedValues, Trail, values_of}
 use Rattle.watch_solver.specs.Decided.{Solver}
 use Rattle.known_models.specs.Changes.{AreBelied}
-use Rattle.known_models.specs.Known.{KnownModel}
-use Rattle.order_search.specs.Kept.{AreTrueOn, IsOnList, vars_of}
+use Rattle.known_models.specs.Known.{KnownModel, PartedSpec}
+use Rattle.order_search.specs.Kept.{AreTrueOn, IsOfList, IsOnList, vars_of}
 use Rattle.order_search.specs.Parts.{AreParts, parted_of}
 use Rattle.order_search.specs.Searches.{Subject}
+use Rattle.order_search.proofs.Cycles.{of_lists}
 use Rattle.order_search.proofs.PartValues.{IsOnPart, takes_true}
 
 -- what a literal on a list says
@@ -60,3 +61,18 @@ part_on s p solver goal part are is old cycles belied =
     each c label lits is_in on =
         takes_true s p solver goal part are is old.truths belied.truths belied.takes lits is_in
         (All-weaker (IsOnList s c) (λ lit. Contains (list_at p.parts part) (var_of lit)) (λ lit here. list_lit s p part c label lit here are) lits on)
+
+-- as it is told
+pub belied_as : (s : Subject) (p : Parted) (solver : Solver) (part : ℕ) (old : KnownModel) (cycles : List Cycle) (q : PartedSpec)
+    (v : ScopedValues) (t : Trail) → q ≡ parted_of s p → v ≡ values_of t → t ≡ solver.trail → AreBelied q v.given part old cycles
+    → AreBelied (parted_of s p) (values_of solver.trail).given part old cycles
+belied_as s p solver part old cycles q v t same_parted same_values same_trail belied =
+    subst (λ (x : ScopedValues). AreBelied (parted_of s p) x.given part old cycles) (same_values ∙ ap values_of same_trail)
+    (subst (λ (x : PartedSpec). AreBelied x v.given part old cycles) same_parted belied)
+
+-- the cycles are of lists
+pub belied_lists : (s : Subject) (p : Parted) (given : List (Option Bool)) (part : ℕ) (old : KnownModel) (cycles : List Cycle)
+    (q : PartedSpec) → q ≡ parted_of s p → AreBelied q given part old cycles → All (IsOfList s) cycles
+belied_lists s p given part old cycles q same belied =
+    let here = subst (λ (x : PartedSpec). AreBelied x given part old cycles) same belied in
+    of_lists s here.truths cycles here.round.each

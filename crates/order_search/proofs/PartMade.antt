@@ -1,5 +1,5 @@
 -- A part made anew: what is known of it and of the others, and what a decision tells in the end.
-use Rattle.std.proofs.Common.{◌≡◌, ◌⊎◌, ◌<◌, ◌≤◌, ◌+◌, ◌∙◌, ℕ, Bool, true, false, not, List, All, Contains, Option, Some, None, IfSome, IfNone, length, get_or, slice_get, slice_set, refl, sym, ap, subst, inl, inr, arith}
+use Rattle.std.proofs.Common.{Result, Ok, Err, ◌≡◌, ◌⊎◌, ◌<◌, ◌≤◌, ◌+◌, ◌∙◌, ℕ, Bool, true, false, not, List, All, Contains, Option, Some, None, IfOk, IfSome, IfNone, OnErr, length, get_or, slice_get, slice_set, refl, sym, ap, subst, inl, inr, arith}
 use Rattle.std.proofs.lemmas.Bool.{cases_eq, cases_lt}
 use Rattle.std.proofs.lemmas.List.{get_or-set_other, get_or-set_same, length-set, same_lists}
 use Rattle.std.proofs.lemmas.Option.{IfSome_then, get_or_from_slice_get, none-some, same_Some, slice_get-get_or, slice_get_within}
@@ -9,7 +9,7 @@ use Rattle.order_literals.proofs.Sayings.{negation_sign, negation_var, not_not}
 use Rattle.entity_ties.specs.Parts.{list_at}
 use Rattle.variable_parts.specs.Laws.{PartsAreDisjoint}
 use Rattle.variable_parts.specs.Parts.{Parted}
-use Rattle.search_trail.specs.Trails.{lits_of, values_of}
+use Rattle.search_trail.specs.Trails.{ScopedValues, Trail, lits_of, values_of}
 use Rattle.watch_solver.specs.Decided.{Solver}
 use Rattle.known_models.specs.Changes.{IsReplaced}
 use Rattle.known_models.specs.Known.{IsWhole, KnownModel, PartedSpec, vars_in}
@@ -71,6 +71,16 @@ made_of s p solver goal part is within of_goal old new parting replaced = record
           is_false = replaced.truths.taken (var_of lit) (is_negative lit) in_part same;
         }
 
+-- as it is told
+pub made_as : (s : Subject) (p : Parted) (solver : Solver) (goal : Option Lit) (part : ℕ) → IsOnPart s p solver goal part
+    → part < length p.parts → IfSome goal (λ lit. Contains (list_at p.parts part) (var_of lit)) → (old new : KnownModel)
+    → IsParting s p old → (q : PartedSpec) (v : ScopedValues) (t : Trail) → q ≡ parted_of s p → v ≡ values_of t
+    → t ≡ solver.trail → IsReplaced q v.given part old new → IsMade (parted_of s p) part goal old new
+made_as s p solver goal part is within of_goal old new parting q v t same_parted same_values same_trail replaced =
+    made_of s p solver goal part is within of_goal old new parting
+    (subst (λ (x : ScopedValues). IsReplaced (parted_of s p) x.given part old new) (same_values ∙ ap values_of same_trail)
+    (subst (λ (x : PartedSpec). IsReplaced x v.given part old new) same_parted replaced))
+
 pub made_parting : (s : Subject) (p : Parted) (part : ℕ) (goal : Option Lit) (old new : KnownModel) → IsParting s p old
     → IsMade (parted_of s p) part goal old new → IsParting s p new
 made_parting s p part goal old new parting made = record { parts = parting.parts; few = parting.few; known = made.known }
@@ -108,7 +118,45 @@ pub goal_kept : PartsAreDisjoint → (s : Subject) (p : Parted) (part : ℕ) (ow
 goal_kept law s p part own goal old new parting made differ false_before =
     IfSome_then goal false_before (λ lit f. false_kept law s p part own old new parting made differ lit f)
 
+-- a part was made anew, or nothing was changed: what is so in both cases
+
+pub made_or_same : {A E M S : Type 0} (r : Result (Option A) E) → IfOk r (λ e. IfNone e M) → IfOk r (λ e. IfSome e (λ o. S))
+    → OnErr r S → M ⊎ S
+made_or_same (Ok None) made same err = inl made
+made_or_same (Ok (Some o)) made same err = inr same
+made_or_same (Err x) made same err = inr err
+
+pub none_then : {A E P Q : Type 0} (r : Result (Option A) E) → (P → Q) → IfOk r (λ e. IfNone e P) → IfOk r (λ e. IfNone e Q)
+none_then (Ok None) f p = f p
+none_then (Ok (Some o)) f p = p
+none_then (Err x) f p = p
+
+pub ended_then : {A E : Type 0} (P Q : A → Type 0) (r : Result (Option A) E) → ((x : A) → P x → Q x)
+    → IfOk r (λ e. IfSome e P) → IfOk r (λ e. IfSome e Q)
+ended_then P Q (Ok None) f p = p
+ended_then P Q (Ok (Some o)) f p = f o p
+ended_then P Q (Err x) f p = p
+
+pub kept_after : (p : PartedSpec) (part : ℕ) (goal : Option Lit) (old new : KnownModel)
+    → (IsMade p part goal old new) ⊎ (new ≡ old) → (other : ℕ) → slice_get old.done other ≡ Some true
+    → slice_get new.done other ≡ Some true
+kept_after p part goal old new (inl made) other is = made_kept p part goal old new made other is
+kept_after p part goal old new (inr same) other is = ap (λ (k : KnownModel). slice_get k.done other) same ∙ is
+
+pub goal_after : PartsAreDisjoint → (s : Subject) (p now : Parted) (part : ℕ) (own : Option ℕ) (goal : Option Lit)
+    → (old new : KnownModel) → now ≡ p → IsParting s p old → (IsMade (parted_of s p) part None old new) ⊎ (new ≡ old)
+    → (own ≡ Some part → ⊥) → IfSome goal (IsFalseIn (parted_of s p) old own) → IfSome goal (IsFalseIn (parted_of s now) new own)
+goal_after law s p now part own goal old new same parting after differ false_before =
+    subst (λ (q : Parted). IfSome goal (IsFalseIn (parted_of s q) new own)) (sym same) (by after)
+  where
+    by : (IsMade (parted_of s p) part None old new) ⊎ (new ≡ old) → IfSome goal (IsFalseIn (parted_of s p) new own)
+    by (inl made) = goal_kept law s p part own goal old new parting made differ false_before
+    by (inr e) = subst (λ (k : KnownModel). IfSome goal (IsFalseIn (parted_of s p) k own)) (sym e) false_before
+
 -- ---- all parts
+
+pub done_none : (done : List Bool) (other : ℕ) → other < 0 → slice_get done other ≡ Some true
+done_none done other below = absurd (omega (arith, below))
 
 pub all_done : (s : Subject) (p : Parted) (k : KnownModel) (count : ℕ) → IsParting s p k → length p.parts ≤ count
     → ((other : ℕ) → other < count → slice_get k.done other ≡ Some true) → IsWhole k

@@ -1,27 +1,40 @@
 -- The variables of a part as a scope, all variables as one, and the part of a variable.
-use Rattle.std.proofs.Common.{◌≡◌, ◌<◌, ◌≤◌, ◌+◌, ◌-◌, ◌∙◌, ℕ, zero, suc, List, [], Contains, Some, get_or, length, slice_get, sym, ap, subst, arith}
+use Rattle.std.proofs.Common.{◌≡◌, ◌<◌, ◌≤◌, ◌+◌, ◌-◌, ◌∙◌, ℕ, zero, suc, List, [], Contains, Option, Some, IfSome, get_or, length, slice_get, sym, ap, subst, arith}
 use Rattle.std.specs.List.Sorted.{IsStrictlyIncreasing}
 use Rattle.std.proofs.lemmas.List.{same_lists}
 use Rattle.std.proofs.lemmas.List.FromFn.{get_or-range_with_len, length-range_with_len}
-use Rattle.std.proofs.lemmas.Option.{get_or_from_slice_get, slice_get-get_or, slice_get_within}
+use Rattle.std.proofs.lemmas.Option.{IfSome_then, get_or_from_slice_get, same_Some, slice_get-get_or, slice_get_within}
+use Rattle.currency_base.specs.Literals.{var_of}
 use Rattle.currency_base.specs.declared.ids.AttrId.{AttrId}
 use Rattle.currency_base.specs.declared.ids.RelId.{RelId}
 use Rattle.currency_base.specs.declared.ids.RowId.{RowId}
+use Rattle.currency_base.specs.declared.lit.Lit.{Lit}
+use Rattle.currency_base.specs.declared.row.Row.{Row}
+use Rattle.partial_orders.specs.Pairs.{entity_of}
+use Rattle.spec_model.specs.Facts.{IsRelation}
 use Rattle.spec_model.specs.Spec.{Spec}
+use Rattle.spec_model.specs.declared.relation.Relation.{Relation}
 use Rattle.refutation_log.specs.declared.statement.Statement.{Statement}
 use Rattle.refutation_log.specs.declared.statement.Statement.TheVariants as says
+use Rattle.order_literals.specs.Numbers.{Numbers, numbers_of}
+use Rattle.order_literals.specs.Statements.{statements_of}
 use Rattle.order_literals.specs.declared.wanted.Wanted.{Wanted}
+use Rattle.order_clauses.proofs.Reading.{all_at}
 use Rattle.search_logs.specs.SearchLogs.{variables}
+use Rattle.entity_ties.specs.Labels.{AreTies, Labelling, cell, label_of, labels_in}
 use Rattle.entity_ties.specs.Parts.{list_at}
 use Rattle.entity_ties.specs.Tied.{Cell}
-use Rattle.variable_parts.specs.Parts.{Parted, part_of, row_cell}
-use Rattle.variable_parts.proofs.Cells.{of_row_cell, row_at}
+use Rattle.variable_parts.specs.Parts.{AreVariableParts, Parted, label_at, part_of, row_cell}
+use Rattle.variable_parts.proofs.Cells.{cell_at, of_row_cell, row_at}
 use Rattle.variable_parts.proofs.Numbered.{statement_cell}
-use Rattle.variable_parts.proofs.Staying.{in_list, list_there}
-use Rattle.search_trail.specs.Trails.{Ascend, IsScope, whole_scope}
+use Rattle.variable_parts.proofs.Staying.{in_list, list_there, var_of_part}
+use Rattle.known_models.specs.Known.{PartedSpec}
+use Rattle.search_trail.specs.Trails.{Ascend, IsScope, ScopedValues, Trail, values_of, whole_scope}
+use Rattle.search_trail.proofs.KnownValues.{as_many_values}
+use Rattle.search_trail.proofs.Scopes.{whole_is_scope}
 use Rattle.watch_propagate.proofs.KeptLists.{contains_at}
 use Rattle.order_search.specs.Kept.{vars_of}
-use Rattle.order_search.specs.Parts.{AreParts, IsRowIn}
+use Rattle.order_search.specs.Parts.{AreParts, IsRowIn, parted_of}
 use Rattle.order_search.specs.Searches.{Subject}
 
 -- ---- the scope of a part
@@ -60,6 +73,24 @@ part_scope s p part vars are at =
           let of = ((these.are var).0 (contains_at vars i var is)) in
           slice_get_within (vars_of s) var of.statement of.is_statement;
     }
+
+-- the same, where so many statements are numbered
+pub scope_of_part : (s : Subject) (p : Parted) (part : ℕ) (vars : List ℕ) (statements : List Statement) → AreParts s p
+    → statements ≡ vars_of s → slice_get p.parts part ≡ Some vars → IsScope (length statements) vars
+scope_of_part s p part vars statements are same at =
+    subst (λ (ss : List Statement). IsScope (length ss) vars) (sym same) (part_scope s p part vars are at)
+
+-- a goal that is on a part is of the variables
+pub goal_within : (s : Subject) (p : Parted) (part : ℕ) (goal : Option Lit) (statements : List Statement) → AreParts s p
+    → statements ≡ vars_of s → IfSome goal (λ lit. Contains (list_at p.parts part) (var_of lit))
+    → IfSome goal (λ lit. var_of lit < length statements)
+goal_within s p part goal statements are same of = IfSome_then goal of within
+  where
+    within : (lit : Lit) → Contains (list_at p.parts part) (var_of lit) → var_of lit < length statements
+    within lit is_in =
+        let v = var_of_part s.spec (vars_of s) p.ties p.parts are.parts part (var_of lit) is_in in
+        let below = slice_get_within (vars_of s) (var_of lit) v.statement v.is_statement in
+        omega (arith, below, ap (λ (ss : List Statement). length ss) same)
 
 -- the list of a part is read at its place
 pub list_is : (parts : List (List ℕ)) (part : ℕ) (vars : List ℕ) → slice_get parts part ≡ Some vars → vars ≡ list_at parts part
@@ -114,6 +145,67 @@ module _ (n : ℕ) (xs : List ℕ) (is : IsScope n xs) (many : length xs ≡ n) 
       let same = each_is i within in
       omega (arith, read, here, same))
 
+pub all_scope : (n count : ℕ) (xs : List ℕ) → count ≡ n → xs ≡ whole_scope count → IsScope n xs
+all_scope n count xs many is =
+    subst (λ (k : ℕ). IsScope k xs) many (subst (IsScope count) (sym is) (whole_is_scope count))
+
+-- a trail's scope of as many variables as there are
+pub scope_whole : (t : Trail) (values : ScopedValues) (scope : List ℕ) (count n : ℕ) → values ≡ values_of t
+    → scope ≡ values.scope → IsScope (length values.given) values.scope → count ≡ length values.given → length scope ≡ count
+    → t.vars ≡ n → t.scope ≡ whole_scope n
+scope_whole t values scope count n is scope_is within count_is same vars =
+    let front : values.scope ≡ t.scope = ap (λ (v : ScopedValues). v.scope) is in
+    let many : length values.given ≡ n = ap (λ (v : ScopedValues). length v.given) is ∙ as_many_values t ∙ vars in
+    let long : length values.scope ≡ length values.given =
+    ap (λ (xs : List ℕ). length xs) (sym scope_is) ∙ same ∙ count_is in
+    sym front ∙ whole_is (length values.given) values.scope within long ∙ ap whole_scope many
+
+-- ---- what is numbered, with its parts
+
+pub are_parts : (s : Subject) (n : Numbers) (ties : Labelling) (p : Parted) → n ≡ numbers_of s.spec.relations s.wanted
+    → AreTies s.spec ties → p.ties ≡ ties → AreVariableParts s.spec (statements_of n) ties p.parts → AreParts s p
+are_parts s n ties p is of same parts = record {
+  ties = subst (AreTies s.spec) (sym same) of;
+  parts = subst (λ (t : Labelling). AreVariableParts s.spec (vars_of s) t p.parts) (sym same)
+      (subst (λ (m : Numbers). AreVariableParts s.spec (statements_of m) ties p.parts) is parts);
+}
+
+pub numbered_parts : (s : Subject) (n : Numbers) (p : Parted) → n ≡ numbers_of s.spec.relations s.wanted → AreParts s p
+    → AreVariableParts s.spec (statements_of n) p.ties p.parts
+numbered_parts s n p is are =
+    subst (λ (m : Numbers). AreVariableParts s.spec (statements_of m) p.ties p.parts) (sym is) are.parts
+
+pub parted_is : (p : PartedSpec) (s : Subject) (q : Parted) → p.spec ≡ s.spec → p.wanted ≡ s.wanted → p.ties ≡ q.ties
+    → p.parts ≡ q.parts → p ≡ parted_of s q
+parted_is p s q spec wanted ties parts =
+    ap (λ (x : Spec). record p { spec = x }) spec
+    ∙ ap (λ (x : Wanted). record p { spec = s.spec; wanted = x }) wanted
+    ∙ ap (λ (x : Labelling). record p { spec = s.spec; wanted = s.wanted; ties = x }) ties
+    ∙ ap (λ (x : List (List ℕ)). record p { spec = s.spec; wanted = s.wanted; ties = q.ties; parts = x }) parts
+
+-- ---- the part of a row
+
+-- a row that is there is one of the relation's
+pub row_there : (s : Spec) (rel : RelId) (row : RowId) (r : Relation) → IsRowIn s rel row → slice_get s.relations rel.0 ≡ Some r
+    → row.0 < length r.rows
+row_there s rel row r is at =
+    subst (λ (q : Relation). row.0 < length q.rows) (same_Some is.relation r (sym is.is_relation ∙ at)) is.within
+
+module _ (s : Spec) (t : Labelling) (ties : AreTies s t) (rel : ℕ) (r : Relation) (at : slice_get s.relations rel ≡ Some r) where
+  pub rel_labelled : rel < length t.labels
+  rel_labelled = let within = slice_get_within s.relations rel r at in omega (arith, within, ties.per_relation)
+
+  module _ (row : ℕ) (x : Row) (at_row : slice_get r.rows row ≡ Some x) where
+    pub ent_labelled : IsRelation r → x.entity.0 < length (labels_in t rel)
+    ent_labelled facts =
+        let below = all_at (λ (y : Row). y.entity.0 < length r.entities) r.rows row x facts.entities at_row in
+        omega (arith, below, ties.per_entity rel r at)
+
+    pub row_label : (part : ℕ) → label_of t (cell rel x.entity.0) ≡ Some part → label_at t (row_cell s.relations rel row) ≡ Some part
+    row_label part label =
+        let of : entity_of r.rows row ≡ Some x.entity.0 = cc at_row in
+        ap (label_at t) (cell_at s.relations rel row r x.entity.0 at of) ∙ label
+
 -- ---- the part of a variable
 
 row_in : (s : Spec) (rel : RelId) (row : RowId) → (cell : (c : Cell) × (row_cell s.relations rel.0 row.0 ≡ Some c))
@@ -142,6 +234,15 @@ pub last_row : (s : Spec) (wanted : Wanted) (var : ℕ) (rel : RelId) (attr : At
     → slice_get (variables s wanted) var ≡ Some (says.Last rel attr row) → IsRowIn s rel row
 last_row s wanted var rel attr row at =
     row_in s rel row (statement_cell s.relations wanted var (says.Last rel attr row) at (λ tuple e. cc))
+
+-- the statement of a variable, as it is told
+pub meant : (now seen : Subject) (n : Numbers) (var : ℕ) (told statement : Statement) → seen ≡ now
+    → n ≡ numbers_of seen.spec.relations seen.wanted → slice_get (statements_of n) var ≡ Some told → told ≡ statement
+    → slice_get (vars_of now) var ≡ Some statement
+meant now seen n var told statement same numbered at is =
+    subst (λ (s : Subject). slice_get (vars_of s) var ≡ Some statement) same
+    (subst (λ (m : Numbers). slice_get (statements_of m) var ≡ Some statement) numbered
+    (at ∙ ap (λ (x : Statement). Some x) is))
 
 -- a variable whose statement has a part stands in its list
 pub stands_in : (s : Subject) (p : Parted) (part var : ℕ) (statement : Statement) → AreParts s p

@@ -4,6 +4,7 @@ use Rattle.std.proofs.lemmas.List.Elements.{All-contains}
 use Rattle.std.proofs.lemmas.Option.{IfSome_then, get_or_from_slice_get}
 use Rattle.currency_base.specs.Literals.{is_negative, var_of}
 use Rattle.currency_base.specs.declared.lit.Lit.{Lit}
+use Rattle.spec_model.specs.Completion.{Rankings}
 use Rattle.refutation_log.specs.Counted.{holds}
 use Rattle.refutation_log.specs.Steps.{clauses_of}
 use Rattle.refutation_log.specs.declared.step.Step.{Step}
@@ -19,7 +20,7 @@ use Rattle.known_models.specs.Known.{IsParted, IsWhole, KnownModel}
 use Rattle.known_models.specs.Laws.{KnownIsModel, KnownMakesTrue}
 use Rattle.order_search.specs.Kept.{ArePlain, IsAxiomOf, IsHeld, IsPlain, posed_of, search_of, vars_of}
 use Rattle.order_search.specs.Parts.{IsFalseIn, IsParting, parted_of}
-use Rattle.order_search.specs.Searches.{IsCounter, Subject}
+use Rattle.order_search.specs.Searches.{IsCounter, Search, Subject}
 
 -- ---- truths
 
@@ -92,3 +93,10 @@ module _ (s : Subject) (p : Parted) (k : KnownModel) (solver : Solver) (marks : 
     clauses_true = sound (truth_in k.truths) solver.steps (grounded makes);
     goal_false = IfSome_then goal false_goal (λ lit f. fails_by k.truths lit f.is_false);
   }
+
+-- as it is told
+pub counter_as : (s : Search) (goal : Option Lit) (truths known : List Bool) (c of : Rankings) → truths ≡ known → c ≡ of
+    → IsCounter s goal known of → IsCounter s goal truths c
+counter_as s goal truths known c of same_truths same_completion is =
+    subst (λ (x : Rankings). IsCounter s goal truths x) (sym same_completion)
+    (subst (λ (x : List Bool). IsCounter s goal x of) (sym same_truths) is)

@@ -13,7 +13,7 @@ use Rattle.order_literals.specs.Said.{IsClauseTrue}
 use Rattle.entity_ties.specs.Parts.{list_at}
 use Rattle.variable_parts.specs.Parts.{Parted}
 use Rattle.variable_parts.proofs.Staying.{var_of_part}
-use Rattle.search_trail.specs.Trails.{AreEntries, Entry, HasNoFree, Trail, lits_of, value_in, values_of}
+use Rattle.search_trail.specs.Trails.{AreEntries, Entry, HasNoFree, ScopedValues, Trail, lits_of, value_in, values_of}
 use Rattle.search_trail.proofs.KnownValues.{as_many_values, is_value}
 use Rattle.search_state.specs.States.{IsFit}
 use Rattle.watch_propagate.proofs.KeptLists.{contains_at, stands_at}
@@ -21,6 +21,7 @@ use Rattle.watch_propagate.proofs.KeptLits.{lits_consistent}
 use Rattle.watch_propagate.proofs.WalkLits.{lit_vars, value_false, value_none, value_true}
 use Rattle.watch_solver.specs.Decided.{IsModelOn, Solver}
 use Rattle.known_models.specs.Changes.{AreModelOf, HasValue, IsTrueBy, Takes}
+use Rattle.known_models.specs.Known.{PartedSpec}
 use Rattle.known_models.specs.Laws.{ValuesAreModels}
 use Rattle.order_search.specs.Kept.{IsHeld, vars_of}
 use Rattle.order_search.specs.Parts.{AreParts, parted_of}
@@ -111,6 +112,19 @@ pub record IsOnPart (s : Subject) (p : Parted) (solver : Solver) (goal : Option 
   pub scope : solver.trail.scope ≡ list_at p.parts part
   pub on : IsModelOn solver.steps goal solver.trail
 
+pub on_part : (s : Subject) (p : Parted) (solver : Solver) (goal : Option Lit) (part : ℕ) (marks : List Bool) (t : Trail)
+    → IsHeld s solver marks → solver.trail.vars ≡ length solver.frame.statements
+    → All (λ step. IsFit (length solver.frame.statements) (clause_of step)) solver.steps → t ≡ solver.trail → AreEntries t
+    → solver.trail.scope ≡ list_at p.parts part → IsModelOn solver.steps goal solver.trail → IsOnPart s p solver goal part
+on_part s p solver goal part marks t held vars fit same are scope on = record {
+  statements = held.search.log.statements;
+  vars = vars;
+  fit = fit;
+  entries = subst AreEntries same are;
+  scope = scope;
+  on = on;
+}
+
 module _ (s : Subject) (p : Parted) (solver : Solver) (goal : Option Lit) (part : ℕ) (are : AreParts s p)
     (is : IsOnPart s p solver goal part) where
   many : solver.trail.vars ≡ length (vars_of s)
@@ -147,6 +161,14 @@ module _ (s : Subject) (p : Parted) (solver : Solver) (goal : Option Lit) (part 
       (All-weaker (Contains (list_at p.parts part)) (HasValue (values_of solver.trail).given) value_by (list_at p.parts part)
       (All-contains_itself (list_at p.parts part)))
       (λ lits is_in within. clause_by lits (clause_later begins.axioms begins.later begins.steps_are lits is_in) within)
+
+  -- as it is told
+  pub model_as : ValuesAreModels → (marks : List Bool) → IsHeld s solver marks → (q : PartedSpec) (v : ScopedValues) (t : Trail)
+      → q ≡ parted_of s p → v ≡ values_of t → t ≡ solver.trail → AreModelOf q v.given part
+  model_as law marks held q v t same_parted same_values same_trail =
+      subst (λ (x : PartedSpec). AreModelOf x v.given part) (sym same_parted)
+      (subst (λ (x : ScopedValues). AreModelOf (parted_of s p) x.given part) (sym (same_values ∙ ap values_of same_trail))
+      (model_of_part law marks held))
 
   -- and truths that take them make each clause true whose variables are of the part
   pub takes_true : (old truths : List Bool) → Takes (list_at p.parts part) (values_of solver.trail).given old truths

@@ -22,7 +22,7 @@ pub(crate) fn none_done(subject: &Subject<'_>, alloc: Global) -> Result<Parting,
         Ok(parts) => parts,
         Err(error) => return Err(error),
     };
-    if parts.count() > u32::MAX as usize {
+    if parts.count() > 4_294_967_295 {
         return Err(NoMemory);
     }
     match KnownModel::new(alloc, &subject.parted(&parts)) {

@@ -200,23 +200,22 @@ fn decide_left(
     ensures ended { IfOk result (λ ended. IfSome ended (Ends (search_of subject.now progress.new.solver) goal budget.new)) }
 {
     variables_have_parts();
-    if is_left(own, part) {
-        decide_part(
-            subject, progress, parting, alloc, part, None, budget, guides,
-        )
-    } else {
-        Ok(None)
+    if is_own(own, part) {
+        return Ok(None);
     }
+    decide_part(
+        subject, progress, parting, alloc, part, None, budget, guides,
+    )
 }
 
-// Is a part to be decided? Not that of the goal.
-fn is_left(own: Option<u32>, part: u32) -> bool
-    ensures yes { result ≡ true → own ≢ Some part }
-    ensures no { result ≡ false → own ≡ Some part }
+// Is a part that of the goal?
+fn is_own(own: Option<u32>, part: u32) -> bool
+    ensures yes { result ≡ true → own ≡ Some part }
+    ensures no { result ≡ false → own ≢ Some part }
 {
     match own {
-        Some(own) => own != part,
-        None => true,
+        Some(own) => own == part,
+        None => false,
     }
 }
 
@@ -289,6 +288,7 @@ fn decide_focused(
     ensures added { HasAdded progress.old.solver progress.new.solver }
     ensures plain { ArePlain subject.now progress.old.solver.steps → ArePlain subject.now progress.new.solver.steps }
     ensures units { counted_steps progress.new.solver.steps + budget.new ≡ counted_steps progress.old.solver.steps + budget.old }
+    ensures parting { IsParting subject.now parts.now known.new }
     ensures made { IfOk result (λ ended. IfNone ended
         (IsMade (parted_of subject.now parts.now) part goal known.old known.new)) }
     ensures ended { IfOk result (λ ended. IfSome ended (Ends (search_of subject.now progress.new.solver) goal budget.new)) }
@@ -362,6 +362,7 @@ fn take_values(
     requires parting { IsParting subject.now parts.now known.old }
     requires scope { progress.old.solver.trail.scope ≡ list_at parts.now.parts part }
     requires part { part < length parts.now.parts }
+    requires goal { IfSome goal (λ lit. Contains (list_at parts.now.parts part) (var_of lit)) }
     requires model { IsModelOn progress.old.solver.steps goal progress.old.solver.trail }
     ensures held { IsHeld subject.now progress.new.solver progress.new.brought.items }
     ensures scope { progress.new.solver.trail.scope ≡ progress.old.solver.trail.scope }

@@ -85,7 +85,9 @@ fn widen(
 {
     progress.solver.is_solver();
     let values = progress.solver.trail().values();
-    if values.scope().len() == values.len() as usize {
+    let scope = values.scope();
+    let all = values.len() as usize;
+    if scope.len() == all {
         return Ok(());
     }
     match all_vars(alloc, subject.vars()) {

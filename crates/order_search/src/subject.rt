@@ -101,7 +101,10 @@ impl<'a> Subject<'a> {
             Ok(ties) => ties,
             Err(error) => return Err(error),
         };
-        VariableParts::new(alloc, self.spec, &self.numbering, &self.wanted, ties)
+        match VariableParts::new(alloc, self.spec, &self.numbering, &self.wanted, ties) {
+            Ok(parts) => Ok(parts),
+            Err(error) => Err(error),
+        }
     }
 
     /// What is numbered, with its parts.

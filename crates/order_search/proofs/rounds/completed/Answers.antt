@@ -14,9 +14,9 @@ bring_all-requires-clause-cycles g c =
     of_lists c.args.subject.now c.args.truths.now c.in-Ok-Cyclic.cycles
     (rw c.in-Ok-Cyclic.field-0-is at c.in-Ok-Cyclic.ensures).0.each
 
-pub returns-in-Ok-Cyclic-in-Ok-clause-none : goal.returns-in-Ok-Cyclic-in-Ok-clause-none
-returns-in-Ok-Cyclic-in-Ok-clause-none g c =
+pub returns-in-Ok-clause-none : goal.returns-in-Ok-clause-none
+returns-in-Ok-clause-none g c =
     let is = (rw c.in-Ok-Cyclic.field-0-is at c.in-Ok-Cyclic.ensures) in
-    c.in-Ok-Cyclic-bring_all.ensures.fewer c.args.truths.now
+    c.in-Ok.ensures.fewer c.args.truths.now
     (all_on c.args.subject.now c.args.truths.now c.args.progress.now.solver.steps c.in-Ok-Cyclic.cycles c.requires.holds)
     is.0.each is.1
