@@ -201,7 +201,8 @@ module _ (s : Spec) (t : Labelling) (ties : AreTies s t) (rel : ℕ) (r : Relati
         let below = all_at (λ (y : Row). y.entity.0 < length r.entities) r.rows row x facts.entities at_row in
         omega (arith, below, ties.per_entity rel r at)
 
-    pub row_label : (part : ℕ) → label_of t (cell rel x.entity.0) ≡ Some part → label_at t (row_cell s.relations rel row) ≡ Some part
+    pub row_label : (part : ℕ) → label_of t (cell rel x.entity.0) ≡ Some part
+        → label_at t (row_cell s.relations rel row) ≡ Some part
     row_label part label =
         let of : entity_of r.rows row ≡ Some x.entity.0 = cc at_row in
         ap (label_at t) (cell_at s.relations rel row r x.entity.0 at of) ∙ label

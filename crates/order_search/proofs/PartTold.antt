@@ -1,5 +1,5 @@
 -- Where every part is done, the known model is a completion in which the goal is false and each step's clause is true.
-use Rattle.std.proofs.Common.{◌≡◌, ◌∙◌, ℕ, Bool, true, false, not, List, All, Contains, Option, Some, IfSome, take, slice_get, get_or, refl, sym, ap, subst}
+use Rattle.std.proofs.Common.{◌≡◌, ℕ, Bool, true, false, not, List, All, Option, Some, IfSome, take, slice_get, refl, sym, ap, subst}
 use Rattle.std.proofs.lemmas.List.Elements.{All-contains}
 use Rattle.std.proofs.lemmas.Option.{IfSome_then, get_or_from_slice_get}
 use Rattle.currency_base.specs.Literals.{is_negative, var_of}

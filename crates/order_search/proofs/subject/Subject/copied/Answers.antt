@@ -6,7 +6,8 @@ use Rattle.order_search.specs.Searches.{Subject}
 use Rattle.order_search.proofs.subject.Subject.copied.Goals as goal
 
 pub fill-requires-clause-first : goal.fill-requires-clause-first
-fill-requires-clause-first c = subst (λ (s : Subject). HasShape s.spec.relations c.args.completion.now) (sym c.self.view_is) c.requires
+fill-requires-clause-first c =
+    subst (λ (s : Subject). HasShape s.spec.relations c.args.completion.now) (sym c.self.view_is) c.requires
 
 pub returns-in-Ok-fill : goal.returns-in-Ok-fill
 returns-in-Ok-fill c =
