@@ -4,5 +4,5 @@ use Rattle.order_search.proofs.rounds.all_vars.Goals as goal
 
 pub loop-var-preserved : goal.loop-var-preserved
 loop-var-preserved c =
-    c.in-Ok-push.ensures.items ∙ ap (λ (ns : List ℕ). ns ++ c.loop-var.var ∷ []) c.loop-var.invariant
+    c.in-Ok.ensures.items ∙ ap (λ (ns : List ℕ). ns ++ c.loop-var.var ∷ []) c.loop-var.invariant
     ∙ sym (whole_push c.loop-var.var)
