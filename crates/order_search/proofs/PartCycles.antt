@@ -3,10 +3,9 @@ use Rattle.std.proofs.Common.{◌≡◌, ◌⊎◌, ◌∙◌, ℕ, Bool, List, 
 use Rattle.std.proofs.lemmas.List.Elements.{All-weaker}
 use Rattle.currency_base.specs.Literals.{var_of}
 use Rattle.currency_base.specs.declared.lit.Lit.{Lit}
-use Rattle.refutation_log.specs.Steps.{clauses_of}
 use Rattle.refutation_log.specs.declared.statement.Statement.TheVariants as says
 use Rattle.order_literals.proofs.Sayings.{tells}
-use Rattle.order_literals.specs.Said.{Said, Says, said_by, turned}
+use Rattle.order_literals.specs.Said.{Said, said_by, turned}
 use Rattle.completion_build.specs.declared.built.Cycle.{Cycle}
 use Rattle.entity_ties.specs.Labels.{cell, label_of}
 use Rattle.entity_ties.specs.Parts.{list_at}

@@ -1,8 +1,8 @@
 -- A part made anew: what is known of it and of the others, and what a decision tells in the end.
-use Rattle.std.proofs.Common.{Result, Ok, Err, ◌≡◌, ◌⊎◌, ◌<◌, ◌≤◌, ◌+◌, ◌∙◌, ℕ, Bool, true, false, not, List, All, Contains, Option, Some, None, IfOk, IfSome, IfNone, OnErr, length, get_or, slice_get, slice_set, refl, sym, ap, subst, inl, inr, arith}
+use Rattle.std.proofs.Common.{Result, Ok, Err, ◌≡◌, ◌⊎◌, ◌<◌, ◌≤◌, ◌+◌, ◌∙◌, ℕ, Bool, true, not, List, Contains, Option, Some, None, IfOk, IfSome, IfNone, OnErr, length, get_or, slice_get, slice_set, refl, sym, ap, subst, inl, inr, arith}
 use Rattle.std.proofs.lemmas.Bool.{cases_eq, cases_lt}
 use Rattle.std.proofs.lemmas.List.{get_or-set_other, get_or-set_same, length-set, same_lists}
-use Rattle.std.proofs.lemmas.Option.{IfSome_then, get_or_from_slice_get, none-some, same_Some, slice_get-get_or, slice_get_within}
+use Rattle.std.proofs.lemmas.Option.{IfSome_then, get_or_from_slice_get, none-some, slice_get-get_or, slice_get_within}
 use Rattle.currency_base.specs.Literals.{is_negative, negation, var_of}
 use Rattle.currency_base.specs.declared.lit.Lit.{Lit}
 use Rattle.order_literals.proofs.Sayings.{negation_sign, negation_var, not_not}
@@ -12,9 +12,9 @@ use Rattle.variable_parts.specs.Parts.{Parted}
 use Rattle.search_trail.specs.Trails.{ScopedValues, Trail, lits_of, values_of}
 use Rattle.watch_solver.specs.Decided.{Solver}
 use Rattle.known_models.specs.Changes.{IsReplaced}
-use Rattle.known_models.specs.Known.{IsWhole, KnownModel, PartedSpec, vars_in}
+use Rattle.known_models.specs.Known.{IsWhole, KnownModel, PartedSpec}
 use Rattle.order_search.specs.Kept.{vars_of}
-use Rattle.order_search.specs.Parts.{AreParts, Ends, IsFalseIn, IsMade, IsParting, parted_of}
+use Rattle.order_search.specs.Parts.{Ends, IsFalseIn, IsMade, IsParting, parted_of}
 use Rattle.order_search.specs.Searches.{Search, Subject, Tells}
 use Rattle.order_search.specs.declared.outcome.Outcome.{Outcome}
 use Rattle.order_search.specs.declared.outcome.Outcome.TheVariants.{Model, Proved, Empty, Spent}

@@ -1,4 +1,4 @@
-use Rattle.std.proofs.Common.{◌≡◌, ◌∙◌, ap, refl, subst, sym}
+use Rattle.std.proofs.Common.{◌∙◌, refl, subst, sym}
 use Rattle.known_models.specs.Known.{KnownModel}
 use Rattle.order_search.specs.Parts.{IsMade, IsParting, parted_of}
 use Rattle.order_search.proofs.Growing.{added_then, same_added}

@@ -1,5 +1,4 @@
-use Rattle.std.proofs.Common.{◌∙◌, ap}
-use Rattle.refutation_log.specs.Counted.{counted_steps}
+use Rattle.std.proofs.Common.{◌∙◌}
 use Rattle.order_search.proofs.Growing.{added_then, held_same, plain_same, same_added}
 use Rattle.order_search.proofs.PartNumbers.{list_is, scope_of_part}
 use Rattle.order_search.proofs.partwise.decide_part.Goals as goal

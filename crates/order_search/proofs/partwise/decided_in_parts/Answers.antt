@@ -1,4 +1,4 @@
-use Rattle.std.proofs.Common.{◌∙◌, IfSome, List, ap, arith, length, refl}
+use Rattle.std.proofs.Common.{◌∙◌, ap, arith, length, refl}
 use Rattle.std.proofs.lemmas.Option.{IfSome_then}
 use Rattle.variable_parts.specs.Parts.{Parted}
 use Rattle.order_search.specs.Kept.{search_of}

@@ -1,4 +1,4 @@
-use Rattle.std.proofs.Common.{◌∙◌, None, Some, refl, subst, sym}
+use Rattle.std.proofs.Common.{Some, refl, subst, sym}
 use Rattle.currency_base.specs.Literals.{var_of}
 use Rattle.variable_parts.specs.Parts.{Parted}
 use Rattle.order_search.specs.Kept.{search_of}
