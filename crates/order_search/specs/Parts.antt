@@ -1,5 +1,5 @@
 -- A search part by part: what is kept of the parts, and what a decision over one of them comes to.
-use Rattle.std.specs.Prelude.{◌≡◌, ◌<◌, ◌≤◌, ℕ, Bool, true, false, List, [], ◌∷◌, All, Contains, Option, Some, length, slice_get, slice_set}
+use Rattle.std.specs.Prelude.{◌≡◌, ◌<◌, ◌≤◌, ℕ, true, [], ◌∷◌, Contains, Option, Some, length, slice_get, slice_set}
 use Rattle.currency_base.specs.Literals.{is_negative, var_of}
 use Rattle.currency_base.specs.declared.ids.RelId.{RelId}
 use Rattle.currency_base.specs.declared.ids.RowId.{RowId}
