@@ -29,7 +29,8 @@ said_on s c lit on = record { statement = says.Before c.rel c.attr on.first on.s
 -- it is of the part
 module _ (s : Subject) (p : Parted) (part : ℕ) (c : Cycle) (label : label_of p.ties (cell c.rel.0 c.ent.0) ≡ Some part)
     (lit : Lit) (on : IsOnList s c lit) where
-  var_here : (said_by (vars_of s) lit ≡ Some (said_on s c lit on)) ⊎ (said_by (vars_of s) lit ≡ Some (turned (said_on s c lit on)))
+  var_here : (said_by (vars_of s) lit ≡ Some (said_on s c lit on))
+      ⊎ (said_by (vars_of s) lit ≡ Some (turned (said_on s c lit on)))
       → IsVarOf s.spec (vars_of s) p.ties part (var_of lit)
   var_here (inl told) = record {
     statement = says.Before c.rel c.attr on.first on.second;
@@ -59,7 +60,8 @@ part_on s p solver goal part are is old cycles belied =
     each : (c : Cycle) → label_of p.ties (cell c.rel.0 c.ent.0) ≡ Some part → AreTrueOn s belied.truths solver.steps c
     each c label lits is_in on =
         takes_true s p solver goal part are is old.truths belied.truths belied.takes lits is_in
-        (All-weaker (IsOnList s c) (λ lit. Contains (list_at p.parts part) (var_of lit)) (λ lit here. list_lit s p part c label lit here are) lits on)
+        (All-weaker (IsOnList s c) (λ lit. Contains (list_at p.parts part) (var_of lit))
+        (λ lit here. list_lit s p part c label lit here are) lits on)
 
 -- as it is told
 pub belied_as : (s : Subject) (p : Parted) (solver : Solver) (part : ℕ) (old : KnownModel) (cycles : List Cycle) (q : PartedSpec)

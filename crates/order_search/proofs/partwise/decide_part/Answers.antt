@@ -34,8 +34,8 @@ pub returns-clause-added : goal.returns-clause-added
 returns-clause-added g c =
     let old = c.args.progress.now.solver in
     let focused = c.focus.new.self in
-    added_then old focused c.decide_focused.new.progress.solver (same_added old focused c.focus.ensures.frame c.focus.ensures.steps)
-    c.decide_focused.ensures.added
+    added_then old focused c.decide_focused.new.progress.solver
+    (same_added old focused c.focus.ensures.frame c.focus.ensures.steps) c.decide_focused.ensures.added
 
 pub returns-clause-plain : goal.returns-clause-plain
 returns-clause-plain g c =

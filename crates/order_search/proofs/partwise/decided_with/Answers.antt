@@ -21,8 +21,8 @@ decided_beside-requires-clause-done g c =
 pub decided_beside-requires-clause-goal : goal.decided_beside-requires-clause-goal
 decided_beside-requires-clause-goal g c =
     let made = rw c.in-Ok-None.field-0-is at c.in-Ok-None.ensures.made in
-    subst (λ (p : Parted). IsFalseIn (parted_of c.args.subject.now p) c.decide_part.new.parting.known (Some c.args.part) c.args.goal)
-    (sym c.decide_part.ensures.parts) (made.goal_false c.args.goal refl)
+    subst (λ (p : Parted). IsFalseIn (parted_of c.args.subject.now p) c.decide_part.new.parting.known (Some c.args.part)
+    c.args.goal) (sym c.decide_part.ensures.parts) (made.goal_false c.args.goal refl)
 
 pub returns-in-Ok-None-clause-added : goal.returns-in-Ok-None-clause-added
 returns-in-Ok-None-clause-added g c =
