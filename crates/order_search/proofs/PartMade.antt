@@ -232,8 +232,3 @@ ends_none s goal left (Model truths c) ends = ends
 ends_none s goal left (Proved place) ends = absurd (none-some ends.0 (ends.1))
 ends_none s goal left (Empty place) ends = ends
 ends_none s goal left Spent ends = ends
-
--- the same of an answer that may be none
-pub ended_tell : (s : Search) (goal : Option Lit) (left : ℕ) (ended : Option Outcome) → IfSome ended (Ends s None left)
-    → IfSome ended (Ends s goal left)
-ended_tell s goal left ended ends = IfSome_then ended ends (λ o e. ends_none s goal left o e)
