@@ -1,4 +1,4 @@
-use Rattle.std.proofs.Common.{◌≡◌, ◌<◌, ℕ, Contains, IfOk, IfSome, None, Option, Some, false, length, subst, sym, arith}
+use Rattle.std.proofs.Common.{◌≡◌, ◌<◌, ℕ, Contains, IfOk, IfSome, None, Option, false, length, subst, sym, arith}
 use Rattle.currency_base.specs.Literals.{var_of}
 use Rattle.currency_base.specs.declared.lit.Lit.{Lit}
 use Rattle.entity_ties.specs.Parts.{list_at}

@@ -1,7 +1,7 @@
 use Rattle.std.proofs.Common.{◌≡◌, ◌∙◌, List, ap, length, sym}
 use Rattle.std.proofs.lemmas.Result.{on_ok_weaker}
 use Rattle.refutation_log.specs.declared.statement.Statement.{Statement}
-use Rattle.search_trail.specs.Trails.{ScopedValues, Trail, values_of, whole_scope}
+use Rattle.search_trail.specs.Trails.{Trail, values_of, whole_scope}
 use Rattle.order_search.specs.Kept.{vars_of}
 use Rattle.order_search.proofs.Growing.{held_same}
 use Rattle.order_search.proofs.PartNumbers.{all_scope, scope_whole}
