@@ -166,7 +166,8 @@ pub comes_to : OneDue → (texts : Option (List (List ℕ × List ℕ))) (count 
     → (outcome : Result Done Trouble) → IfSome texts (λ told. IsDue told count words outcome → ComesTo outcome rb rn wb wn status)
 comes_to law None count words got old new rb rn wb wn status due rose ends outcome = tt
 comes_to law (Some told) count words got old new rb rn wb wn status due rose ends outcome =
-    λ is. comes got old new rb rn wb wn status rose ends outcome (λ determined. law told count words got outcome (due determined) is)
+    λ is. comes got old new rb rn wb wn status rose ends outcome
+    (λ determined. law told count words got outcome (due determined) is)
 
 -- where no count of faults rose
 pub steady : (outcome : Result Done Trouble) (rb rn wb wn status : ℕ) → (Rose rb rn → ⊥) → (Rose wb wn → ⊥)

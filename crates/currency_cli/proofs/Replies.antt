@@ -275,13 +275,15 @@ imagined one_spec one_question (Some told) count words got old new rb rn wb wn s
         (IsDetermined got × (status ≡ status_of got)) ⊎ (status ≡ 9)
         → (status ≡ 0) ⊎ ((status ≡ 3) ⊎ (((status ≡ 6) × HasTooManyCandidates s.relations q) ⊎ (status ≡ 9)))
     of spec question (inl own) =
-        decided_or_limit s q status (possible_comes s p q got status (possible_due one_spec one_question told p s q got spec question
+        decided_or_limit s q status (possible_comes s p q got status
+        (possible_due one_spec one_question told p s q got spec question
         (imagine_due told count words p got said (due own.0))) own.1)
     of spec question (inr nine) = inr (inr (inr nine))
 
 -- ---- tables of answers
 
-certain_table_due : (told : List (List ℕ × List ℕ)) (count : ℕ) (words : List (List ℕ)) (t : TableSaid) (got : Result Done Trouble)
+certain_table_due : (told : List (List ℕ × List ℕ)) (count : ℕ) (words : List (List ℕ)) (t : TableSaid)
+    (got : Result Done Trouble)
     → command_for count words ≡ Some (CertainTableFor t) → IsDue told count words got → IsCertainTableDue told t got
 certain_table_due told count words t got said due =
     subst (λ (o : Option CommandSaid). MatchOption o (got ≡ Err trouble.Words) (λ x. IsDueFor told x got)) said due
@@ -310,8 +312,9 @@ tabled one_spec one_question (Some told) count words got old new rb rn wb wn sta
         inl (certain_comes t.budget s (asked.Answers query) job.0 got status job.1 own.1)
     of spec question (inr nine) = inr nine
 
-possible_table_due : (told : List (List ℕ × List ℕ)) (count : ℕ) (words : List (List ℕ)) (t : TableSaid) (got : Result Done Trouble)
-    → command_for count words ≡ Some (PossibleTableFor t) → IsDue told count words got → IsPossibleTableDue told t got
+possible_table_due : (told : List (List ℕ × List ℕ)) (count : ℕ) (words : List (List ℕ)) (t : TableSaid)
+    (got : Result Done Trouble) → command_for count words ≡ Some (PossibleTableFor t) → IsDue told count words got
+    → IsPossibleTableDue told t got
 possible_table_due told count words t got said due =
     subst (λ (o : Option CommandSaid). MatchOption o (got ≡ Err trouble.Words) (λ x. IsDueFor told x got)) said due
 

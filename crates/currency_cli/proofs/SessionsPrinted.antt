@@ -24,8 +24,9 @@ OneScript = (told : List (List ℕ × List ℕ)) (name : List ℕ) (a b : Result
 
 -- ---- what is due
 
-told_at : OneScript → (told : List (List ℕ × List ℕ)) (a : SessionSaid) (s : Spec) (entries : List Entry) (got : Result Done Trouble)
-    → IsScriptRead told a.script (Ok entries) → Then (IsScriptRead told a.script) (IsTold told a s) got → IsTold told a s entries got
+told_at : OneScript → (told : List (List ℕ × List ℕ)) (a : SessionSaid) (s : Spec) (entries : List Entry)
+    (got : Result Done Trouble) → IsScriptRead told a.script (Ok entries)
+    → Then (IsScriptRead told a.script) (IsTold told a s) got → IsTold told a s entries got
 told_at one told a s entries got script h =
     subst (λ (o : Result (List Entry) Trouble). MatchResult o (λ x. IsTold told a s x got) (λ e. got ≡ Err e))
     (one told a.script h.0 (Ok entries) h.1 script) h.2
@@ -40,8 +41,8 @@ session_due one_spec one_script told a s entries got spec script h =
 
 -- ---- its status
 
-pub session_comes : (told : List (List ℕ × List ℕ)) (a : SessionSaid) (s : Spec) (entries : List Entry) (got : Result Done Trouble)
-    (status : ℕ) → IsTold told a s entries got → status ≡ status_of got → (status ≡ 0) ⊎ (status ≡ 3)
+pub session_comes : (told : List (List ℕ × List ℕ)) (a : SessionSaid) (s : Spec) (entries : List Entry)
+    (got : Result Done Trouble) (status : ℕ) → IsTold told a s entries got → status ≡ status_of got → (status ≡ 0) ⊎ (status ≡ 3)
 session_comes told a s entries got status h is =
     by h.1 (is ∙ ap (λ (o : Result Done Trouble). status_of o) h.3)
   where

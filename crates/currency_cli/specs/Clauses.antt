@@ -124,8 +124,8 @@ Imagines texts count words status =
     IsSpecRead told p.spec (Ok s) → IsQuestionRead told s.relations p.question (Ok question)
     → (status ≡ 0) ⊎ ((status ≡ 3) ⊎ (((status ≡ 6) × HasTooManyCandidates s.relations question) ⊎ (status ≡ 9))))
 
--- the certain answers of a query are told as a table, unless the budget is spent, there are too many over a consistent completion,
--- or there is none
+-- the certain answers of a query are told as a table, unless the budget is spent, there are too many over a consistent
+-- completion, or there is none
 abbrev pub Tables : Option (List (List ℕ × List ℕ)) → ℕ → List (List ℕ) → ℕ → Type 0
 Tables texts count words status =
     (t : TableSaid) → command_for count words ≡ Some (CertainTableFor t)

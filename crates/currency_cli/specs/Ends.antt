@@ -120,9 +120,9 @@ pub record IsInconsistent (texts : Option (List (List ℕ × List ℕ))) (count 
 
 -- ---- the other way round
 
--- a job that ends so has this status: an answer may be decided or not, with a no that the status tells or without one, and a query
--- may have more answers over one completion than are gone through, and fewer over another; a table may be whole or not, or there is nothing that it could tell of, or, where it is
--- one of answers, they are too many over one completion
+-- a job that ends so has this status: an answer may be decided or not, with a no that the status tells or without one, and a
+-- query may have more answers over one completion than are gone through, and fewer over another; a table may be whole or not,
+-- or there is nothing that it could tell of, or, where it is one of answers, they are too many over one completion
 abbrev pub HasEndStatus : Ending → ℕ → Type 0
 HasEndStatus Printed status = status ≡ 0
 HasEndStatus Decided status = (status ≡ 0) ⊎ ((status ≡ 3) ⊎ (status ≡ 6))

@@ -143,7 +143,8 @@ pub fn run<S: Shelf, K: Sink>(
         → IsDone (S.texts shelf.old) (count_of guides.old) (map (λ w. string_bytes w) words.now) (K.written out.old)
         (K.written out.new) }
 
-    // The answer to the question is no, and the words ask for a status that tells it: the text is that of an answer which is right.
+    // The answer to the question is no, and the words ask for a status that tells it: the text is that of an answer which is
+    // right.
     ensures denied { result ≡ 1
         → IsDenied (S.texts shelf.old) (count_of guides.old) (map (λ w. string_bytes w) words.now) (K.written out.old)
         (K.written out.new) }

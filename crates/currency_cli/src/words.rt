@@ -31,7 +31,8 @@ fn keep_guide(guides: &mut Guides, guide: Option<u64>) -> bool
 
 // Keeps the guide that a command asks for, if it asks for one. Answers whether it is there.
 fn keep_for(guides: &mut Guides, command: &Command<'_>) -> bool
-    ensures there { with_guides (count_of guides.old) (said_of command.now) ≡ (if result then Some (said_of command.now) else None) }
+    ensures there { with_guides (count_of guides.old) (said_of command.now)
+        ≡ (if result then Some (said_of command.now) else None) }
     ensures left { result ≡ true → IsLeft (λ guide. (⟦<dyn Guide as Guide>⟧ guide.vtable).choice guide.value)
         guides.old guides.new (guide_of (said_of command.now)) }
 {

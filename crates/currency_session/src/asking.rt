@@ -12,21 +12,23 @@ ghost use Rattle.spec_model.specs.Consistent.{IsConsistent};
 ghost use Rattle.spec_model.specs.Questions.{IsQuestionOn};
 
 use crate::knowing::{known_copy, learn};
-use crate::looks::may_show;
+use crate::looks::{has_turned, may_show};
 use currency_ask::{AskFault, answer, answer_from};
 use currency_base::NoMemory;
 use log_form::literals_are_of_statements;
 use report_model::Report;
 use report_verify::{VerifyFault, verify};
 use solver_guides::Guides;
-use spec_model::{Completion, Question, Specification};
+use spec_model::{Asked, Completion, Question, Specification};
 use std::alloc::Global;
 
-/// The place of the first of these reports that shows its verdict, as `verify` sees; none, where none does.
+/// The place of the first of these reports that shows its verdict, as `verify` sees; none, where none does. One whose first
+/// completion has a given pair turned round, this one, is not judged.
 pub(crate) fn first_shown(
     alloc: Global,
     spec: &Specification,
     question: &Question,
+    turned: Option<Asked>,
     kept: &[Report],
 ) -> Result<Option<usize>, NoMemory>
     requires question { IsQuestionOn spec.now.relations question.now }
@@ -35,7 +37,7 @@ pub(crate) fn first_shown(
     ensures none { IfOk result (λ found. IfNone found (NoneShows spec.now question.now kept.now)) }
 {
     for place in 0..kept.len() {
-        if is_shown(alloc, spec, question, &kept[place])? {
+        if is_shown(alloc, spec, question, turned, &kept[place])? {
             return Ok(Some(place));
         }
     }
@@ -47,6 +49,7 @@ fn is_shown(
     alloc: Global,
     spec: &Specification,
     question: &Question,
+    turned: Option<Asked>,
     report: &Report,
 ) -> Result<bool, NoMemory>
     requires question { IsQuestionOn spec.now.relations question.now }
@@ -54,7 +57,7 @@ fn is_shown(
     ensures shown { IfOk result (λ shown. shown ≡ true → ShowsVerdict spec.now question.now report.now) }
     ensures other { IfOk result (λ shown. shown ≡ false → ShowsVerdict spec.now question.now report.now → ⊥) }
 {
-    if !may_show(question, report) {
+    if !may_show(question, report) || has_turned(spec, turned, report) {
         return Ok(false);
     }
     literals_are_of_statements();
@@ -71,6 +74,7 @@ pub(crate) fn searched(
     spec: &Specification,
     question: &Question,
     known: &mut Option<Completion>,
+    turned: Option<Asked>,
     kept: &[Report],
     budget: u64,
     guides: &mut Guides,
@@ -83,7 +87,7 @@ pub(crate) fn searched(
     ensures too_many { (c : Rankings) → result ≡ Err (fault.TooMany c) → HasTooMany spec.now question.now c }
     ensures known { IfSome known.new (IsConsistent spec.now) }
 {
-    match known_copy(alloc, spec, known, kept) {
+    match known_copy(alloc, spec, known, turned, kept) {
         Ok(first) => told(alloc, spec, question, known, first, budget, guides),
         Err(_) => Err(AskFault::NoMemory),
     }

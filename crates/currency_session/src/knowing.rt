@@ -4,13 +4,15 @@ ghost use Rattle.std.specs.Prelude.{◌≡◌, true, All, None, Ok, IfErr, IfOk,
 ghost use Rattle.currency_session.specs.Sessions.{IsKeptReport};
 ghost use Rattle.edit_checks.specs.Stays.{StaysConsistent};
 ghost use Rattle.spec_edits.specs.Edits.{IsDueOf, IsEditOf, IsRefused, IsWithdrawal, edited};
+ghost use Rattle.spec_edits.specs.declared.edit.Edit.TheVariants.{AddGiven};
 ghost use Rattle.spec_model.specs.Consistent.{IsConsistent};
 
+use crate::looks::has_turned;
 use currency_base::NoMemory;
 use edit_checks::{copied, is_consistent, stays_consistent};
 use report_model::Report;
 use spec_edits::{Edit, EditFault, EditedSpec};
-use spec_model::{Completion, Specification};
+use spec_model::{Asked, Completion, Specification};
 use std::alloc::Global;
 
 /// Does an edit, as `EditedSpec::edit` does, and drops a known completion where the edit may break it.
@@ -38,6 +40,19 @@ pub(crate) fn edit_known(
     }
 }
 
+/// The pair that an edit adds, if it adds one.
+pub(crate) fn added_pair(edit: &Edit) -> Option<Asked>
+    ensures { IfSome result (λ asked. edit.now ≡ AddGiven asked.rel asked.pair) }
+{
+    match edit {
+        Edit::AddGiven { rel, pair } => Some(Asked {
+            rel: *rel,
+            pair: *pair,
+        }),
+        _ => None,
+    }
+}
+
 /// Does a known completion, if there is one, stay consistent over an edit?
 fn known_stays(spec: &Specification, known: &Option<Completion>, edit: &Edit) -> bool
     requires edit { IsEditOf spec.now edit.now }
@@ -60,11 +75,12 @@ fn keep_if(known: &mut Option<Completion>, stays: bool)
 }
 
 /// A copy of the known completion; where none is known, of the first that is listed by one of these reports, the newest first,
-/// and is consistent.
+/// and is consistent. One that has a given pair turned round, this one, is not looked at.
 pub(crate) fn known_copy(
     alloc: Global,
     spec: &Specification,
     known: &Option<Completion>,
+    turned: Option<Asked>,
     kept: &[Report],
 ) -> Result<Option<Completion>, NoMemory>
     requires known { IfSome known.now (IsConsistent spec.now) }
@@ -73,7 +89,7 @@ pub(crate) fn known_copy(
 {
     match known {
         Some(completion) => some_copy(alloc, spec, completion),
-        None => listed_copy(alloc, spec, kept),
+        None => listed_copy(alloc, spec, turned, kept),
     }
 }
 
@@ -97,13 +113,14 @@ fn some_copy(
 fn listed_copy(
     alloc: Global,
     spec: &Specification,
+    turned: Option<Asked>,
     kept: &[Report],
 ) -> Result<Option<Completion>, NoMemory>
     requires { All (IsKeptReport spec.now.relations) kept.now }
     ensures { IfOk result (λ found. IfSome found (IsConsistent spec.now)) }
 {
     for place in 0..kept.len() {
-        match consistent_copy(alloc, spec, &kept[kept.len() - 1 - place]) {
+        match consistent_copy(alloc, spec, turned, &kept[kept.len() - 1 - place]) {
             Ok(Some(copy)) => return Ok(Some(copy)),
             Ok(None) => {}
             Err(error) => return Err(error),
@@ -116,12 +133,13 @@ fn listed_copy(
 fn consistent_copy(
     alloc: Global,
     spec: &Specification,
+    turned: Option<Asked>,
     report: &Report,
 ) -> Result<Option<Completion>, NoMemory>
     requires { IsKeptReport spec.now.relations report.now }
     ensures { IfOk result (λ found. IfSome found (IsConsistent spec.now)) }
 {
-    if report.completions.len() == 0 {
+    if report.completions.len() == 0 || has_turned(spec, turned, report) {
         return Ok(None);
     }
     let completion = report.completions.get(0);

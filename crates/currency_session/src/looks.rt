@@ -1,14 +1,17 @@
 // A look at a report that spares a judgement.
 
-ghost use Rattle.std.specs.Prelude.{◌≡◌, false};
+ghost use Rattle.std.specs.Prelude.{◌≡◌, All, false, true};
 ghost use Rattle.std.specs.List.{list_any};
 ghost use Rattle.currency_session.specs.Looks.{is_on, names_first};
+ghost use Rattle.currency_session.specs.Sessions.{IsKeptReport};
 ghost use Rattle.report_verify.specs.Shown.{ShowsVerdict};
+ghost use Rattle.spec_model.specs.Consistent.{IsConsistent};
 ghost use Rattle.spec_model.specs.Spec.{Spec};
 
+use edit_checks::breaks_given;
 use refutation_log::Statement;
 use report_model::{Report, Verdict};
-use spec_model::{Asked, AskedList, Question};
+use spec_model::{Asked, AskedList, Question, Specification};
 
 /// Is it left open whether a report shows its verdict for a question, whatever the specification? Not where asked pairs are
 /// said to be certain, and no statement of its log is on the first of them. Takes time in proportion to the log's statements.
@@ -21,6 +24,21 @@ pub(crate) fn may_show(question: &Question, report: &Report) -> bool
             _ => true,
         },
         _ => true,
+    }
+}
+
+/// Is a pair given that the first completion of a report has turned round? Then not all that it lists are consistent. Takes
+/// time in proportion to the rows of the pair's entity.
+pub(crate) fn has_turned(spec: &Specification, turned: Option<Asked>, report: &Report) -> bool
+    requires { IsKeptReport spec.now.relations report.now }
+    ensures { result ≡ true → All (IsConsistent spec.now) report.now.completions → ⊥ }
+{
+    if report.completions.len() == 0 {
+        return false;
+    }
+    match turned {
+        Some(pair) => breaks_given(spec, pair, report.completions.get(0)),
+        None => false,
     }
 }
 

@@ -7,14 +7,14 @@ ghost use Rattle.spec_model.specs.Questions.{IsQuestionOn};
 use crate::Reply;
 use crate::asking::{first_shown, searched};
 use crate::keeping::put;
-use crate::knowing::edit_known;
+use crate::knowing::{added_pair, edit_known};
 use currency_ask::AskFault;
 use currency_base::NoMemory;
 use report_model::Report;
 use report_verify::shown_is_right;
 use solver_guides::Guides;
 use spec_edits::{Edit, EditFault, EditedSpec};
-use spec_model::{Completion, Question, Specification};
+use spec_model::{Asked, Completion, Question, Specification};
 use std::alloc::Global;
 use std::marker::Model;
 
@@ -26,6 +26,8 @@ pub struct Session {
     kept: Vec<Report>,
     // A consistent completion of the specification as it is now, if one is known.
     known: Option<Completion>,
+    // The pair that was added when a known completion was last dropped.
+    turned: Option<Asked>,
     reused: u64,
 }
 
@@ -50,6 +52,7 @@ impl Session {
                 edited,
                 kept: Vec::new(alloc),
                 known: None,
+                turned: None,
                 reused: 0,
             }),
             Err(error) => Err(error),
@@ -77,7 +80,17 @@ impl Session {
         ensures kept { self.new.kept ≡ self.old.kept }
         ensures reused { self.new.reused ≡ self.old.reused }
     {
-        edit_known(alloc, &mut self.edited, &mut self.known, edit)
+        let added = added_pair(&edit);
+        let was_known = self.known.is_some();
+        match edit_known(alloc, &mut self.edited, &mut self.known, edit) {
+            Ok(()) => {
+                if was_known && self.known.is_none() {
+                    self.turned = added;
+                }
+                Ok(())
+            }
+            Err(fault) => Err(fault),
+        }
     }
 
     /// The reports that are kept, oldest first. Takes no memory.
@@ -125,7 +138,13 @@ impl Session {
         requires { IsQuestionOn self.old.spec.relations question.now }
         ensures { Replies self.old self.new question.now budget result }
     {
-        match first_shown(alloc, self.edited.spec(), question, self.kept.as_slice()) {
+        match first_shown(
+            alloc,
+            self.edited.spec(),
+            question,
+            self.turned,
+            self.kept.as_slice(),
+        ) {
             Ok(Some(place)) => {
                 self.reused = self.reused.saturating_add(1);
                 Ok(Reply::Kept(place))
@@ -153,6 +172,7 @@ impl Session {
             self.edited.spec(),
             question,
             &mut self.known,
+            self.turned,
             self.kept.as_slice(),
             budget,
             guides,

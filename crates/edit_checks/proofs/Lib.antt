@@ -2,3 +2,4 @@ mod Lists
 mod Over
 mod Edits
 mod Filled
+mod Turned

@@ -20,12 +20,12 @@ use solver_guides::Guides;
 use spec_model::Specification;
 use std::alloc::Global;
 
-/// All stages of `session`: the specification is read, then the script, and its entries are run over the specification, one after
-/// another. The text is a first line, what each entry comes to, and `end;`; it ends undecided exactly where the search for a reply
-/// was cut off. An entry that is refused changes nothing, is told of, and the session goes on.
+/// All stages of `session`: the specification is read, then the script, and its entries are run over the specification, one
+/// after another. The text is a first line, what each entry comes to, and `end;`; it ends undecided exactly where the search for
+/// a reply was cut off. An entry that is refused changes nothing, is told of, and the session goes on.
 ///
-/// `Refused`, `CopyDiffers` and `Limit` come of the specification and the script alone. `ReadFault` comes of a table of a question
-/// too, and ends the run. An edit costs what it touches, and a question what `Session::ask` does, and names once more.
+/// `Refused`, `CopyDiffers` and `Limit` come of the specification and the script alone. `ReadFault` comes of a table of a
+/// question too, and ends the run. An edit costs what it touches, and a question what `Session::ask` does, and names once more.
 pub fn session_documents<S: Shelf>(
     alloc: Global,
     shelf: &mut S,

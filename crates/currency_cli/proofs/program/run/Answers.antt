@@ -25,7 +25,8 @@ returns-in-Ok-clause-denied g c status =
     c.in-Ok.ensures.printed c.hand_out.ensures status
 
 pub returns-in-Err-clause-denied : goal.returns-in-Err-clause-denied
-returns-in-Err-clause-denied g c status = absurd (refusal_not_one _ _ _ _ c.in-Err.trouble c.refuse.result c.refuse.ensures status)
+returns-in-Err-clause-denied g c status =
+    absurd (refusal_not_one _ _ _ _ c.in-Err.trouble c.refuse.result c.refuse.ensures status)
 
 pub returns-in-Ok-clause-undecided : goal.returns-in-Ok-clause-undecided
 returns-in-Ok-clause-undecided g c status =
