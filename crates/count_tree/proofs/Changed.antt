@@ -3,7 +3,7 @@ use Rattle.std.proofs.Common.{◌≡◌, ◌≢◌, ◌⊎◌, ◌<◌, ◌≤�
 use Rattle.std.proofs.lemmas.Bool.{cases_cond, cases_eq, cases_lt}
 use Rattle.std.proofs.lemmas.List.{get_or-set_other}
 use Rattle.std.proofs.lemmas.Option.{get_or_from_slice_get}
-use Rattle.count_tree.specs.Nodes.{AreRightBelow, IsAbove, IsBefore, IsBetter, IsRight, IsTree, leaf, no_number, node}
+use Rattle.count_tree.specs.Nodes.{AreRightBelow, AreRightBut, IsAbove, IsBefore, IsBetter, IsRight, IsTree, leaf, no_number, node}
 use Rattle.count_tree.proofs.Orders.{each_node, held, lower, upper}
 use Rattle.count_tree.proofs.Paths.{above_half}
 
@@ -55,18 +55,13 @@ module _ (counts : List ℕ) (present : List Bool) (best : List ℕ) (tree : IsT
           lower (slice_set present number now) best place h
           ∙ ap (λ (b : Bool). cond b (place - length best) no_number) same ∙ sym (lower present best place h)
 
-  -- so only the nodes above it may be wrong
-  pub present_below : (now : Bool) → AreRightBelow counts (slice_set present number now) best ((length best + number) / 2)
-  present_below now place pos within = go (cases_eq (2 * place) (length best + number))
-      (cases_eq (2 * place + 1) (length best + number))
-    where
-      go : (2 * place ≡ length best + number) ⊎ (2 * place ≢ length best + number) →
-          (2 * place + 1 ≡ length best + number) ⊎ (2 * place + 1 ≢ length best + number)
-          → IsRight counts (slice_set present number now) best place ⊎ IsAbove place ((length best + number) / 2)
-      go (inl e) right = inr (record { steps = 0; is = omega arith })
-      go (inr left) (inl e) = inr (record { steps = 0; is = omega arith })
-      go (inr left) (inr right) = inl (rw (other_node now (2 * place) left, other_node now (2 * place + 1) right)
-          (tree.right place pos within))
+  -- so only the node above its own may be wrong
+  pub present_but : (now : Bool) → AreRightBut counts (slice_set present number now) best ((length best + number) / 2)
+  present_but now place pos within differ =
+      rw (
+        other_node now (2 * place) (λ e. differ (omega arith)),
+        other_node now (2 * place + 1) (λ e. differ (omega arith)),
+      ) (tree.right place pos within)
 
   -- a number stands at its own node and above it
   stands : number < length best → (place : ℕ) → 0 < place → node present best place ≡ number → IsAbove place

@@ -1,9 +1,9 @@
 -- A tree where one node is written.
-use Rattle.std.proofs.Common.{◌≡◌, ◌≢◌, ◌⊎◌, ◌<◌, ◌≤◌, ◌+◌, ◌*◌, ◌/◌, ◌∙◌, ◌++◌, ℕ, zero, suc, Bool, List, take, drop, length, slice_set, sym, ap, inl, inr, arith}
+use Rattle.std.proofs.Common.{◌≡◌, ◌≢◌, ◌⊎◌, ◌<◌, ◌≤◌, ◌+◌, ◌*◌, ◌/◌, ◌∙◌, ◌++◌, ℕ, zero, suc, Bool, List, take, drop, length, slice_index_or, slice_set, sym, ap, inl, inr, arith}
 use Rattle.std.proofs.Math.Seq.{take-append_seam}
 use Rattle.std.proofs.lemmas.Bool.{cases_eq}
 use Rattle.std.proofs.lemmas.List.{length-set, get_or-set_same, get_or-set_other}
-use Rattle.count_tree.specs.Nodes.{AreRightBelow, IsAbove, IsBetter, IsRight, IsTree, above, node}
+use Rattle.count_tree.specs.Nodes.{AreRightBelow, AreRightBut, IsAbove, IsBetter, IsRight, IsTree, above, node}
 use Rattle.count_tree.proofs.Paths.{above_half, above_zero}
 
 module _ (present : List Bool) (best : List ℕ) (here x : ℕ) where
@@ -50,6 +50,18 @@ module _ (present : List Bool) (best : List ℕ) (here x : ℕ) where
         go (inr differ) (inl half) = inr (record { steps = 0; is = half })
         go (inr differ) (inr half) = stays differ half (below place pos_place (omega (arith, length-set best here x)))
 
+    -- so where it alone may be wrong before, the one above it alone may be after
+    pub right_but : 0 < here → here < length best → IsBetter counts (node present best (2 * here))
+        (node present best (2 * here + 1)) x
+        → AreRightBut counts present best here → AreRightBut counts present (slice_set best here x) (here / 2)
+    right_but pos within better but place pos_place within_place half = go (cases_eq place here)
+      where
+        go : (place ≡ here) ⊎ (place ≢ here) → IsRight counts present (slice_set best here x) place
+        go (inl e) = rw e (right_here pos within better)
+        go (inr differ) =
+            right_other place differ (λ e. half (omega arith)) (λ e. half (omega arith))
+            (but place pos_place (omega (arith, length-set best here x)) differ)
+
     -- all that come after it are right still, and it is
     pub right_after : 0 < here → here < length best → IsBetter counts (node present best (2 * here))
         (node present best (2 * here + 1)) x
@@ -76,6 +88,21 @@ all_right counts present best here none below place pos within = go (below place
     go (inr is) =
         let zero_is : place ≡ 0 = is.is ∙ ap (above is.steps) none ∙ above_zero is.steps in
         absurd (omega arith)
+
+-- nor where the one that may be has the better one already
+pub right_all : (counts : List ℕ) (present : List Bool) (best : List ℕ) (here x : ℕ) → slice_index_or best here 0 ≡ x
+    → IsBetter counts (node present best (2 * here)) (node present best (2 * here + 1)) x → AreRightBut counts present best here
+    → (place : ℕ) → 0 < place → place < length best → IsRight counts present best place
+right_all counts present best here x is better but place pos within = go (cases_eq place here)
+  where
+    go : (place ≡ here) ⊎ (place ≢ here) → IsRight counts present best place
+    go (inl e) = rw (e, is) better
+    go (inr differ) = but place pos within differ
+
+-- nor where that is none
+pub right_none : (counts : List ℕ) (present : List Bool) (best : List ℕ) (here : ℕ) → here ≡ 0
+    → AreRightBut counts present best here → (place : ℕ) → 0 < place → place < length best → IsRight counts present best place
+right_none counts present best here none but place pos within = but place pos within (λ e. omega (arith, none))
 
 -- a vector whose items were written holds what was written
 pub put_back : {A : Type 0} (xs ys : List A) (n : ℕ) → n ≡ length xs → length ys ≡ length xs

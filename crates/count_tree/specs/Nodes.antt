@@ -1,6 +1,6 @@
 -- Nodes of a tournament. Node i, from 1 on, has the one of what stands at its children 2i and 2i + 1 that comes first.
 -- The last half of all nodes are the numbers themselves, where they are present.
-use Rattle.std.specs.Prelude.{◌≡◌, ◌⊎◌, ◌<◌, ◌≤◌, ◌+◌, ◌-◌, ◌*◌, ◌/◌, ℕ, zero, suc, Bool, false, cond, List, length, nat_lt, slice_index_or}
+use Rattle.std.specs.Prelude.{◌≡◌, ◌≢◌, ◌⊎◌, ◌<◌, ◌≤◌, ◌+◌, ◌-◌, ◌*◌, ◌/◌, ℕ, zero, suc, Bool, false, cond, List, length, nat_lt, slice_index_or}
 
 -- what stands at a node with no present number below it; it comes after each number
 abbrev pub no_number : ℕ
@@ -55,3 +55,8 @@ pub record IsAbove (place other : ℕ) : Type 0 where
 abbrev pub AreRightBelow : List ℕ → List Bool → List ℕ → ℕ → Type 0
 AreRightBelow counts present best other = (place : ℕ) → 0 < place → place < length best → IsRight counts present best
     place ⊎ IsAbove place other
+
+-- all nodes are right but one
+abbrev pub AreRightBut : List ℕ → List Bool → List ℕ → ℕ → Type 0
+AreRightBut counts present best other = (place : ℕ) → 0 < place → place < length best → place ≢ other
+    → IsRight counts present best place

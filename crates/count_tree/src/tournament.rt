@@ -1,5 +1,5 @@
 ghost use Rattle.std.specs.Prelude.{◌≡◌, ◌<◌, ◌≤◌, ◌+◌, ◌*◌, ◌/◌, ◌^◌, ℕ, length, map, slice_index_or};
-ghost use Rattle.count_tree.specs.Nodes.{AreRightBelow, IsBetter, IsRight, count_at, node};
+ghost use Rattle.count_tree.specs.Nodes.{AreRightBelow, AreRightBut, IsBetter, IsRight, count_at, node};
 
 /// What stands at a node with no present number below it.
 pub(crate) const NO_NUMBER: u32 = u32::MAX;
@@ -72,6 +72,27 @@ pub(crate) fn mend(counts: &[u64], present: &[bool], best: &mut [u32], start: us
     let mut place = start;
     while place > 0 {
         best[place] = winner(counts, present, best, place);
+        place /= 2;
+    }
+}
+
+/// Sets a node right, and those above it up to where one stays as it is, where no others are wrong. Such a node's number is
+/// compared with the same counts as before.
+pub(crate) fn mend_up(counts: &[u64], present: &[bool], best: &mut [u32], start: usize)
+    requires few { length best.old ≤ 4294967295 }
+    requires same { length present.now ≡ length best.old }
+    requires within { start < length best.old }
+    requires others { AreRightBut counts.now present.now best.old start }
+    ensures length { length best.new ≡ length best.old }
+    ensures right { (place : ℕ) → 0 < place → place < length best.new → IsRight counts.now present.now best.new place }
+{
+    let mut place = start;
+    while place > 0 {
+        let first = winner(counts, present, best, place);
+        if best[place] == first {
+            return;
+        }
+        best[place] = first;
         place /= 2;
     }
 }

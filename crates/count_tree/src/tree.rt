@@ -1,7 +1,7 @@
 ghost use Rattle.std.specs.Prelude.{◌≡◌, ◌<◌, ◌≤◌, ◌/◌, ◌^◌, [], Some, true, false, length, map, replicate, slice_get, slice_set, OnOk, OnErr, IfSome, IfNone, ℕ};
 ghost use Rattle.count_tree.specs.Greatest.{IsGreatest};
 
-use crate::tournament::{NO_NUMBER, divide_all, mend, mend_all, node};
+use crate::tournament::{NO_NUMBER, divide_all, mend, mend_all, mend_up, node};
 use currency_base::NoMemory;
 use std::alloc::Global;
 use std::marker::Model;
@@ -100,15 +100,18 @@ impl CountTree {
         mend(&self.counts, &self.present, &mut self.best, above);
     }
 
-    /// Makes a number present, or takes it off.
+    /// Makes a number present, or takes it off. Where it is so already, this takes constant time.
     pub fn set_present(&mut self, number: u32, present: bool)
         requires { number < length self.old.counts }
         ensures counts { self.new.counts ≡ self.old.counts }
         ensures present { self.new.present ≡ slice_set self.old.present number present }
     {
+        if self.present[number as usize] == present {
+            return;
+        }
         self.present[number as usize] = present;
         let above = (self.best.len() + number as usize) / 2;
-        mend(&self.counts, &self.present, &mut self.best, above);
+        mend_up(&self.counts, &self.present, &mut self.best, above);
     }
 
     /// Divides all counts by 2 to the power of a number below 64, rounded down. Takes time in proportion to all numbers.

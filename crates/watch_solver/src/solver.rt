@@ -208,9 +208,9 @@ impl Solver {
         if self.failed {
             return Err(NoMemory);
         }
-        self.state.undo_to(0, guides);
         guides.leave(self.state.trail().values().scope());
         let focused = self.state.focus(alloc, scope);
+        self.state.undo_to(0, guides);
         guides.enter(self.state.trail().values().scope());
         self.failed = focused.is_err();
         focused
