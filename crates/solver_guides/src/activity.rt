@@ -122,7 +122,7 @@ impl Guide for Activity {
         ensures counts { counts_of self.new ≡ counts_of self.old }
         ensures bump { bump_of self.new ≡ bump_of self.old }
     {
-        mark_all(&mut self.tree, scope, false);
+        take_off(&mut self.tree, scope);
     }
 
     fn enter(&mut self, scope: &[u32])
@@ -131,7 +131,7 @@ impl Guide for Activity {
         ensures counts { counts_of self.new ≡ counts_of self.old }
         ensures bump { bump_of self.new ≡ bump_of self.old }
     {
-        mark_all(&mut self.tree, scope, true);
+        make_present(&mut self.tree, scope);
     }
 
     fn restarted(&mut self)
@@ -159,13 +159,23 @@ fn mark(tree: &mut CountTree, var: u32, present: bool)
     }
 }
 
-// Makes variables present or takes them off, where they are in range.
-fn mark_all(tree: &mut CountTree, vars: &[u32], present: bool)
+// Makes variables present, where they are in range: the first one first, so that of equal counts the others stand at few nodes.
+fn make_present(tree: &mut CountTree, vars: &[u32])
     ensures counts { tree.new.counts ≡ tree.old.counts }
-    ensures present { tree.new.present ≡ marked tree.old.present vars.now present }
+    ensures present { tree.new.present ≡ marked tree.old.present vars.now true }
 {
     for var in vars {
-        mark(tree, *var, present);
+        mark(tree, *var, true);
+    }
+}
+
+// Takes variables off, where they are in range: the last one first, since of equal counts it stands at few nodes.
+fn take_off(tree: &mut CountTree, vars: &[u32])
+    ensures counts { tree.new.counts ≡ tree.old.counts }
+    ensures present { tree.new.present ≡ marked tree.old.present vars.now false }
+{
+    for place in 0..vars.len() {
+        mark(tree, vars[vars.len() - 1 - place], false);
     }
 }
 
