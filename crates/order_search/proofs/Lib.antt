@@ -6,3 +6,4 @@ mod Beginning
 mod Falsified
 mod Matched
 mod Rows
+mod Lasts

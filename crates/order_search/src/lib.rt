@@ -3,6 +3,7 @@
 #![tactic(auto)]
 
 mod bringing;
+mod lasting;
 mod linked;
 mod matching;
 mod opening;
