@@ -5,7 +5,7 @@ use Rattle.std.proofs.lemmas.List.{append-nil, get_or_append_left, length-append
 use Rattle.std.proofs.Math.Seq.{get_or-append_seam}
 use Rattle.std.proofs.lemmas.List.Elements.{Contains-get_or}
 use Rattle.std.proofs.lemmas.List.Sums.{sum_by-append}
-use Rattle.std.proofs.lemmas.Option.{slice_get-get_or, slice_get_within}
+use Rattle.std.proofs.lemmas.Option.{get_or_from_slice_get, slice_get-get_or, slice_get_within}
 use Rattle.currency_base.specs.Lists.{OnlyOnce}
 use Rattle.currency_base.specs.Literals.{negation, var_of}
 use Rattle.currency_base.specs.declared.ids.AttrId.{AttrId}
@@ -13,7 +13,7 @@ use Rattle.currency_base.specs.declared.ids.RelId.{RelId}
 use Rattle.currency_base.specs.declared.ids.RowId.{RowId}
 use Rattle.currency_base.specs.declared.lit.Lit.{Lit}
 use Rattle.entity_lists.specs.Lists.{entities_of, rows_of}
-use Rattle.entity_lists.proofs.Facts.{rows_once}
+use Rattle.entity_lists.proofs.Facts.{member_of, rows_once}
 use Rattle.spec_model.specs.declared.relation.Relation.{Relation}
 use Rattle.value_names.specs.Names.{name_of}
 use Rattle.refutation_log.specs.Counted.{counted_steps}
@@ -24,7 +24,7 @@ use Rattle.refutation_log.specs.declared.statement.Statement.TheVariants as says
 use Rattle.refutation_log.specs.declared.step.Step.{Step}
 use Rattle.refutation_log.specs.declared.step.Step.TheVariants.{Learn}
 use Rattle.order_literals.specs.Laws.{NegationSays, OneLiteral, OneSaid, SaysWithin}
-use Rattle.order_literals.specs.Numbers.{Numbers, numbers_of}
+use Rattle.order_literals.specs.Numbers.{Numbers, is_wanted, numbers_of}
 use Rattle.order_literals.specs.Said.{Said, Says, before, last, not_before, not_top, top, turned}
 use Rattle.order_links.specs.declared.list.ListId.{ListId}
 use Rattle.search_state.specs.States.{IsFit}
@@ -33,7 +33,7 @@ use Rattle.last_rows.specs.Rows.{AreApart, AreDerived, AreWithin, IsDerivedStep,
 use Rattle.last_rows.specs.declared.rows.RowList.{RowList}
 use Rattle.order_search.specs.Kept.{AreRowsOf, HasAdded, IsHeld, vars_of}
 use Rattle.order_search.specs.Lasting.{AreSaid, EachIs, IsDerivation, IsNextStep, KeepsHeld, SaysBefore, SaysName, SaysTop}
-use Rattle.order_search.specs.Searches.{Subject}
+use Rattle.order_search.specs.Searches.{IsWantedRow, Subject}
 use Rattle.order_search.proofs.Growing.{added_then, held_grown}
 
 -- ---- lists that are made item by item
@@ -54,8 +54,40 @@ each_more {A} d P n xs x were is = (
       (cases_eq i (length xs)),
 )
 
+-- where the item was put behind the others
+pub each_put : {A : Type 0} (d : A) (P : ℕ → A → Type 0) (n : ℕ) (xs now : List A) (x : A) → EachIs d P n xs
+    → now ≡ xs ++ x ∷ [] → P n x → EachIs d P (n + 1) now
+each_put {A} d P n xs now x were is p = subst (λ (ys : List A). EachIs d P (n + 1) ys) (sym is) (each_more d P n xs x were p)
+
 pub each_all : {A : Type 0} (d : A) (P : ℕ → A → Type 0) (n m : ℕ) (xs : List A) → n ≡ m → EachIs d P n xs → EachIs d P m xs
 each_all {A} d P n m xs e is = subst (λ (k : ℕ). EachIs d P k xs) e is
+
+-- ---- rows that are read
+
+-- what holds of the row that was read holds of the row at its place
+pub row_read : (P : RowId → Type 0) (rows : List RowId) (i : ℕ) (d : RowId) → P (get_or rows i d) → (row : RowId)
+    → slice_get rows i ≡ Some row → P row
+row_read P rows i d is row at = subst P (get_or_from_slice_get rows i row d at) is
+
+-- a row of a list of a relation whose current values are wanted
+pub row_wanted : (s : Subject) (list : ListId) (rows : List RowId) → AreRowsOf s list rows
+    → is_wanted s.wanted.currents list.rel.0 ≡ true → (i : ℕ) (d : RowId) → i < length rows
+    → IsWantedRow s.spec s.wanted list.rel list.attr (get_or rows i d)
+row_wanted s list rows are wanted i d within =
+    let table = are.is_list.relation.rows in
+    let at : slice_get (rows_of (entities_of table) list.ent.0) i ≡ Some (get_or rows i d) =
+    ap (λ (xs : List RowId). slice_get xs i) (sym (are.rows_are are.is_list.relation are.is_list.is_relation))
+    ∙ slice_get-get_or rows i d within in
+    let many : length (entities_of table) ≡ length table = length-map table (λ row. row.entity.0) in
+    let low = slice_get_within (entities_of table) (get_or rows i d).0 list.ent.0
+    (member_of (entities_of table) list.ent.0 i (get_or rows i d) at) in
+    record {
+      relation = are.is_list.relation;
+      is_relation = are.is_list.is_relation;
+      attr_within = are.is_list.attr_within;
+      row_within = omega (arith, low, many);
+      is_wanted = wanted;
+    }
 
 -- ---- what is said once
 

@@ -36,6 +36,7 @@ pub(crate) fn add_lasts(
     requires cycle { IsOfList subject.now cycle }
     requires statements { progress.old.solver.frame.statements ≡ vars_of subject.now }
     ensures keeps { KeepsHeld progress.old.solver progress.new.solver }
+    ensures scope { progress.new.solver.trail.scope ≡ progress.old.solver.trail.scope }
     ensures added { HasAdded progress.old.solver progress.new.solver }
     ensures units { counted_steps progress.new.solver.steps ≡ counted_steps progress.old.solver.steps }
     ensures brought { progress.new.brought.items ≡ progress.old.brought.items }
@@ -340,6 +341,7 @@ impl Places {
 fn put_all(solver: &mut Solver, steps: &Steps, guides: &mut Guides) -> Result<(), NoMemory>
     requires { IsDerivation (length solver.old.frame.statements) (clauses_of solver.old.steps) steps.now }
     ensures keeps { KeepsHeld solver.old solver.new }
+    ensures scope { solver.new.trail.scope ≡ solver.old.trail.scope }
     ensures added { HasAdded solver.old solver.new }
     ensures units { counted_steps solver.new.steps ≡ counted_steps solver.old.steps }
 {
@@ -356,6 +358,7 @@ fn put_all(solver: &mut Solver, steps: &Steps, guides: &mut Guides) -> Result<()
 fn put(solver: &mut Solver, step: StepRef<'_>, guides: &mut Guides) -> Result<(), NoMemory>
     requires { IsNextStep (length solver.old.frame.statements) (clauses_of solver.old.steps) (step_of step) }
     ensures keeps { KeepsHeld solver.old solver.new }
+    ensures scope { solver.new.trail.scope ≡ solver.old.trail.scope }
     ensures added { HasAdded solver.old solver.new }
     ensures units { counted_steps solver.new.steps ≡ counted_steps solver.old.steps }
     ensures ok { OnOk result (solver.new.steps ≡ solver.old.steps ++ step_of step.entry ∷ []) }

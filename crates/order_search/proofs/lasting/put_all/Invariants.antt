@@ -7,6 +7,7 @@ use Rattle.order_search.proofs.lasting.put_all.Given as goal
 abbrev pub invariant-loop-place : goal.invariant-loop-place
 invariant-loop-place g l = record {
   keeps : KeepsHeld l.initial.solver l.solver;
+  scope : l.solver.trail.scope ≡ l.initial.solver.trail.scope;
   added : HasAdded l.initial.solver l.solver;
   units : counted_steps l.solver.steps ≡ counted_steps l.initial.solver.steps;
   steps : l.solver.steps ≡ l.initial.solver.steps ++ take l.place l.steps;

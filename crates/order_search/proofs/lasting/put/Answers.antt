@@ -1,0 +1,7 @@
+use Rattle.order_search.proofs.Lasts.{grown_keeps}
+use Rattle.order_search.proofs.lasting.put.Goals as goal
+
+pub returns-in-Ok-clause-keeps : goal.returns-in-Ok-clause-keeps
+returns-in-Ok-clause-keeps g c =
+    grown_keeps c.args.solver.now c.add_derived.new.self c.add_derived.ensures.frame c.add_derived.ensures.scope
+    c.add_derived.ensures.grown
