@@ -69,6 +69,18 @@ pub row_read : (P : RowId → Type 0) (rows : List RowId) (i : ℕ) (d : RowId) 
     → slice_get rows i ≡ Some row → P row
 row_read P rows i d is row at = subst P (get_or_from_slice_get rows i row d at) is
 
+-- so too of two rows
+pub rows_read : (s : Subject) (list : ListId) (rows : List RowId) (i j : ℕ) (d : RowId) (lit : Lit)
+    → Says (vars_of s) lit (before list.rel list.attr (get_or rows i d) (get_or rows j d)) → SaysBefore s list rows i j lit
+rows_read s list rows i j d lit says differ row other at_i at_j =
+    subst (λ (a : RowId). Says (vars_of s) lit (before list.rel list.attr a other)) (get_or_from_slice_get rows i row d at_i)
+    (subst (λ (b : RowId). Says (vars_of s) lit (before list.rel list.attr (get_or rows i d) b))
+    (get_or_from_slice_get rows j other d at_j) says)
+
+-- where they are one, nothing is said
+pub none_read : (s : Subject) (list : ListId) (rows : List RowId) (i j : ℕ) (lit : Lit) → j ≡ i → SaysBefore s list rows i j lit
+none_read s list rows i j lit same differ row other at_i at_j = absurd (differ (sym same))
+
 -- a row of a list of a relation whose current values are wanted
 pub row_wanted : (s : Subject) (list : ListId) (rows : List RowId) → AreRowsOf s list rows
     → is_wanted s.wanted.currents list.rel.0 ≡ true → (i : ℕ) (d : RowId) → i < length rows
