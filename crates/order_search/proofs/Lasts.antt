@@ -1,40 +1,37 @@
 -- The literals of a list's rows, and steps that are derived of them.
-use Rattle.std.proofs.Common.{◌≡◌, ◌≢◌, ◌⊎◌, ◌<◌, ◌≤◌, ◌∙◌, ◌+◌, ℕ, zero, suc, Bool, true, false, not, cond, List, [], ◌∷◌, ◌++◌, All, Contains, Ok, Err, OnOk, Result, Some, get_or, length, map, take, slice_get, refl, sym, ap, subst, inl, inr, ⊎_elim, arith}
+use Rattle.std.proofs.Common.{◌≡◌, ◌≢◌, ◌<◌, ◌∙◌, ◌+◌, ℕ, Bool, true, false, cond, List, [], ◌∷◌, ◌++◌, Ok, Err, OnOk, Result, Some, get_or, length, take, slice_get, refl, sym, ap, subst, inl, inr, ⊎_elim, arith}
 use Rattle.std.proofs.lemmas.Bool.{cases_eq, false≢true}
-use Rattle.std.proofs.lemmas.List.{append-nil, get_or_append_left, length-append, length-map, map-append, take-append-le, take_more}
+use Rattle.std.proofs.lemmas.List.{append-nil, get_or_append_left, length-append, length-map, map-append}
 use Rattle.std.proofs.Math.Seq.{get_or-append_seam}
 use Rattle.std.proofs.lemmas.List.Elements.{Contains-get_or}
 use Rattle.std.proofs.lemmas.List.Sums.{sum_by-append}
 use Rattle.std.proofs.lemmas.Option.{get_or_from_slice_get, slice_get-get_or, slice_get_within}
 use Rattle.currency_base.specs.Lists.{OnlyOnce}
-use Rattle.currency_base.specs.Literals.{negation, var_of}
+use Rattle.currency_base.specs.Literals.{negation}
 use Rattle.currency_base.specs.declared.ids.AttrId.{AttrId}
 use Rattle.currency_base.specs.declared.ids.RelId.{RelId}
 use Rattle.currency_base.specs.declared.ids.RowId.{RowId}
 use Rattle.currency_base.specs.declared.lit.Lit.{Lit}
 use Rattle.entity_lists.specs.Lists.{entities_of, rows_of}
 use Rattle.entity_lists.proofs.Facts.{member_of, rows_once}
-use Rattle.spec_model.specs.declared.relation.Relation.{Relation}
 use Rattle.value_names.specs.Names.{name_of}
 use Rattle.refutation_log.specs.Counted.{counted_steps}
 use Rattle.refutation_log.specs.Follows.{FollowsFrom}
 use Rattle.refutation_log.specs.Steps.{clause_of, clauses_of, is_counted}
-use Rattle.refutation_log.specs.declared.statement.Statement.{Statement}
 use Rattle.refutation_log.specs.declared.statement.Statement.TheVariants as says
 use Rattle.refutation_log.specs.declared.step.Step.{Step}
 use Rattle.refutation_log.specs.declared.step.Step.TheVariants.{Learn}
 use Rattle.order_literals.specs.Laws.{NegationSays, OneLiteral, OneSaid, SaysWithin}
-use Rattle.order_literals.specs.Numbers.{Numbers, is_wanted, numbers_of}
+use Rattle.order_literals.specs.Numbers.{is_wanted, numbers_of}
 use Rattle.order_literals.specs.Said.{Said, Says, before, last, not_before, not_top, top, turned}
 use Rattle.order_links.specs.declared.list.ListId.{ListId}
-use Rattle.search_state.specs.States.{IsFit}
 use Rattle.watch_solver.specs.Decided.{HasGrown, Solver}
-use Rattle.last_rows.specs.Rows.{AreApart, AreDerived, AreWithin, IsDerivedStep, Literals, literals_of, no_lit}
+use Rattle.last_rows.specs.Rows.{AreApart, AreWithin, Literals, literals_of}
 use Rattle.last_rows.specs.declared.rows.RowList.{RowList}
 use Rattle.order_search.specs.Kept.{AreRowsOf, HasAdded, IsHeld, vars_of}
-use Rattle.order_search.specs.Lasting.{AreSaid, EachIs, IsDerivation, IsNextStep, KeepsHeld, SaysBefore, SaysName, SaysTop}
+use Rattle.order_search.specs.Lasting.{AreSaid, EachIs, IsDerivation, IsNextStep, KeepsHeld, SaysBefore}
 use Rattle.order_search.specs.Searches.{IsWantedRow, Subject}
-use Rattle.order_search.proofs.Growing.{added_then, held_grown}
+use Rattle.order_search.proofs.Growing.{held_grown}
 
 -- ---- lists that are made item by item
 

@@ -1,5 +1,5 @@
 -- That some row of a list is last: what is said of its rows, and what is derived of them.
-use Rattle.std.specs.Prelude.{◌≡◌, ◌≢◌, ◌<◌, ◌++◌, ℕ, Bool, false, List, [], Some, length, slice_get, slice_index_or}
+use Rattle.std.specs.Prelude.{◌≡◌, ◌≢◌, ◌<◌, ℕ, Bool, false, List, [], Some, length, slice_get, slice_index_or}
 use Rattle.currency_base.specs.Lists.{OnlyOnce}
 use Rattle.currency_base.specs.declared.ids.RowId.{RowId}
 use Rattle.currency_base.specs.declared.lit.Lit.{Lit}
@@ -12,7 +12,7 @@ use Rattle.search_state.specs.States.{IsFit}
 use Rattle.order_literals.specs.Said.{Says, before, last, top}
 use Rattle.order_links.specs.declared.list.ListId.{ListId}
 use Rattle.watch_solver.specs.Decided.{Solver}
-use Rattle.last_rows.specs.Rows.{AreApart, AreDerived, AreWithin, EndsCurrent, Literals, no_lit}
+use Rattle.last_rows.specs.Rows.{AreDerived, AreWithin, EndsCurrent, Literals, no_lit}
 use Rattle.last_rows.specs.declared.rows.RowList.{RowList}
 use Rattle.order_search.specs.Kept.{IsHeld, vars_of}
 use Rattle.order_search.specs.Searches.{Subject}
