@@ -1,5 +1,5 @@
 -- That some row of a list is last: what is said of its rows, and what is derived of them.
-use Rattle.std.specs.Prelude.{◌≡◌, ◌≢◌, ◌<◌, ℕ, Bool, false, List, [], Some, length, slice_get, slice_index_or}
+use Rattle.std.specs.Prelude.{◌≡◌, ◌≢◌, ◌<◌, ◌+◌, ℕ, Bool, false, List, [], Some, length, min, slice_get, slice_index_or}
 use Rattle.currency_base.specs.Lists.{OnlyOnce}
 use Rattle.currency_base.specs.declared.ids.RowId.{RowId}
 use Rattle.currency_base.specs.declared.lit.Lit.{Lit}
@@ -20,6 +20,10 @@ use Rattle.order_search.specs.Searches.{Subject}
 -- there are so many items, and each is such as its number says
 abbrev pub EachIs : {A : Type 0} → A → (ℕ → A → Type 0) → ℕ → List A → Type 0
 EachIs {A} d P n xs = (length xs ≡ n) × ((i : ℕ) → i < n → P i (slice_index_or xs i d))
+
+-- the place behind another, as far as places have numbers
+abbrev pub next_place : ℕ → ℕ
+next_place place = min (place + 1) 4294967295
 
 -- a literal says that the row of that number in a list stands last; before another; or that its value is current
 abbrev pub SaysTop : Subject → ListId → List RowId → ℕ → Lit → Type 0

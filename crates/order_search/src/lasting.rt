@@ -1,4 +1,5 @@
-ghost use Rattle.std.specs.Prelude.{◌≡◌, ◌≢◌, ◌<◌, ◌++◌, ◌∷◌, [], ℕ, List, true, false, length, IfOk, IfSome, OnOk, Some, slice_get};
+ghost use Rattle.std.specs.Prelude.{◌≡◌, ◌≢◌, ◌<◌, ◌++◌, ◌∷◌, [], ℕ, List, true, false, length, IfOk, IfSome, OnOk, Some, map, slice_get, slice_index_or};
+ghost use Rattle.currency_base.specs.Literals.{var_of};
 ghost use Rattle.currency_base.specs.declared.lit.Lit.{Lit};
 ghost use Rattle.order_literals.specs.Numbers.{is_wanted};
 ghost use Rattle.order_links.specs.Lists.{IsListOf};
@@ -6,7 +7,7 @@ ghost use Rattle.last_rows.specs.Rows.{no_lit};
 ghost use Rattle.refutation_log.specs.Counted.{counted_steps};
 ghost use Rattle.refutation_log.specs.Steps.{clauses_of, step_of};
 ghost use Rattle.order_search.specs.Kept.{AreRowsOf, HasAdded, IsHeld, IsOfList, vars_of};
-ghost use Rattle.order_search.specs.Lasting.{AreSaid, EachIs, IsDerivation, IsNextStep, KeepsHeld, SaysBefore, SaysName, SaysTop};
+ghost use Rattle.order_search.specs.Lasting.{AreSaid, EachIs, IsDerivation, IsNextStep, KeepsHeld, SaysBefore, SaysName, SaysTop, next_place};
 
 use crate::progress::Progress;
 use crate::subject::Subject;
@@ -74,7 +75,9 @@ pub(crate) fn add_lasts(
 }
 
 // Writes for each variable the place of the axiom `top` that begins with its literal, unless that was done before.
-fn find_tops(alloc: Global, vars: u32, steps: &Steps, tops: &mut Vec<u32>) -> Result<(), NoMemory> {
+fn find_tops(alloc: Global, vars: u32, steps: &Steps, tops: &mut Vec<u32>) -> Result<(), NoMemory>
+    ensures { OnOk result (tops.old.items ≡ [] → length tops.new.items ≡ vars) }
+{
     if !tops.is_empty() {
         return Ok(());
     }
@@ -89,7 +92,9 @@ fn find_tops(alloc: Global, vars: u32, steps: &Steps, tops: &mut Vec<u32>) -> Re
 }
 
 // Writes the place of a step, if it is an axiom `top`.
-fn note_top(step: StepRef<'_>, place: usize, tops: &mut Vec<u32>) {
+fn note_top(step: StepRef<'_>, place: usize, tops: &mut Vec<u32>)
+    ensures { length tops.new.items ≡ length tops.old.items }
+{
     let StepRef::Axiom {
         label: LabelRef::Top { .. },
         lits,
@@ -293,7 +298,12 @@ struct Places {
 
 // Those of rows whose standing last is said by these literals: of three rows from this place on, by the greatest row, and then by
 // the second greatest.
-fn places_of(alloc: Global, tops: &[u32], lits: &[Lit], first: usize) -> Result<Places, NoMemory> {
+fn places_of(alloc: Global, tops: &[u32], lits: &[Lit], first: usize) -> Result<Places, NoMemory>
+    ensures tops { IfOk result (λ p. p.top_places.items ≡ map (λ lit. slice_index_or tops.now (var_of lit) 0) lits.now) }
+    ensures lasts { IfOk result (λ p. p.last_places.items ≡ map next_place p.top_places.items) }
+    ensures thirds { IfOk result (λ p. length p.thirds.items ≡ length lits.now) }
+    ensures seconds { IfOk result (λ p. length p.seconds.items ≡ length lits.now) }
+{
     let mut places = Places {
         top_places: Vec::new(alloc),
         last_places: Vec::new(alloc),
@@ -317,7 +327,12 @@ fn places_of(alloc: Global, tops: &[u32], lits: &[Lit], first: usize) -> Result<
 
 impl Places {
     // Puts those of a row after the others.
-    fn put(&mut self, top: u32, third: u32, pairs: u32) -> Result<(), NoMemory> {
+    fn put(&mut self, top: u32, third: u32, pairs: u32) -> Result<(), NoMemory>
+        ensures tops { OnOk result (self.new.top_places.items ≡ self.old.top_places.items ++ top ∷ []) }
+        ensures lasts { OnOk result (self.new.last_places.items ≡ self.old.last_places.items ++ next_place top ∷ []) }
+        ensures thirds { OnOk result (self.new.thirds.items ≡ self.old.thirds.items ++ third ∷ []) }
+        ensures seconds { OnOk result (self.new.seconds.items ≡ self.old.seconds.items ++ pairs ∷ []) }
+    {
         match self.top_places.push(top) {
             Ok(()) => {}
             Err(_) => return Err(NoMemory),
