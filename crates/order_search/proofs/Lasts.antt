@@ -116,13 +116,15 @@ signs_differ : (s t : Said) → s.negative ≡ false → t.negative ≡ true →
 signs_differ s t off on e = false≢true (sym off ∙ ap (λ (x : Said). x.negative) e ∙ on)
 
 top_no_pair : (rel : RelId) (attr : AttrId) (a b c : RowId) (n m : Bool)
-    → ◌≡◌ {A = Said} (record { statement = says.Before rel attr a b; negative = n }) (record { statement = says.Top rel attr c; negative = m }) → ⊥
+    → ◌≡◌ {A = Said} (record { statement = says.Before rel attr a b; negative = n })
+    (record { statement = says.Top rel attr c; negative = m }) → ⊥
 top_no_pair rel attr a b c n m e =
     let same : says.Before rel attr a b ≡ says.Top rel attr c = ap (λ (s : Said). s.statement) e in
     let no : ⊥ = cc in no
 
 top_no_last : (rel : RelId) (attr : AttrId) (a b : RowId) (n m : Bool)
-    → ◌≡◌ {A = Said} (record { statement = says.Last rel attr a; negative = n }) (record { statement = says.Top rel attr b; negative = m }) → ⊥
+    → ◌≡◌ {A = Said} (record { statement = says.Last rel attr a; negative = n })
+    (record { statement = says.Top rel attr b; negative = m }) → ⊥
 top_no_last rel attr a b n m e =
     let same : says.Last rel attr a ≡ says.Top rel attr b = ap (λ (s : Said). s.statement) e in
     let no : ⊥ = cc in no
@@ -185,9 +187,11 @@ module _ (s : Subject) (list : ListId) (rows : List RowId) (l : RowList) (are : 
       (λ (p : before list.rel list.attr (row a) (row b) ≡ turned (before list.rel list.attr (row i) (row j))).
       absurd (signs_differ (before list.rel list.attr (row a) (row b)) (turned (before list.rel list.attr (row i) (row j)))
       refl refl p))
-      (one_said (vars_of s) (lits.before i j) (before list.rel list.attr (row i) (row j)) (before list.rel list.attr (row a) (row b))
+      (one_said (vars_of s) (lits.before i j) (before list.rel list.attr (row i) (row j))
+      (before list.rel list.attr (row a) (row b))
       (says_before i j at_i at_j differ)
-      (subst (λ (x : Lit). Says (vars_of s) x (before list.rel list.attr (row a) (row b))) (sym e) (says_before a b at_a at_b differ')))
+      (subst (λ (x : Lit). Says (vars_of s) x (before list.rel list.attr (row a) (row b))) (sym e)
+      (says_before a b at_a at_b differ')))
 
   top_is : (i j : ℕ) → i < lits.count → j < lits.count → lits.top i ≡ lits.top j → i ≡ j
   top_is i j at_i at_j e = ⊎_elim
@@ -204,7 +208,8 @@ module _ (s : Subject) (list : ListId) (rows : List RowId) (l : RowList) (are : 
       top_no_pair list.rel list.attr (row i) (row j) (row m) false false p)
       (λ (p : before list.rel list.attr (row i) (row j) ≡ top list.rel list.attr (row m)).
       top_no_pair list.rel list.attr (row i) (row j) (row m) false false p)
-      (one_said (vars_of s) (lits.top m) (top list.rel list.attr (row m)) (before list.rel list.attr (row i) (row j)) (says_top m at_m)
+      (one_said (vars_of s) (lits.top m) (top list.rel list.attr (row m)) (before list.rel list.attr (row i) (row j))
+      (says_top m at_m)
       (subst (λ (x : Lit). Says (vars_of s) x (before list.rel list.attr (row i) (row j))) (sym e)
       (says_before i j at_i at_j differ)))
 
@@ -277,7 +282,8 @@ pub counted_same : (old new : List Step) (lits : List Lit) (hints : List ℕ) �
 counted_same old new lits hints is =
     let sum = sum_by-append (λ (y : Step). cond (is_counted y) 1 0) old (Learn lits hints false ∷ []) in
     let same = ap counted_steps is in
-    let sums : counted_steps (old ++ Learn lits hints false ∷ []) ≡ counted_steps old + counted_steps (Learn lits hints false ∷ []) = sum in
+    let sums : counted_steps (old ++ Learn lits hints false ∷ [])
+    ≡ counted_steps old + counted_steps (Learn lits hints false ∷ []) = sum in
     let none : counted_steps (Learn lits hints false ∷ []) ≡ 0 = refl in
     omega (arith, sums, none, same)
 

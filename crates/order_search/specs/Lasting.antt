@@ -35,7 +35,8 @@ SaysBefore s list rows i j lit = i ≢ j → (row other : RowId) → slice_get r
 
 abbrev pub SaysName : Subject → ListId → List RowId → ℕ → Lit → Type 0
 SaysName s list rows i lit = (row : RowId) → slice_get rows i ≡ Some row → (r : Relation)
-    → slice_get s.spec.relations list.rel.0 ≡ Some r → Says (vars_of s) lit (last list.rel list.attr (name_of r.rows list.attr.0 row))
+    → slice_get s.spec.relations list.rel.0 ≡ Some r
+    → Says (vars_of s) lit (last list.rel list.attr (name_of r.rows list.attr.0 row))
 
 -- the literals of a list of rows say this of them
 pub record AreSaid (s : Subject) (list : ListId) (rows : List RowId) (l : RowList) : Type 0 where
@@ -43,7 +44,8 @@ pub record AreSaid (s : Subject) (list : ListId) (rows : List RowId) (l : RowLis
   pub befores : EachIs [] (λ i lits. EachIs no_lit (SaysBefore s list rows i) (length rows) lits) (length rows) l.befores
   pub names : EachIs no_lit (SaysName s list rows) (length rows) l.names.items
 
--- steps that derive from these clauses, of rows whose literals are of so many variables, that some row is last and some value current
+-- steps that derive from these clauses, of rows whose literals are of so many variables, that some row is last and some value
+-- current
 pub record IsDerivation (vars : ℕ) (clauses : List (List Lit)) (steps : List Step) : Type 0 where
   pub lits : Literals
   pub within : AreWithin vars lits

@@ -1,5 +1,4 @@
 use Rattle.std.proofs.Common.{arith, length, subst, sym}
-use Rattle.currency_base.specs.declared.ids.RowId.{RowId}
 use Rattle.currency_base.specs.declared.lit.Lit.{Lit}
 use Rattle.last_rows.specs.Rows.{no_lit}
 use Rattle.order_search.specs.Lasting.{SaysBefore}
