@@ -11,3 +11,4 @@ mod PartCycles
 mod PartMade
 mod PartTold
 mod PartNumbers
+mod Lasts

@@ -1,3 +1,4 @@
 pub mod Searches
 pub mod Kept
 pub mod Parts
+pub mod Lasting

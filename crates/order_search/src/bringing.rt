@@ -4,6 +4,7 @@ ghost use Rattle.refutation_log.specs.Steps.{step_of};
 ghost use Rattle.completion_build.specs.Ranked.{IsCycle};
 ghost use Rattle.order_search.specs.Kept.{ArePlain, AreTrueOn, Brings, HasAdded, HasAxioms, HaveThrees, IsFitAxiom, IsHeld, IsMarked, IsOfList, unmarked, vars_of};
 
+use crate::lasting::add_lasts;
 use crate::progress::Progress;
 use crate::subject::Subject;
 use completion_build::{Cycle, CycleList};
@@ -43,9 +44,35 @@ pub(crate) fn bring_all(
     Ok(())
 }
 
-/// Brings in the list of a cycle, or of any three of its rows, and marks the variable that says which of the first two
-/// rows stands before the other.
+/// Brings in the list of a cycle, or of any three of its rows, with what is derived of it, and marks the variable that says which
+/// of the first two rows stands before the other.
 pub(crate) fn bring_in(
+    subject: &Subject<'_>,
+    progress: &mut Progress,
+    alloc: Global,
+    cycle: Cycle,
+    guides: &mut Guides,
+) -> Result<(), NoMemory>
+    requires held { IsHeld subject.now progress.old.solver progress.old.brought.items }
+    requires cycle { IsOfList subject.now cycle }
+    ensures held { IsHeld subject.now progress.new.solver progress.new.brought.items }
+    ensures added { HasAdded progress.old.solver progress.new.solver }
+    ensures scope { progress.new.solver.trail.scope ≡ progress.old.solver.trail.scope }
+    ensures plain { ArePlain subject.now progress.old.solver.steps → ArePlain subject.now progress.new.solver.steps }
+    ensures units { counted_steps progress.new.solver.steps ≡ counted_steps progress.old.solver.steps }
+    ensures later { unmarked progress.new.brought.items ≤ unmarked progress.old.brought.items }
+    ensures brings { OnOk result (Brings subject.now cycle progress.old.solver.steps progress.old.brought.items
+        progress.new.brought.items) }
+{
+    let first = progress.solver.log().steps.len();
+    match bring_axioms(subject, progress, alloc, cycle, guides) {
+        Ok(()) => add_lasts(subject, progress, alloc, cycle, first, guides),
+        Err(error) => Err(error),
+    }
+}
+
+// Brings in the axioms on three rows of the list of a cycle, and marks the variable.
+fn bring_axioms(
     subject: &Subject<'_>,
     progress: &mut Progress,
     alloc: Global,

@@ -4,6 +4,7 @@
 
 mod bringing;
 mod finding;
+mod lasting;
 mod linked;
 mod matching;
 mod opening;

@@ -35,7 +35,11 @@ pub(crate) fn begun(
         Err(error) => return Err(error),
     }
     match Vec::from_elem(alloc, false, subject.vars() as usize) {
-        Ok(brought) => Ok(Progress { solver, brought }),
+        Ok(brought) => Ok(Progress {
+            solver,
+            brought,
+            tops: Vec::new(alloc),
+        }),
         Err(_) => Err(NoMemory),
     }
 }

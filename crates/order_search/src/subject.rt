@@ -3,8 +3,8 @@ ghost use Rattle.entity_ties.specs.Parts.{list_at};
 ghost use Rattle.match_clauses.specs.Clauses.{SaysAnswer};
 ghost use Rattle.spec_model.specs.Completion.{HasShape};
 ghost use Rattle.spec_model.specs.declared.relation.Relation.{Relation};
-ghost use Rattle.order_literals.specs.Numbers.{IsPairOf, numbers_of};
-ghost use Rattle.order_literals.specs.Said.{Says, before, last};
+ghost use Rattle.order_literals.specs.Numbers.{IsPairOf, is_wanted, numbers_of};
+ghost use Rattle.order_literals.specs.Said.{Says, before, last, top};
 ghost use Rattle.order_links.specs.Lists.{IsListOf};
 ghost use Rattle.spec_model.specs.Facts.{IsRelation};
 ghost use Rattle.value_names.specs.Names.{name_of};
@@ -282,6 +282,23 @@ impl<'a> Subject<'a> {
         let _relation = self.relation(rel);
         let name = self.numbering.name(rel, attr, row);
         self.numbering.last(rel, attr, name)
+    }
+
+    /// The literal that says that a row of a wanted relation stands last.
+    pub(crate) fn top(&self, rel: RelId, attr: AttrId, row: RowId) -> Lit
+        requires { IsWantedRow self.now.spec self.now.wanted rel attr row }
+        ensures { Says (vars_of self.now) result (top rel attr row) }
+    {
+        let _relation = self.relation(rel);
+        self.numbering.top(rel, attr, row)
+    }
+
+    /// Are the current values of a relation wanted?
+    pub(crate) fn is_wanted(&self, rel: RelId) -> bool
+        requires { rel.0 < length self.now.spec.relations }
+        ensures { result ≡ is_wanted self.now.wanted.currents rel.0 }
+    {
+        self.numbering.is_wanted(rel)
     }
 
     /// The rows of a list, ascending.

@@ -1,45 +1,40 @@
-use Rattle.order_search.proofs.Cycles.{marked_brings, marked_held, marked_later}
-use Rattle.order_search.proofs.Growing.{held_axioms, plain_axioms, same_units}
+use Rattle.std.proofs.Common.{◌∙◌, ◌≤◌, Bool, List, subst, sym}
+use Rattle.order_search.specs.Kept.{Brings, IsHeld, unmarked}
+use Rattle.order_search.proofs.Growing.{added_then}
+use Rattle.order_search.proofs.Lasts.{ok_from}
 use Rattle.order_search.proofs.bringing.bring_in.Goals as goal
 
 pub returns-in-Ok-clause-held : goal.returns-in-Ok-clause-held
 returns-in-Ok-clause-held g c =
-    let old = c.args.progress.now in
-    marked_held c.args.subject.now c.args.cycle c.requires.cycle old.brought.items c.mark.new.brought.items
-    c.mark.ensures c.add_list.new.solver
-    (held_axioms c.args.subject.now old.solver c.add_list.new.solver old.brought.items c.requires.held
-    c.add_list.ensures.frame c.add_list.ensures.added)
-    c.in-Ok.ensures.ok
+    subst (λ (marks : List Bool). IsHeld c.args.subject.now c.add_lasts.new.progress.solver marks)
+    (sym c.add_lasts.ensures.brought)
+    (c.add_lasts.ensures.keeps c.args.subject.now c.bring_axioms.new.progress.brought.items c.bring_axioms.ensures.held)
+
+pub returns-in-Ok-clause-added : goal.returns-in-Ok-clause-added
+returns-in-Ok-clause-added g c =
+    added_then c.args.progress.now.solver c.bring_axioms.new.progress.solver c.add_lasts.new.progress.solver
+    c.bring_axioms.ensures.added c.add_lasts.ensures.added
 
 pub returns-in-Ok-clause-units : goal.returns-in-Ok-clause-units
-returns-in-Ok-clause-units g c = same_units c.args.subject.now c.args.progress.now.solver.steps
-    c.add_list.new.solver.steps c.add_list.ensures.added
+returns-in-Ok-clause-units g c = c.add_lasts.ensures.units ∙ c.bring_axioms.ensures.units
 
 pub returns-in-Ok-clause-later : goal.returns-in-Ok-clause-later
 returns-in-Ok-clause-later g c =
-    marked_later c.args.subject.now c.args.cycle c.requires.cycle c.args.progress.now.brought.items
-    c.mark.new.brought.items c.mark.ensures
+    subst (λ (marks : List Bool). unmarked marks ≤ unmarked c.args.progress.now.brought.items)
+    (sym c.add_lasts.ensures.brought) c.bring_axioms.ensures.later
 
 pub returns-in-Ok-clause-brings : goal.returns-in-Ok-clause-brings
 returns-in-Ok-clause-brings g c =
-    marked_brings c.args.subject.now c.args.cycle c.requires.cycle c.args.progress.now.brought.items
-    c.mark.new.brought.items c.mark.ensures
-    c.args.progress.now.solver.steps c.requires.held.lists
+    ok_from c.add_lasts.result
+    (subst (λ (marks : List Bool). Brings c.args.subject.now c.args.cycle c.args.progress.now.solver.steps
+    c.args.progress.now.brought.items marks)
+    (sym c.add_lasts.ensures.brought) c.in-Ok.ensures.brings)
 
-pub returns-in-Err-clause-held : goal.returns-in-Err-clause-held
-returns-in-Err-clause-held g c =
-    let old = c.args.progress.now in
-    held_axioms c.args.subject.now old.solver c.add_list.new.solver old.brought.items c.requires.held
-    c.add_list.ensures.frame c.add_list.ensures.added
+pub add_lasts-requires-clause-statements : goal.add_lasts-requires-clause-statements
+add_lasts-requires-clause-statements g c = c.bring_axioms.ensures.held.search.log.statements
 
-pub returns-in-Err-clause-units : goal.returns-in-Err-clause-units
-returns-in-Err-clause-units g c = same_units c.args.subject.now c.args.progress.now.solver.steps
-    c.add_list.new.solver.steps c.add_list.ensures.added
+pub returns-in-Ok-clause-scope : goal.returns-in-Ok-clause-scope
+returns-in-Ok-clause-scope g c = c.add_lasts.ensures.scope ∙ c.bring_axioms.ensures.scope
 
 pub returns-in-Ok-clause-plain : goal.returns-in-Ok-clause-plain
-returns-in-Ok-clause-plain g c = plain_axioms c.args.subject.now c.args.progress.now.solver.steps
-    c.add_list.new.solver.steps c.add_list.ensures.added
-
-pub returns-in-Err-clause-plain : goal.returns-in-Err-clause-plain
-returns-in-Err-clause-plain g c = plain_axioms c.args.subject.now c.args.progress.now.solver.steps
-    c.add_list.new.solver.steps c.add_list.ensures.added
+returns-in-Ok-clause-plain g c = λ plain. c.add_lasts.ensures.plain c.args.subject.now (c.bring_axioms.ensures.plain plain)

@@ -1,0 +1,6 @@
+pub mod Below
+pub mod Following
+pub mod Currents
+pub mod Growing
+pub mod Threes
+pub mod Looked

@@ -1,0 +1,4 @@
+pub mod Rows
+pub mod Hints
+pub mod Underway
+pub mod Looks

@@ -1,0 +1,27 @@
+use Rattle.std.proofs.Common.{◌≡◌, Some, arith, slice_get}
+use Rattle.currency_base.specs.declared.ids.RowId.{RowId}
+use Rattle.last_rows.specs.Rows.{no_lit}
+use Rattle.order_literals.specs.Said.{Says, last}
+use Rattle.spec_model.specs.declared.relation.Relation.{Relation}
+use Rattle.value_names.specs.Names.{name_of}
+use Rattle.order_search.specs.Kept.{vars_of}
+use Rattle.order_search.specs.Lasting.{SaysName}
+use Rattle.order_search.proofs.Lasts.{each_put, row_read, row_wanted}
+use Rattle.order_search.proofs.lasting.names_of.Goals as goal
+
+pub current-lit-requires : goal.current-lit-requires
+current-lit-requires c =
+    row_wanted c.args.subject.now c.args.list c.args.rows.now c.requires.rows c.requires.wanted c.loop-place.place
+    (record { 0 = 0 }) (omega (arith, c.loop-place-test.true))
+
+pub loop-place-preserved : goal.loop-place-preserved
+loop-place-preserved c =
+    let s = c.args.subject.now in
+    let list = c.args.list in
+    let rows = c.args.rows.now in
+    let lit = c.current-lit.result in
+    each_put no_lit (SaysName s list rows) c.loop-place.place c.loop-place.lits.items c.push.new.self.items lit
+    c.loop-place.invariant c.in-Ok.ensures.items
+    (row_read (λ (row : RowId). (r : Relation) → slice_get s.spec.relations list.rel.0 ≡ Some r
+    → Says (vars_of s) lit (last list.rel list.attr (name_of r.rows list.attr.0 row))) rows c.loop-place.place
+    (record { 0 = 0 }) c.current-lit.ensures)

@@ -1,0 +1,6 @@
+use Rattle.last_rows.specs.Rows.{no_lit}
+use Rattle.order_search.specs.Lasting.{EachIs, SaysTop}
+use Rattle.order_search.proofs.lasting.tops_of.Given as goal
+
+abbrev pub invariant-loop-place : goal.invariant-loop-place
+invariant-loop-place l = EachIs no_lit (SaysTop l.subject l.list l.rows) l.place l.lits.items
