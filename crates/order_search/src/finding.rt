@@ -1,9 +1,10 @@
-ghost use Rattle.std.specs.Prelude.{◌≡◌, ◌+◌, ◌<◌, false, length, IfOk, IfSome};
-ghost use Rattle.currency_base.specs.Literals.{var_of};
+ghost use Rattle.std.specs.Prelude.{◌≡◌, ◌+◌, ◌<◌, Some, false, length, not, true, IfOk, IfSome};
+ghost use Rattle.currency_base.specs.Literals.{is_negative, var_of};
 ghost use Rattle.refutation_log.specs.Counted.{counted_steps};
 ghost use Rattle.order_search.specs.Kept.{ArePlain, HasAdded, IsHeld, search_of, vars_of};
 ghost use Rattle.order_search.specs.Parts.{IsParting};
 ghost use Rattle.order_search.specs.Searches.{Tells};
+ghost use Rattle.search_trail.specs.Trails.{lits_of, value_in};
 
 use crate::Outcome;
 use crate::parting::Parting;
@@ -12,9 +13,10 @@ use crate::progress::Progress;
 use crate::rounds::decided;
 use crate::subject::Subject;
 use currency_base::{Lit, NoMemory, laws_of_literals};
+use search_trail::Trail;
 use solver_guides::Guides;
 use std::alloc::Global;
-use watch_solver::Budget;
+use watch_solver::{Budget, Found, counted_stay_new};
 
 /// Decides part by part, unless the axiom of a match is among the steps or the goal is on an answer: then over all variables.
 pub(crate) fn found(
@@ -42,14 +44,114 @@ pub(crate) fn found(
     if is_matched {
         return decided(subject, progress, alloc, goal, budget, guides);
     }
-    let lit = match goal {
-        Some(lit) => lit,
-        None => return decided_in_parts(
+    match goal {
+        Some(lit) => found_goal(subject, progress, parting, alloc, lit, budget, guides),
+        None => decided_in_parts(
             subject, progress, parting, alloc, None, goal, budget, guides,
         ),
-    };
-    match subject.part_of(&parting.parts, lit.var()) {
-        Some(part) => decided_with(subject, progress, parting, alloc, part, lit, budget, guides),
-        None => decided(subject, progress, alloc, goal, budget, guides),
+    }
+}
+
+// Decides a goal in its part, unless it is true where nothing is assumed: then no scope is taken for it.
+fn found_goal(
+    subject: &Subject<'_>,
+    progress: &mut Progress,
+    parting: &mut Parting,
+    alloc: Global,
+    goal: Lit,
+    budget: &mut Budget,
+    guides: &mut Guides,
+) -> Result<Outcome, NoMemory>
+    requires held { IsHeld subject.now progress.old.solver progress.old.brought.items }
+    requires parting { IsParting subject.now parting.old.parts parting.old.known }
+    requires plain { ArePlain subject.now progress.old.solver.steps }
+    requires goal { var_of goal < length (vars_of subject.now) }
+    ensures held { IsHeld subject.now progress.new.solver progress.new.brought.items }
+    ensures added { HasAdded progress.old.solver progress.new.solver }
+    ensures plain { ArePlain subject.now progress.new.solver.steps }
+    ensures parting { IsParting subject.now parting.new.parts parting.new.known }
+    ensures units { counted_steps progress.new.solver.steps + budget.new ≡ counted_steps progress.old.solver.steps + budget.old }
+    ensures found { IfOk result (Tells (search_of subject.now progress.new.solver) (Some goal) budget.new) }
+{
+    if !is_known(progress.solver.trail(), goal) {
+        return found_in_part(subject, progress, parting, alloc, goal, budget, guides);
+    }
+    match told_known(subject, progress, goal, budget, guides) {
+        Ok(None) => found_in_part(subject, progress, parting, alloc, goal, budget, guides),
+        Ok(Some(outcome)) => Ok(outcome),
+        Err(error) => Err(error),
+    }
+}
+
+// Is a literal true where nothing is assumed?
+fn is_known(trail: &Trail, lit: Lit) -> bool
+    ensures { result ≡ true → value_in (lits_of trail.now) (var_of lit) ≡ Some (not (is_negative lit)) }
+{
+    let var = lit.var();
+    if var >= trail.values().len() {
+        return false;
+    }
+    match trail.values().value(var) {
+        Some(value) => value != lit.negative() && trail.level(var) == 0,
+        None => false,
+    }
+}
+
+// What the solver tells of a goal in the scope that it has, but for a model.
+fn told_known(
+    subject: &Subject<'_>,
+    progress: &mut Progress,
+    goal: Lit,
+    budget: &mut Budget,
+    guides: &mut Guides,
+) -> Result<Option<Outcome>, NoMemory>
+    requires held { IsHeld subject.now progress.old.solver progress.old.brought.items }
+    requires goal { var_of goal < length (vars_of subject.now) }
+    ensures held { IsHeld subject.now progress.new.solver progress.new.brought.items }
+    ensures added { HasAdded progress.old.solver progress.new.solver }
+    ensures plain { ArePlain subject.now progress.old.solver.steps → ArePlain subject.now progress.new.solver.steps }
+    ensures units { counted_steps progress.new.solver.steps + budget.new ≡ counted_steps progress.old.solver.steps + budget.old }
+    ensures some { IfOk result (λ outcome. IfSome outcome (Tells (search_of subject.now progress.new.solver) (Some goal)
+        budget.new)) }
+{
+    counted_stay_new();
+    match progress.solver.decide(Some(goal), budget, guides) {
+        Ok(Found::Model) => Ok(None),
+        Ok(Found::Proved(place)) => Ok(Some(Outcome::Proved(place))),
+        Ok(Found::Empty(place)) => Ok(Some(Outcome::Empty(place))),
+        Ok(Found::Spent) => {
+            progress.solver.trail().are_entries();
+            Ok(Some(Outcome::Spent))
+        }
+        Err(error) => Err(error),
+    }
+}
+
+// Decides a goal in its part; one on an answer over all variables.
+fn found_in_part(
+    subject: &Subject<'_>,
+    progress: &mut Progress,
+    parting: &mut Parting,
+    alloc: Global,
+    goal: Lit,
+    budget: &mut Budget,
+    guides: &mut Guides,
+) -> Result<Outcome, NoMemory>
+    requires held { IsHeld subject.now progress.old.solver progress.old.brought.items }
+    requires parting { IsParting subject.now parting.old.parts parting.old.known }
+    requires plain { ArePlain subject.now progress.old.solver.steps }
+    requires goal { var_of goal < length (vars_of subject.now) }
+    ensures held { IsHeld subject.now progress.new.solver progress.new.brought.items }
+    ensures added { HasAdded progress.old.solver progress.new.solver }
+    ensures plain { ArePlain subject.now progress.new.solver.steps }
+    ensures parting { IsParting subject.now parting.new.parts parting.new.known }
+    ensures units { counted_steps progress.new.solver.steps + budget.new ≡ counted_steps progress.old.solver.steps + budget.old }
+    ensures found { IfOk result (Tells (search_of subject.now progress.new.solver) (Some goal) budget.new) }
+{
+    match subject.part_of(&parting.parts, goal.var()) {
+        Some(part) => decided_with(
+            subject, progress, parting, alloc, part, goal, budget, guides,
+        ),
+        None => decided(subject, progress, alloc, Some(goal), budget, guides),
     }
 }

@@ -1,7 +1,6 @@
-use Rattle.std.proofs.Common.{◌≡◌, ◌<◌, ℕ, Contains, IfOk, IfSome, None, Option, false, length, subst, sym, arith}
+use Rattle.std.proofs.Common.{◌≡◌, ◌<◌, IfOk, IfSome, None, Option, false, length, subst, sym}
 use Rattle.currency_base.specs.Literals.{var_of}
 use Rattle.currency_base.specs.declared.lit.Lit.{Lit}
-use Rattle.entity_ties.specs.Parts.{list_at}
 use Rattle.order_search.specs.Kept.{search_of, vars_of}
 use Rattle.order_search.specs.Parts.{IsFalseIn, parted_of}
 use Rattle.order_search.specs.Searches.{Tells}
@@ -20,22 +19,15 @@ decided_in_parts-requires-clause-goal g c =
 pub decided_in_parts-requires-clause-plain : goal.decided_in_parts-requires-clause-plain
 decided_in_parts-requires-clause-plain g c = c.requires.plain c.if-is_matched.false
 
-pub decided_with-requires-clause-plain : goal.decided_with-requires-clause-plain
-decided_with-requires-clause-plain g c = c.requires.plain c.if-is_matched.false
+pub found_goal-requires-clause-plain : goal.found_goal-requires-clause-plain
+found_goal-requires-clause-plain g c = c.requires.plain c.if-is_matched.false
 
-pub decided_with-requires-clause-part : goal.decided_with-requires-clause-part
-decided_with-requires-clause-part g c =
-    subst (λ (var : ℕ). Contains (list_at c.args.parting.now.parts.parts c.in-Some-part_of.part) var) c.var.ensures.value
-    c.in-Some-part_of.ensures
-
-pub part_of-requires-clause-within : goal.part_of-requires-clause-within
-part_of-requires-clause-within g c =
-    let below : var_of c.in-Some.lit < length (vars_of c.args.subject.now) =
+pub found_goal-requires-clause-goal : goal.found_goal-requires-clause-goal
+found_goal-requires-clause-goal g c =
     subst (λ (posed : Option Lit). IfSome posed (λ lit. var_of lit < length (vars_of c.args.subject.now))) c.in-Some.is
-    c.requires.goal in
-    omega (arith, below, c.var.ensures.value)
+    c.requires.goal
 
-pub returns-in-Some-part_of-clause-found : goal.returns-in-Some-part_of-clause-found
-returns-in-Some-part_of-clause-found g c =
-    subst (λ (posed : Option Lit). IfOk c.decided_with.result (Tells (search_of c.args.subject.now
-    c.decided_with.new.progress.solver) posed c.decided_with.new.budget)) (sym c.in-Some.is) c.decided_with.ensures.found
+pub returns-in-Some-clause-found : goal.returns-in-Some-clause-found
+returns-in-Some-clause-found g c =
+    subst (λ (posed : Option Lit). IfOk c.found_goal.result (Tells (search_of c.args.subject.now
+    c.found_goal.new.progress.solver) posed c.found_goal.new.budget)) (sym c.in-Some.is) c.found_goal.ensures.found

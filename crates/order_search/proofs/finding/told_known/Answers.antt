@@ -1,0 +1,60 @@
+use Rattle.std.proofs.Common.{Some, length}
+use Rattle.order_search.proofs.Growing.{held_grown, plain_grown}
+use Rattle.order_search.proofs.Models.{open_log}
+use Rattle.order_search.proofs.finding.told_known.Goals as goal
+
+pub returns-in-Ok-Model-clause-held : goal.returns-in-Ok-Model-clause-held
+returns-in-Ok-Model-clause-held g c =
+    held_grown c.args.subject.now c.args.progress.now.solver c.decide.new.self
+    c.args.progress.now.brought.items c.requires.held
+    c.decide.ensures.frame c.decide.ensures.grown
+
+pub returns-in-Ok-Proved-clause-held : goal.returns-in-Ok-Proved-clause-held
+returns-in-Ok-Proved-clause-held g c =
+    held_grown c.args.subject.now c.args.progress.now.solver c.decide.new.self
+    c.args.progress.now.brought.items c.requires.held
+    c.decide.ensures.frame c.decide.ensures.grown
+
+pub returns-in-Ok-Empty-clause-held : goal.returns-in-Ok-Empty-clause-held
+returns-in-Ok-Empty-clause-held g c =
+    held_grown c.args.subject.now c.args.progress.now.solver c.decide.new.self
+    c.args.progress.now.brought.items c.requires.held
+    c.decide.ensures.frame c.decide.ensures.grown
+
+pub returns-in-Ok-Spent-clause-held : goal.returns-in-Ok-Spent-clause-held
+returns-in-Ok-Spent-clause-held g c =
+    held_grown c.args.subject.now c.args.progress.now.solver c.decide.new.self
+    c.args.progress.now.brought.items c.requires.held
+    c.decide.ensures.frame c.decide.ensures.grown
+
+pub returns-in-Ok-Spent-clause-some : goal.returns-in-Ok-Spent-clause-some
+returns-in-Ok-Spent-clause-some g c =
+    let solver = c.decide.new.self in
+    let told = rw c.in-Ok-Spent.field-0-is at c.in-Ok-Spent.ensures.found in
+    (told.0, open_log solver.steps (Some c.args.goal) solver.trail (rw c.trail.ensures at c.are_entries.ensures) told.1)
+
+pub returns-in-Err-clause-held : goal.returns-in-Err-clause-held
+returns-in-Err-clause-held g c =
+    held_grown c.args.subject.now c.args.progress.now.solver c.decide.new.self
+    c.args.progress.now.brought.items c.requires.held
+    c.decide.ensures.frame c.decide.ensures.grown
+
+pub returns-in-Ok-Model-clause-plain : goal.returns-in-Ok-Model-clause-plain
+returns-in-Ok-Model-clause-plain g c = plain_grown c.args.subject.now (length c.args.progress.now.solver.frame.statements)
+    c.args.progress.now.solver.steps c.decide.new.self.steps c.decide.ensures.grown
+
+pub returns-in-Ok-Proved-clause-plain : goal.returns-in-Ok-Proved-clause-plain
+returns-in-Ok-Proved-clause-plain g c = plain_grown c.args.subject.now (length c.args.progress.now.solver.frame.statements)
+    c.args.progress.now.solver.steps c.decide.new.self.steps c.decide.ensures.grown
+
+pub returns-in-Ok-Empty-clause-plain : goal.returns-in-Ok-Empty-clause-plain
+returns-in-Ok-Empty-clause-plain g c = plain_grown c.args.subject.now (length c.args.progress.now.solver.frame.statements)
+    c.args.progress.now.solver.steps c.decide.new.self.steps c.decide.ensures.grown
+
+pub returns-in-Ok-Spent-clause-plain : goal.returns-in-Ok-Spent-clause-plain
+returns-in-Ok-Spent-clause-plain g c = plain_grown c.args.subject.now (length c.args.progress.now.solver.frame.statements)
+    c.args.progress.now.solver.steps c.decide.new.self.steps c.decide.ensures.grown
+
+pub returns-in-Err-clause-plain : goal.returns-in-Err-clause-plain
+returns-in-Err-clause-plain g c = plain_grown c.args.subject.now (length c.args.progress.now.solver.frame.statements)
+    c.args.progress.now.solver.steps c.decide.new.self.steps c.decide.ensures.grown
