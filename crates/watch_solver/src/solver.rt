@@ -187,8 +187,8 @@ impl Solver {
     }
 
     /// Goes back to where nothing is assumed, and takes another scope: from then on variables of it alone are assumed,
-    /// beside the goal's. The guides are told. Takes time in proportion to both scopes and to what is taken back. After a
-    /// first refusal every later call is refused.
+    /// beside the goal's. The guides are told, where it is another. Takes time in proportion to both scopes and to what is taken
+    /// back. After a first refusal every later call is refused.
     pub fn focus(
         &mut self,
         alloc: Global,
@@ -207,6 +207,10 @@ impl Solver {
     {
         if self.failed {
             return Err(NoMemory);
+        }
+        if self.state.trail().values().scope() == scope {
+            self.state.undo_to(0, guides);
+            return Ok(());
         }
         guides.leave(self.state.trail().values().scope());
         let focused = self.state.focus(alloc, scope);
