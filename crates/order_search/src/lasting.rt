@@ -1,4 +1,4 @@
-ghost use Rattle.std.specs.Prelude.{◌≡◌, ◌≢◌, ◌<◌, ◌++◌, ◌∷◌, [], ℕ, List, true, false, length, IfOk, IfSome, OnOk, Some, map, slice_get, slice_index_or};
+ghost use Rattle.std.specs.Prelude.{◌≡◌, ◌<◌, ◌++◌, ◌∷◌, [], true, false, length, IfOk, IfSome, OnOk, Some, map, slice_index_or};
 ghost use Rattle.currency_base.specs.Literals.{var_of};
 ghost use Rattle.currency_base.specs.declared.lit.Lit.{Lit};
 ghost use Rattle.order_literals.specs.Numbers.{is_wanted};
@@ -6,7 +6,7 @@ ghost use Rattle.order_links.specs.Lists.{IsListOf};
 ghost use Rattle.last_rows.specs.Rows.{no_lit};
 ghost use Rattle.refutation_log.specs.Counted.{counted_steps};
 ghost use Rattle.refutation_log.specs.Steps.{clauses_of, step_of};
-ghost use Rattle.order_search.specs.Kept.{AreRowsOf, HasAdded, IsHeld, IsOfList, vars_of};
+ghost use Rattle.order_search.specs.Kept.{AreRowsOf, HasAdded, IsOfList, vars_of};
 ghost use Rattle.order_search.specs.Lasting.{AreSaid, EachIs, IsDerivation, IsNextStep, KeepsHeld, KeepsPlain, SaysBefore, SaysName, SaysTop, next_place};
 
 use crate::progress::Progress;
@@ -24,8 +24,8 @@ use watch_solver::Solver;
 
 /// Derives that some row of a list is last, and so that some value is current, where the current values of its relation are
 /// wanted: behind its axioms on three rows, the first of which stands at this place. These steps are not counted. Of n rows they
-/// are about a half of n squared, each of n literals, so they take memory as the axioms on three rows do: the limits keep n below
-/// about 290. Nothing is derived where the axioms are not found where they should stand.
+/// are about a half of n squared, each of n literals, so they take memory as the axioms on three rows do: limit 7 lets n be at
+/// most 64. Nothing is derived where the axioms are not found where they should stand.
 pub(crate) fn add_lasts(
     subject: &Subject<'_>,
     progress: &mut Progress,
@@ -92,7 +92,7 @@ fn find_tops(alloc: Global, vars: u32, steps: &Steps, tops: &mut Vec<u32>) -> Re
     Ok(())
 }
 
-// Writes the place of a step, if it is an axiom `top`.
+// Writes the place of a step for the variable of its first literal, if it is an axiom `top`.
 fn note_top(step: StepRef<'_>, place: usize, tops: &mut Vec<u32>)
     ensures { length tops.new.items ≡ length tops.old.items }
 {
@@ -288,7 +288,7 @@ fn write_befores(
     Ok(())
 }
 
-// Where the axioms on the rows of a list should stand.
+// Where the axioms on the rows of a list should stand, as a `RowList` has it.
 #[derive(Drop)]
 struct Places {
     top_places: Vec<u32>,
@@ -297,8 +297,9 @@ struct Places {
     seconds: Vec<u32>,
 }
 
-// Those of rows whose standing last is said by these literals: of three rows from this place on, by the greatest row, and then by
-// the second greatest.
+// Those of rows whose standing last is said by these literals. The axioms on three rows stand from this place on in the order of
+// their greatest row, then of the second greatest, then of the least, two for each three rows. So n (n - 1) of them have row n
+// for the greatest, and as many stand, among those of each greater row, before the first that has row n for the second greatest.
 fn places_of(alloc: Global, tops: &[u32], lits: &[Lit], first: usize) -> Result<Places, NoMemory>
     ensures tops { IfOk result (λ p. p.top_places.items ≡ map (λ lit. slice_index_or tops.now (var_of lit) 0) lits.now) }
     ensures lasts { IfOk result (λ p. p.last_places.items ≡ map next_place p.top_places.items) }

@@ -22,6 +22,7 @@ pub(crate) fn none_done(subject: &Subject<'_>, alloc: Global) -> Result<Parting,
         Ok(parts) => parts,
         Err(error) => return Err(error),
     };
+    // (the number of a part is a `u32`; within the limits there are far fewer)
     if parts.count() > 4_294_967_295 {
         return Err(NoMemory);
     }

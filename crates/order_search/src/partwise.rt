@@ -31,7 +31,7 @@ pub(crate) enum Round {
     Ended(Outcome),
 }
 
-/// Decides the part of a goal, and then the others, unless all are done.
+/// Decides the part of a goal, and then each of the others, unless all are done by then.
 pub(crate) fn decided_with(
     subject: &Subject<'_>,
     progress: &mut Progress,
@@ -71,7 +71,7 @@ pub(crate) fn decided_with(
     }
 }
 
-// Decides the parts beside that of a goal, which is done, unless all are done.
+// Where the part of a goal is done: decides each of the others, unless all are done.
 fn decided_beside(
     subject: &Subject<'_>,
     progress: &mut Progress,

@@ -13,7 +13,8 @@ use log_laws::logs_are_sound;
 use std::alloc::Global;
 use variable_parts::VariableParts;
 
-/// The known model, where every part of it is done: a copy of its truths and of its completion.
+/// The known model, where every part of it is done: a copy of its truths and of its completion. The part of the goal is named by
+/// the contract alone.
 pub(crate) fn told(
     subject: &Subject<'_>,
     progress: &Progress,
