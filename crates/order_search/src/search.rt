@@ -129,11 +129,12 @@ impl<'a> Search<'a> {
     }
 
     /// Decides whether the goal is true in every consistent completion, or, where there is none, whether there is a
-    /// consistent completion. Where no axiom of a match is among the steps it goes part by part: the part of the goal, and
-    /// those for which no model is known yet, or, where there is no goal, each anew; so a goal costs what its part costs, and
-    /// the copy of the model. Else, and where the goal is on an answer, it goes over all variables. Each list that goes round in a model has all its axioms on three rows brought in, and
-    /// the search goes on; so a list is brought in at most once. Each clause that is learned takes a unit of the
-    /// budget; axioms take none. After want of memory every later call answers it.
+    /// consistent completion. Where no axiom of a match is among the steps it goes part by part: the part of the goal alone,
+    /// where a model is known of all parts, or else each part anew; so a goal costs what its part costs, and the copy of the
+    /// model. One that is true where nothing is assumed costs neither. Else, and where the goal is on an answer, it goes over all
+    /// variables. Each list that goes round in a model has all its axioms on three rows brought in, and the search goes on; so
+    /// a list is brought in at most once. Each clause that is learned takes a unit of the budget; axioms take none. After want
+    /// of memory every later call answers it.
     pub fn decide(
         &mut self,
         alloc: Global,
