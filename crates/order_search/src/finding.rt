@@ -1,19 +1,17 @@
-ghost use Rattle.std.specs.Prelude.{◌≡◌, ◌+◌, ◌<◌, Some, false, length, not, true, IfOk, IfSome};
-ghost use Rattle.currency_base.specs.Literals.{is_negative, var_of};
+ghost use Rattle.std.specs.Prelude.{◌≡◌, ◌+◌, ◌<◌, Some, false, length, IfOk, IfSome};
+ghost use Rattle.currency_base.specs.Literals.{var_of};
 ghost use Rattle.refutation_log.specs.Counted.{counted_steps};
 ghost use Rattle.order_search.specs.Kept.{ArePlain, HasAdded, IsHeld, search_of, vars_of};
 ghost use Rattle.order_search.specs.Parts.{IsParting};
 ghost use Rattle.order_search.specs.Searches.{Tells};
-ghost use Rattle.search_trail.specs.Trails.{lits_of, value_in};
 
 use crate::Outcome;
 use crate::parting::Parting;
 use crate::partwise::{decided_in_parts, decided_with};
-use crate::progress::Progress;
+use crate::progress::{Progress, root_value};
 use crate::rounds::decided;
 use crate::subject::Subject;
 use currency_base::{Lit, NoMemory, laws_of_literals};
-use search_trail::Trail;
 use solver_guides::Guides;
 use std::alloc::Global;
 use watch_solver::{Budget, Found, counted_stay_new};
@@ -73,27 +71,13 @@ fn found_goal(
     ensures units { counted_steps progress.new.solver.steps + budget.new ≡ counted_steps progress.old.solver.steps + budget.old }
     ensures found { IfOk result (Tells (search_of subject.now progress.new.solver) (Some goal) budget.new) }
 {
-    if !is_known(progress.solver.trail(), goal) {
+    if root_value(progress.solver.trail(), goal.var()) != Some(!goal.negative()) {
         return found_in_part(subject, progress, parting, alloc, goal, budget, guides);
     }
     match told_known(subject, progress, goal, budget, guides) {
         Ok(None) => found_in_part(subject, progress, parting, alloc, goal, budget, guides),
         Ok(Some(outcome)) => Ok(outcome),
         Err(error) => Err(error),
-    }
-}
-
-// Is a literal true where nothing is assumed?
-fn is_known(trail: &Trail, lit: Lit) -> bool
-    ensures { result ≡ true → value_in (lits_of trail.now) (var_of lit) ≡ Some (not (is_negative lit)) }
-{
-    let var = lit.var();
-    if var >= trail.values().len() {
-        return false;
-    }
-    match trail.values().value(var) {
-        Some(value) => value != lit.negative() && trail.level(var) == 0,
-        None => false,
     }
 }
 

@@ -6,13 +6,14 @@ ghost use Rattle.order_search.specs.Kept.{ArePlain, AreRowsOf, HasAdded, IsHeld,
 
 use crate::When;
 use crate::bringing::bring_in;
-use crate::progress::Progress;
+use crate::progress::{Progress, root_value};
 use crate::subject::Subject;
 use completion_build::Cycle;
 use currency_base::{Lit, NoMemory, RowId};
 use order_links::{Links, ListId, ListIdList};
 use order_literals::one_literal;
 use search_restarts::LEADER;
+use search_trail::Trail;
 use solver_guides::Guides;
 use std::alloc::Global;
 
@@ -27,7 +28,7 @@ const NEAR: usize = 64;
 const MANY: usize = 512;
 
 /// Brings in a list and those that it is linked with, but for those that are there, and tells the ring the variables of those
-/// that are near: about how many it told.
+/// that are near: about how many it told. Where the order of the list's rows is known with nothing assumed, nothing is done.
 pub(crate) fn bring_linked(
     subject: &Subject<'_>,
     progress: &mut Progress,
@@ -46,6 +47,9 @@ pub(crate) fn bring_linked(
     ensures units { counted_steps progress.new.solver.steps ≡ counted_steps progress.old.solver.steps }
     ensures links { links.new ≡ links.old }
 {
+    if is_settled(subject, progress.solver.trail(), list, subject.rows(list)) {
+        return Ok(0);
+    }
     let lists = match links.linked(list) {
         Ok(lists) => lists,
         Err(error) => return Err(error),
@@ -164,6 +168,37 @@ fn is_marked(
         }
     }
     false
+}
+
+// Does the order of each two rows of a list follow with nothing assumed?
+fn is_settled(subject: &Subject<'_>, trail: &Trail, list: ListId, rows: &[RowId]) -> bool
+    requires { AreRowsOf subject.now list rows.now }
+{
+    for place in 0..rows.len() {
+        if !is_placed(subject, trail, list, rows, place) {
+            return false;
+        }
+    }
+    true
+}
+
+// Does the order of a row and each that stands above it in the list of rows follow with nothing assumed?
+fn is_placed(
+    subject: &Subject<'_>,
+    trail: &Trail,
+    list: ListId,
+    rows: &[RowId],
+    place: usize,
+) -> bool
+    requires rows { AreRowsOf subject.now list rows.now }
+    requires place { place < length rows.now }
+{
+    for other in 0..place {
+        if root_value(trail, pair_at(subject, list, rows, other, place).var()).is_none() {
+            return false;
+        }
+    }
+    true
 }
 
 // Lets the guide lead that picks first what it is told of, if there is one, and tells it the variables of lists: the more often,

@@ -1,6 +1,8 @@
-ghost use Rattle.std.specs.Prelude.{◌≡◌};
+ghost use Rattle.std.specs.Prelude.{◌≡◌, IfSome, Some};
+ghost use Rattle.search_trail.specs.Trails.{lits_of, value_in};
 
 use refutation_log::Log;
+use search_trail::Trail;
 use watch_solver::Solver;
 
 /// How far a search came: its solver, and for each variable whether it is marked. A variable is marked only if it says of
@@ -21,5 +23,24 @@ impl Progress {
         ensures steps { result.steps ≡ self.solver.steps }
     {
         self.solver.into_log()
+    }
+}
+
+/// The value that a variable has with nothing assumed, if it has one.
+pub(crate) fn root_value(trail: &Trail, var: u32) -> Option<bool>
+    ensures { IfSome result (λ value. value_in (lits_of trail.now) var ≡ Some value) }
+{
+    if var >= trail.values().len() {
+        return None;
+    }
+    match trail.values().value(var) {
+        Some(value) => {
+            if trail.level(var) == 0 {
+                Some(value)
+            } else {
+                None
+            }
+        }
+        None => None,
     }
 }
