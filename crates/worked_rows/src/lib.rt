@@ -47,6 +47,8 @@ mod joins;
 #[cfg(test)]
 mod labels;
 #[cfg(test)]
+mod lasts;
+#[cfg(test)]
 mod limits;
 #[cfg(test)]
 mod logs;

@@ -391,6 +391,10 @@ axiom value 1 1 3: -9 6;
 axiom match 1 1 ("x", 1): 10 -7;
 axiom transitive 1 1 1 2 3: -1 -3 2;
 axiom transitive 1 1 3 2 1: 3 1 -2;
+derive 4 1 6 by 3 18 13;
+derive -1 5 6 by 8 17 13;
+derive 4 5 6 by 19 20;
+derive 7 8 9 by 4 9 14 21;
 demand match 1 1 ("x", 3): 10 -9;
 end;
 :: 3 to the number of variables: three orders, three rows that are last, three values and an answer
@@ -420,10 +424,13 @@ axiom last 1 1 3: -6 9;
 axiom match 1 1 ("x", 1): 10 -7;
 axiom transitive 1 1 1 2 3: -1 -3 2;
 axiom transitive 1 1 3 2 1: 3 1 -2;
+derive 4 1 6 by 1 9 5;
+derive -1 5 6 by 3 8 5;
+derive 4 5 6 by 10 11;
+derive 7 8 9 by 2 4 6 12;
 demand match 1 1 ("x", 3): 10 -9;
-learn 1 4 6 by 1 9 5;
 demand match 1 1 ("x", 2): 10 -8;
-derive 10 by 12 10 7 4 6 2 11 3 5 8;
+derive 10 by 15 14 7 13;
 end;
 
 == queries are limited
