@@ -9,7 +9,8 @@ ghost use Rattle.refutation_log.specs.Steps.{clauses_of, step_of};
 ghost use Rattle.order_search.specs.Kept.{AreRowsOf, HasAdded, IsOfList, vars_of};
 ghost use Rattle.order_search.specs.Lasting.{AreSaid, EachIs, IsDerivation, IsNextStep, KeepsHeld, KeepsPlain, SaysBefore, SaysName, SaysTop, next_place};
 
-use crate::progress::Progress;
+use crate::linked::pair_at;
+use crate::progress::{Progress, root_value};
 use crate::subject::Subject;
 use completion_build::Cycle;
 use currency_base::{Lit, NoMemory, RowId, laws_of_literals};
@@ -18,6 +19,7 @@ use last_rows::{RowList, are_there, derived};
 use order_links::ListId;
 use order_literals::one_literal;
 use refutation_log::{LabelRef, StepRef, Steps};
+use search_trail::Trail;
 use solver_guides::Guides;
 use std::alloc::Global;
 use watch_solver::Solver;
@@ -25,7 +27,7 @@ use watch_solver::Solver;
 /// Derives that some row of a list is last, and so that some value is current, where the current values of its relation are
 /// wanted: behind its axioms on three rows, the first of which stands at this place. These steps are not counted. Of n rows they
 /// are about a half of n squared, each of n literals, so they take memory as the axioms on three rows do: limit 7 lets n be at
-/// most 64. Nothing is derived where the axioms are not found where they should stand.
+/// most 64. Nothing is derived where the axioms are not found where they should stand, nor where one row alone can be the last.
 pub(crate) fn add_lasts(
     subject: &Subject<'_>,
     progress: &mut Progress,
@@ -43,7 +45,14 @@ pub(crate) fn add_lasts(
     ensures units { counted_steps progress.new.solver.steps ≡ counted_steps progress.old.solver.steps }
     ensures brought { progress.new.brought.items ≡ progress.old.brought.items }
 {
-    if !subject.is_wanted(cycle.rel) {
+    let list = ListId {
+        rel: cycle.rel,
+        attr: cycle.attr,
+        ent: cycle.ent,
+    };
+    if !subject.is_wanted(cycle.rel)
+        || is_topped(subject, progress.solver.trail(), list, subject.rows(list))
+    {
         return Ok(());
     }
     match find_tops(
@@ -55,11 +64,6 @@ pub(crate) fn add_lasts(
         Ok(()) => {}
         Err(error) => return Err(error),
     }
-    let list = ListId {
-        rel: cycle.rel,
-        attr: cycle.attr,
-        ent: cycle.ent,
-    };
     let steps = match derivation(
         subject,
         alloc,
@@ -73,6 +77,42 @@ pub(crate) fn add_lasts(
         Err(error) => return Err(error),
     };
     put_all(&mut progress.solver, &steps, guides)
+}
+
+// Of the rows of a list, is there one alone that is not known, with nothing assumed, to stand before another? Then each other
+// stands below one that stands below one, and so on up to it: it is the last, by the axioms on three rows.
+fn is_topped(subject: &Subject<'_>, trail: &Trail, list: ListId, rows: &[RowId]) -> bool
+    requires { AreRowsOf subject.now list rows.now }
+{
+    let mut tops: usize = 0;
+    for place in 0..rows.len() {
+        if !stands_below(subject, trail, list, rows, place) {
+            tops = tops.saturating_add(1);
+        }
+    }
+    tops == 1
+}
+
+// Is a row known, with nothing assumed, to stand before another of its list?
+fn stands_below(
+    subject: &Subject<'_>,
+    trail: &Trail,
+    list: ListId,
+    rows: &[RowId],
+    place: usize,
+) -> bool
+    requires rows { AreRowsOf subject.now list rows.now }
+    requires place { place < length rows.now }
+{
+    for other in 0..rows.len() {
+        if other != place {
+            let lit = pair_at(subject, list, rows, place, other);
+            if root_value(trail, lit.var()) == Some(!lit.negative()) {
+                return true;
+            }
+        }
+    }
+    false
 }
 
 // Writes for each variable the place of the axiom `top` that begins with its literal, unless that was done before.
