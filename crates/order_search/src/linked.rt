@@ -264,7 +264,13 @@ fn tell_row(subject: &Subject<'_>, list: ListId, rows: &[RowId], place: usize, g
 }
 
 /// The literal that says that the row at one place stands before the row at another.
-pub(crate) fn pair_at(subject: &Subject<'_>, list: ListId, rows: &[RowId], first: usize, second: usize) -> Lit
+pub(crate) fn pair_at(
+    subject: &Subject<'_>,
+    list: ListId,
+    rows: &[RowId],
+    first: usize,
+    second: usize,
+) -> Lit
     requires rows { AreRowsOf subject.now list rows.now }
     requires first { first < length rows.now }
     requires second { second < length rows.now }
