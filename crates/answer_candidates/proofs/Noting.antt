@@ -1,7 +1,8 @@
 -- One completion more.
-use Rattle.std.proofs.Common.{◌≡◌, ◌≢◌, ◌<◌, ◌⊎◌, inl, inr, ℕ, zero, suc, Bool, true, false, true≢false, List, [], ◌∷◌, ◌++◌, Some, Result, Ok, Err, OnOk, length, replicate, get_or, slice_get, refl, sym, ap, subst, ◌∙◌, arith}
+use Rattle.std.proofs.Common.{◌≡◌, ◌≢◌, ◌<◌, ◌≤◌, ◌⊎◌, inl, inr, ℕ, zero, suc, Bool, true, false, true≢false, List, [], ◌∷◌, ◌++◌, Some, Result, Ok, Err, OnOk, length, replicate, take, get_or, slice_get, sym, ap, subst, ◌∙◌, arith}
 use Rattle.std.specs.List.{All}
-use Rattle.std.proofs.lemmas.List.{length-replicate}
+use Rattle.std.proofs.Math.Seq.{take-append_seam}
+use Rattle.std.proofs.lemmas.List.{length-replicate, take-append-le}
 use Rattle.std.proofs.lemmas.List.Elements.{All-nil, All-push}
 use Rattle.std.proofs.lemmas.Option.{get_or_from_slice_get, none-some, same_Some, slice_get-get_or, slice_get_within}
 use Rattle.answer_laws.specs.Answered.{IsAnswerIn}
@@ -14,18 +15,10 @@ use Rattle.spec_model.specs.Consistent.{IsConsistent}
 use Rattle.spec_model.specs.Spec.{Spec}
 use Rattle.spec_model.specs.declared.relation.Relation.{Relation}
 use Rattle.ucq_answers.specs.Planned.{IndexedQuery}
-use Rattle.answer_candidates.specs.Candidates.{AreAnswersIn, AreCandidates, AreMarks, IsCommon, IsMark, IsMarked, IsOver, Standing}
+use Rattle.answer_candidates.specs.Candidates.{AreAnswersIn, AreCandidates, AreMarks, EachRefutes, GoesNow, IsCommon, IsMark, IsMarked, IsOver, Refutes, Standing}
+use Rattle.answer_candidates.proofs.Marking.{get_end, get_front, get_push}
 
 -- ---- lists
-
-get_front : {A : Type 0} (xs : List A) (y : A) (i : ℕ) → i < length xs → slice_get (xs ++ y ∷ []) i ≡ slice_get xs i
-get_front [] y i below = absurd (omega (arith, below))
-get_front (x ∷ xs) y zero below = refl
-get_front (x ∷ xs) y (suc i) below = get_front xs y i (omega (arith, below))
-
-get_end : {A : Type 0} (xs : List A) (y : A) → slice_get (xs ++ y ∷ []) (length xs) ≡ Some y
-get_end [] y = refl
-get_end (x ∷ xs) y = get_end xs y
 
 all_at : {A : Type 0} (P : A → Type 0) (xs : List A) (i : ℕ) (x : A) → All P xs → slice_get xs i ≡ Some x → P x
 all_at P xs i x all at = subst P (get_or_from_slice_get xs i x x at) (all i x (slice_get_within xs i x at))
@@ -91,12 +84,52 @@ marked_more one relations query completions c indexed over tuple was false befor
     (subst (λ b. IsMarked relations query completions tuple b) mark.0 before)
     (answer_in relations query c indexed tuple over mark.1)
 
+-- ---- each refutes a tuple
+
+-- a tuple that goes now is refuted by the completion whose instance is looked at
+refutes_now : InstancesAreOne → (s : Spec) (query : Query) (old : Standing) (c : Rankings) (indexed : IndexedQuery)
+    → AreCandidates s query old → IsOver s.relations query c indexed → (gone : List Bool) (more : Bool)
+    → AreMarks indexed old.tuples old.gone (length old.tuples) gone more → GoesNow old.tuples old.gone gone
+    → Refutes s.relations query old.completions c
+refutes_now one s query old c indexed are over gone more marks goes =
+    record {
+      tuple = goes.tuple;
+      common = are.marked goes.place goes.tuple false goes.at goes.was;
+      fails = λ answer. by answer (marks.each goes.place goes.tuple false true goes.at goes.was goes.now);
+    }
+  where
+    by : IsAnswerIn s.relations query goes.tuple c → IsMark indexed goes.tuple false true → ⊥
+    by answer (inl was) = true≢false (sym was)
+    by answer (inr never) = never (answer_of one s.relations query c indexed goes.tuple over answer)
+
+none_refutes : (relations : List Relation) (query : Query) (c : Rankings) → EachRefutes relations query (c ∷ [])
+none_refutes relations query c zero d later at = absurd (omega (arith, later))
+none_refutes relations query c (suc place) d later at = absurd (none-some d at)
+
+refutes_more : (relations : List Relation) (query : Query) (completions : List Rankings) (c : Rankings)
+    → EachRefutes relations query completions → Refutes relations query completions c
+    → EachRefutes relations query (completions ++ c ∷ [])
+refutes_more relations query completions c each last place d later at = by (get_push completions c d place at)
+  where
+    by : (slice_get completions place ≡ Some d) ⊎ ((place ≡ length completions) × (c ≡ d))
+        → Refutes relations query (take place (completions ++ c ∷ [])) d
+    by (inl before) =
+        let inside : place ≤ length completions = let b = slice_get_within completions place d before in omega (arith, b) in
+        subst (λ l. Refutes relations query l d) (sym (take-append-le place completions (c ∷ []) inside))
+        (each place d later before)
+    by (inr (end, same)) =
+        let all : completions ≡ take place (completions ++ c ∷ []) = sym (take-append_seam completions (c ∷ []))
+        ∙ ap (λ n. take n (completions ++ c ∷ [])) (sym end) in
+        subst (λ l. Refutes relations query l d) all (subst (Refutes relations query completions) same last)
+
+-- ---- the standing
+
 pub candidates_more : InstancesAreOne → (s : Spec) (query : Query) (old : Standing) (c : Rankings)
     (indexed : IndexedQuery) → AreCandidates s query old
     → IsConsistent s c → IsOver s.relations query c indexed → (gone : List Bool) (more : Bool)
-    → AreMarks indexed old.tuples old.gone (length old.tuples) gone more
+    → AreMarks indexed old.tuples old.gone (length old.tuples) gone more → more ≡ true
     → AreCandidates s query (record { tuples = old.tuples; completions = old.completions ++ c ∷ []; gone = gone })
-candidates_more one s query old c indexed are is over gone more marks =
+candidates_more one s query old c indexed are is over gone more marks more_is =
     record {
       per_tuple = marks.as_many;
       consistent = All-push (IsConsistent s) old.completions c are.consistent is;
@@ -108,6 +141,8 @@ candidates_more one s query old c indexed are is over gone more marks =
           (omega (arith, slice_get_within old.tuples place tuple at, are.per_tuple)) in
           marked_more one s.relations query old.completions c indexed over tuple (get_or old.gone place true) now
           (are.marked place tuple _ at was) (marks.each place tuple _ now at was at_now);
+      refuting = refutes_more s.relations query old.completions c are.refuting
+          (refutes_now one s query old c indexed are over gone more marks (marks.some more_is));
     }
 
 -- the same, of lists that are these
@@ -187,4 +222,5 @@ candidates_begun one s query c tuples is answers =
           } in
           subst (λ b. IsMarked s.relations query (c ∷ []) tuple b) (of_replicate (length tuples) place false gone at_gone)
           (all_one (IsAnswerIn s.relations query tuple) c own);
+      refuting = none_refutes s.relations query c;
     }

@@ -1,5 +1,5 @@
 -- The tuples that may be answers in every consistent completion.
-use Rattle.std.specs.Prelude.{◌≡◌, ◌≢◌, ◌⊎◌, ℕ, Bool, true, false, not, List, [], All, Contains, Some, length, map, slice_get, slice_index_or, take}
+use Rattle.std.specs.Prelude.{◌≡◌, ◌≢◌, ◌<◌, ◌⊎◌, ℕ, Bool, true, false, not, List, [], All, Contains, Some, length, map, slice_get, slice_index_or, take}
 use Rattle.std.specs.List.{filter, range_with_len}
 use Rattle.answer_laws.specs.Answered.{IsAnswerIn}
 use Rattle.currency_base.specs.declared.value.Value.{Value}
@@ -27,8 +27,20 @@ abbrev pub IsMarked : List Relation → Query → List Rankings → List Value �
 IsMarked relations query completions tuple false = IsCommon relations query completions tuple
 IsMarked relations query completions tuple true = IsCommon relations query completions tuple → ⊥
 
+-- a completion refutes a tuple: it is an answer over each of those that are listed before, and none over this one
+pub record Refutes (relations : List Relation) (query : Query) (earlier : List Rankings) (c : Rankings) : Type 0 where
+  pub tuple : List Value
+  pub common : IsCommon relations query earlier tuple
+  pub fails : IsAnswerIn relations query tuple c → ⊥
+
+-- each completion but the first refutes a tuple that is an answer over all those before it
+abbrev pub EachRefutes : List Relation → Query → List Rankings → Type 0
+EachRefutes relations query completions = (place : ℕ) (c : Rankings) → 0 < place
+    → slice_get completions place ≡ Some c
+    → Refutes relations query (take place completions) c
+
 -- consistent completions, at least one; the tuples ascend, each common answer is one of them, and those that are no
--- common answers are gone
+-- common answers are gone; and each completion but the first refutes a tuple that those before it have in common
 pub record AreCandidates (s : Spec) (query : Query) (c : Standing) : Type 0 where
   pub per_tuple : length c.gone ≡ length c.tuples
   pub consistent : All (IsConsistent s) c.completions
@@ -38,6 +50,7 @@ pub record AreCandidates (s : Spec) (query : Query) (c : Standing) : Type 0 wher
   pub marked : (place : ℕ) (tuple : List Value) (gone : Bool) → slice_get c.tuples place ≡ Some tuple
       → slice_get c.gone place ≡ Some gone
       → IsMarked s.relations query c.completions tuple gone
+  pub refuting : EachRefutes s.relations query c.completions
 
 -- an instance that is indexed for a query is the current one of a completion
 pub record IsOver (relations : List Relation) (query : Query) (c : Rankings) (indexed : IndexedQuery) : Type 0 where
@@ -63,7 +76,16 @@ abbrev pub IsMark : IndexedQuery → List Value → Bool → Bool → Type 0
 IsMark indexed tuple was true = (was ≡ true) ⊎ (IsAnswer indexed.query indexed.instance tuple → ⊥)
 IsMark indexed tuple was false = (was ≡ false) × IsAnswer indexed.query indexed.instance tuple
 
--- the marks of so many first tuples; without more of them, they are what they were
+-- a tuple that was not gone is gone now
+pub record GoesNow (tuples : List (List Value)) (old new : List Bool) : Type 0 where
+  pub place : ℕ
+  pub tuple : List Value
+  pub at : slice_get tuples place ≡ Some tuple
+  pub was : slice_get old place ≡ Some false
+  pub now : slice_get new place ≡ Some true
+
+-- the marks of so many first tuples; there are more of them where one that was not gone is gone now, and else they are
+-- what they were
 pub record AreMarks (indexed : IndexedQuery) (tuples : List (List Value)) (old : List Bool) (count : ℕ)
     (new : List Bool) (more : Bool) : Type 0 where
   pub as_many : length new ≡ count
@@ -71,6 +93,7 @@ pub record AreMarks (indexed : IndexedQuery) (tuples : List (List Value)) (old :
       → slice_get old place ≡ Some was
       → slice_get new place ≡ Some is → IsMark indexed tuple was is
   pub none : more ≡ false → new ≡ take count old
+  pub some : more ≡ true → GoesNow tuples old new
 
 -- ---- what is left
 

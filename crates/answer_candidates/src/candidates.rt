@@ -110,7 +110,7 @@ impl Candidates {
     }
 
     /// Notes which tuples are no answers over one more consistent completion, whose current instance is indexed. It is
-    /// listed, if there is such a tuple.
+    /// listed, if one of these was not gone before.
     pub fn note(
         &mut self,
         alloc: Global,

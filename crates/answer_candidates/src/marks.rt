@@ -1,4 +1,4 @@
-ghost use Rattle.std.specs.Prelude.{◌≡◌, IfOk, false, length, true};
+ghost use Rattle.std.specs.Prelude.{◌≡◌, ◌⊎◌, IfOk, false, length, true};
 ghost use Rattle.answer_candidates.specs.Candidates.{AreMarks, IsMark};
 
 use currency_base::{NoMemory, Tuple};
@@ -40,9 +40,10 @@ pub(crate) fn marked(
     Ok(Marks { gone: marks, more })
 }
 
-// Are there more tuples that are gone, once one more is looked at?
+// Are there more tuples that are gone, once one more is looked at? Just where there were, or this one was not and is now.
 fn is_more(more: bool, was: bool, mark: bool) -> bool
-    ensures { result ≡ false → (more ≡ false) × (mark ≡ true → was ≡ true) }
+    ensures none { result ≡ false → (more ≡ false) × (mark ≡ true → was ≡ true) }
+    ensures some { result ≡ true → (more ≡ true) ⊎ ((was ≡ false) × (mark ≡ true)) }
 {
     if was {
         return more;

@@ -29,6 +29,7 @@ use Rattle.order_literals.specs.Said.{Said, Says, positive}
 use Rattle.order_literals.specs.declared.wanted.Wanted.{Wanted}
 use Rattle.order_search.specs.Searches.{IsSearch, Search}
 use Rattle.query_model.specs.declared.query.Query.{Query}
+use Rattle.refutation_log.specs.Counted.{counted_steps}
 use Rattle.refutation_log.specs.Steps.{clause_of, clauses_of}
 use Rattle.refutation_log.specs.declared.log.Log.{Log}
 use Rattle.refutation_log.specs.declared.statement.Statement.{Statement}
@@ -40,7 +41,7 @@ use Rattle.report_verify.specs.Asked.{query_of}
 use Rattle.report_verify.specs.Supported.{Claim, IsDerived, IsOneOf, IsSupported, Need, needs_of}
 use Rattle.report_verify.specs.Supported.Claim.{Holds, HasValue, HasAnswer}
 use Rattle.report_model.specs.Writable.{IsWritableVerdict}
-use Rattle.search_logs.specs.Laws.{CompletionsAreWritable, LogsAreAccepted, LogsAreInPlace, TrimmedAreAmong, TrimmedAreReached, TrimmedAreWritable}
+use Rattle.search_logs.specs.Laws.{CompletionsAreWritable, LogsAreAccepted, LogsAreInPlace, TrimmedAreAmong, TrimmedAreNoMore, TrimmedAreReached, TrimmedAreUsed, TrimmedAreWritable}
 use Rattle.search_logs.specs.SearchLogs.{HasFewSteps}
 use Rattle.spec_model.specs.Completion.{Rankings}
 use Rattle.spec_model.specs.Consistent.{IsConsistent}
@@ -50,14 +51,14 @@ use Rattle.spec_model.specs.declared.question.Question.{Question}
 use Rattle.spec_model.specs.declared.question.Question.TheVariants as asked
 use Rattle.spec_model.specs.declared.relation.Relation.{Relation}
 use Rattle.value_names.specs.Names.{name_of}
-use Rattle.currency_ask.specs.Answered.{IsAnswerWithin, IsDecidedBy, IsGoal, IsOfClaims, IsUnitOf, NamesFirst, SaysClaim}
+use Rattle.currency_ask.specs.Answered.{IsAnswerWithin, IsDecidedBy, IsOfClaims, IsUnitOf, NamesFirst, SaysClaim}
 use Rattle.currency_ask.specs.Goals.{AreClaims, AreProved, IsClaimOf, IsGoalOn, rows_at, said_of}
 use Rattle.currency_ask.specs.Reported.{IsListedFor, IsReported, IsSearchFor}
 use Rattle.currency_ask.specs.declared.goal.Goal.{Goal}
 use Rattle.currency_ask.specs.declared.goal.Goal.TheVariants.{Pair, Current, Answer}
 use Rattle.currency_ask.proofs.Completions.{AreShown, shown_each}
 use Rattle.currency_ask.proofs.Places.{item_at}
-use Rattle.currency_ask.proofs.Wants.{accepted_for, among_of}
+use Rattle.currency_ask.proofs.Wants.{accepted_for, among_of, needed_of}
 
 -- the laws of search logs, of what they are trimmed to, and of what literals say
 pub record ClaimLaws : Type 0 where
@@ -70,6 +71,8 @@ pub record ClaimLaws : Type 0 where
   pub writable : TrimmedAreWritable
   pub among : TrimmedAreAmong
   pub reached : TrimmedAreReached
+  pub used : TrimmedAreUsed
+  pub no_more : TrimmedAreNoMore
   pub completions : CompletionsAreWritable
   pub orders : OrdersAgree
   pub values : ValuesAgree
@@ -277,30 +280,21 @@ module _ (laws : ClaimLaws) (seen : Search) (is : IsSearch seen) (few : HasFewSt
         derived_claim seen.spec trimmed.log need.part need.claim new.0
         (unit_at k goal.0 need.claim new.0 goal.1 (are.each k goal.0 need goal.1 (slice_get-get_or needs k d below)) new.1)
 
-    all_goals : (q : Question) (v : Verdict) → AreClaims seen.spec seen.posed goals (needs_of q v)
-        → All (IsGoal seen.spec q v trimmed.log) trimmed.goals
-    all_goals q v are k d below =
-        let goal = item_at goals k (omega (arith, below, as_many)) in
-        let need = item_at (needs_of q v) k (omega (arith, below, are.as_many, as_many)) in
-        record {
-          need = need.0;
-          needed = (
-            k,
-            slice_get_within (needs_of q v) k need.0 need.1,
-            get_or_from_slice_get (needs_of q v) k need.0
-                need.0 need.1,
-          );
-          unit = unit_at k goal.0 need.0.claim (get_or trimmed.goals k d) goal.1 (are.each k goal.0 need.0 goal.1 need.1)
-              (slice_get-get_or trimmed.goals k d below);
-        }
+    units_of : (needs : List Need) → AreClaims seen.spec seen.posed goals needs → (k : ℕ) (need : Need) (new : ℕ)
+        → slice_get needs k ≡ Some need → slice_get trimmed.goals k ≡ Some new → IsUnitOf seen.spec trimmed.log need.claim new
+    units_of needs are k need new at at_new =
+        let below = slice_get_within needs k need at in
+        let goal = item_at goals k (omega (arith, below, are.as_many)) in
+        unit_at k goal.0 need.claim new goal.1 (are.each k goal.0 need goal.1 at) at_new
 
-    of_claims : (q : Question) (v : Verdict) → IsSearchFor q seen → AreClaims seen.spec seen.posed goals (needs_of q v)
-        → IsOfClaims seen.spec q v trimmed.log
-    of_claims q v for_it are = record {
+    of_claims : (q : Question) (budget : ℕ) (v : Verdict) → IsSearchFor q seen → counted_steps seen.log.steps ≤ budget
+        → AreClaims seen.spec seen.posed goals (needs_of q v) → IsOfClaims seen.spec q budget v trimmed.log
+    of_claims q budget v for_it within are = record {
       goals = trimmed.goals;
-      are_goals = all_goals q v are;
-      reached = laws.reached seen.log steps trimmed in_place t;
-      among = among_of laws.among q seen steps trimmed is for_it few t;
+      one_each = as_many ∙ are.as_many;
+      units = units_of (needs_of q v) are;
+      needed = needed_of laws.reached laws.used laws.no_more budget seen.log steps trimmed in_place t within;
+      among = among_of laws.among laws.no_more q seen steps trimmed is for_it few t;
     }
 
     written : IsWritable trimmed.log × (first_fault seen.spec.relations trimmed.log ≡ None)
@@ -356,30 +350,32 @@ module _ (laws : ClaimLaws) (seen : Search) (is : IsSearch seen) (few : HasFewSt
     answers_supported (asked.Same rels) query tuples completions e some derived common = let no : ⊥ = cc in absurd no
 
     report_of : (q : Question) (budget : ℕ) (v : Verdict) (completions : List Rankings) → IsSearchFor q seen
-        → AreShown seen.spec completions
+        → counted_steps seen.log.steps ≤ budget → AreShown seen.spec completions
         → IsWritableVerdict seen.spec.relations v → IsOneOf seen.spec q v → AreClaims seen.spec seen.posed goals (needs_of q v)
         → IsListedFor seen.spec q v completions → IsReported seen.spec q budget
         (record { verdict = v; completions = completions; log = trimmed.log })
-    report_of q budget verdict.Certain completions for_it shown verdict_written one_of are listed =
+    report_of q budget verdict.Certain completions for_it within shown verdict_written one_of are listed =
         report_with q budget verdict.Certain completions for_it shown verdict_written one_of
         (one_is_some completions listed, all_derived (needs_of q verdict.Certain) are)
-        (listed, of_claims q verdict.Certain for_it are)
+        (listed, of_claims q budget verdict.Certain for_it within are)
         (λ count counts enough. refl) tt
-    report_of q budget (verdict.Same items) completions for_it shown verdict_written one_of are listed =
+    report_of q budget (verdict.Same items) completions for_it within shown verdict_written one_of are listed =
         report_with q budget (verdict.Same items) completions for_it shown verdict_written one_of
         (one_is_some completions listed, all_derived (needs_of q (verdict.Same items)) are)
-        (listed, of_claims q (verdict.Same items) for_it are)
+        (listed, of_claims q budget (verdict.Same items) for_it within are)
         (λ count counts enough. refl) tt
-    report_of q budget (verdict.Answers tuples) completions for_it shown verdict_written one_of are listed =
+    report_of q budget (verdict.Answers tuples) completions for_it within shown verdict_written one_of are listed =
         report_with q budget (verdict.Answers tuples) completions for_it shown verdict_written one_of
         (answers_supported q listed.1 tuples completions listed.2 listed.0
         (all_derived (needs_of q (verdict.Answers tuples)) are) listed.3)
-        (listed.0, of_claims q (verdict.Answers tuples) for_it are) (λ count counts enough. refl) tt
-    report_of q budget verdict.Inconsistent completions for_it shown verdict_written one_of are listed = absurd listed
-    report_of q budget verdict.Consistent completions for_it shown verdict_written one_of are listed = absurd listed
-    report_of q budget (verdict.NotCertain p) completions for_it shown verdict_written one_of are listed = absurd listed
-    report_of q budget (verdict.NotSame rel attr ent) completions for_it shown verdict_written one_of are listed = absurd listed
-    report_of q budget (verdict.Undecided counted) completions for_it shown verdict_written one_of are listed = absurd listed
+        (listed.0, listed.4, of_claims q budget (verdict.Answers tuples) for_it within are) (λ count counts enough. refl) tt
+    report_of q budget verdict.Inconsistent completions for_it within shown verdict_written one_of are listed = absurd listed
+    report_of q budget verdict.Consistent completions for_it within shown verdict_written one_of are listed = absurd listed
+    report_of q budget (verdict.NotCertain p) completions for_it within shown verdict_written one_of are listed = absurd listed
+    report_of q budget (verdict.NotSame rel attr ent) completions for_it within shown verdict_written one_of are
+        listed = absurd listed
+    report_of q budget (verdict.Undecided counted) completions for_it within shown verdict_written one_of are
+        listed = absurd listed
 
 -- the log of a search with few steps, of which these are the units of goals
 pub record HasUnits (seen : Search) (log : Log) (goals : List Goal) (steps : List ℕ) : Type 0 where
@@ -399,12 +395,13 @@ pub claims_reported : ClaimLaws → (seen : Search) (log : Log) (goals : List Go
     → HasUnits seen log goals steps → (trimmed : Trimmed)
     → IsTrimmed log steps trimmed → (v : Verdict) (completions : List Rankings) → All (IsConsistent seen.spec)
     completions → length completions ≤ 4294967294
-    → IsWritableVerdict seen.spec.relations v → (q : Question) (budget : ℕ) → IsSearchFor q seen → IsOneOf seen.spec q v
+    → IsWritableVerdict seen.spec.relations v → (q : Question) (budget : ℕ) → IsSearchFor q seen
+    → counted_steps seen.log.steps ≤ budget → IsOneOf seen.spec q v
     → AreClaims seen.spec seen.posed goals (needs_of q v) → IsListedFor seen.spec q v completions
     → IsReported seen.spec q budget (record { verdict = v; completions = completions; log = trimmed.log })
-claims_reported laws seen log goals steps has trimmed t v completions consistent few verdict_written q budget for_it
+claims_reported laws seen log goals steps has trimmed t v completions consistent few verdict_written q budget for_it within
     one_of are listed =
     report_of laws seen has.search_is has.few goals steps has.on has.proved trimmed
     (subst (λ (l : Log). IsTrimmed l steps trimmed) has.log_is t) q budget v
-    completions for_it (shown_each laws.completions seen.spec completions has.search_is.within consistent few)
+    completions for_it within (shown_each laws.completions seen.spec completions has.search_is.within consistent few)
     verdict_written one_of are listed

@@ -1,5 +1,5 @@
 -- The report of a step that is the empty clause.
-use Rattle.std.proofs.Common.{◌≡◌, ◌∙◌, ◌<◌, ℕ, List, [], ◌∷◌, All, None, Some, length, map, slice_get, refl, sym, ap, subst, arith}
+use Rattle.std.proofs.Common.{◌≡◌, ◌∙◌, ◌<◌, ◌≤◌, ℕ, List, [], ◌∷◌, All, None, Some, length, map, slice_get, refl, sym, ap, subst, arith}
 use Rattle.std.proofs.lemmas.List.{length-map}
 use Rattle.std.proofs.lemmas.List.Elements.{All-cons, All-nil}
 use Rattle.std.proofs.lemmas.List.Folds.{list_any_at}
@@ -12,22 +12,23 @@ use Rattle.log_trim.specs.Trimmed.{AreInPlace, IsTrimmed, lits_at, rank, renumbe
 use Rattle.log_trim.specs.declared.trimming.Trimmed.{Trimmed}
 use Rattle.refutation_log.specs.Writable.{IsWritable}
 use Rattle.order_search.specs.Searches.{IsSearch, Search}
+use Rattle.refutation_log.specs.Counted.{counted_steps}
 use Rattle.refutation_log.specs.Steps.{clause_of, clauses_of}
 use Rattle.refutation_log.specs.declared.log.Log.{Log}
 use Rattle.report_model.specs.declared.verdict.Verdict.TheVariants.{Inconsistent}
 use Rattle.report_verify.specs.Asked.{query_of}
 use Rattle.report_verify.specs.Supported.{HasEmpty}
 use Rattle.report_model.specs.Writable.{AllCover, IsWritableCompletion}
-use Rattle.search_logs.specs.Laws.{LogsAreAccepted, LogsAreInPlace, TrimmedAreAmong, TrimmedAreReached, TrimmedAreWritable}
+use Rattle.search_logs.specs.Laws.{LogsAreAccepted, LogsAreInPlace, TrimmedAreAmong, TrimmedAreNoMore, TrimmedAreReached, TrimmedAreUsed, TrimmedAreWritable}
 use Rattle.search_logs.specs.SearchLogs.{HasFewSteps}
 use Rattle.spec_model.specs.Completion.{Rankings}
 use Rattle.spec_model.specs.Consistent.{IsConsistent}
 use Rattle.spec_model.specs.Spec.{Spec}
 use Rattle.spec_model.specs.declared.question.Question.{Question}
-use Rattle.currency_ask.specs.Answered.{AreAmong, IsOfEmpty}
+use Rattle.currency_ask.specs.Answered.{AreAmong, IsNeeded, IsOfEmpty}
 use Rattle.currency_ask.specs.Reported.{IsReported, IsSearchFor}
 use Rattle.currency_ask.proofs.NoCompletions.{few_none}
-use Rattle.currency_ask.proofs.Wants.{accepted_for, among_of}
+use Rattle.currency_ask.proofs.Wants.{accepted_for, among_of, needed_of}
 
 -- the laws of search logs, and of what they are trimmed to
 pub record EmptyLaws : Type 0 where
@@ -38,6 +39,8 @@ pub record EmptyLaws : Type 0 where
   pub writable : TrimmedAreWritable
   pub among : TrimmedAreAmong
   pub reached : TrimmedAreReached
+  pub used : TrimmedAreUsed
+  pub no_more : TrimmedAreNoMore
 
 -- the log of a search with few steps, one of which is the empty clause
 pub record HasEmptyStep (seen : Search) (log : Log) (place : ℕ) : Type 0 where
@@ -78,30 +81,27 @@ has_empty log place empty =
     list_any_at is_empty (clauses_of log.steps) place [] (slice_get_within (clauses_of log.steps) place [] empty)
     (ap is_empty (get_or_from_slice_get (clauses_of log.steps) place [] [] empty))
 
-is_of_empty : TrimmedAreReached → (s : Spec) (q : Question) (log : Log) (place : ℕ) (trimmed : Trimmed)
-    → AreInPlace log (place ∷ [])
+is_of_empty : (s : Spec) (q : Question) (budget : ℕ) (log : Log) (place : ℕ) (trimmed : Trimmed)
     → (t : IsTrimmed log (place ∷ []) trimmed) → slice_get (clauses_of trimmed.log.steps) (rank t.step_kept place) ≡
-    Some [] → AreAmong s q trimmed.log
-    → IsOfEmpty s q trimmed.log
-is_of_empty law s q log place trimmed in_place t empty among = record {
-  goals = trimmed.goals;
-  are_empty = subst (All are) (sym t.new_goals) (All-cons are (rank t.step_kept place) [] empty (All-nil are));
-  reached = law log (place ∷ []) trimmed in_place t;
+    Some [] → IsNeeded budget trimmed.log trimmed.goals → AreAmong s q trimmed.log
+    → IsOfEmpty s q budget trimmed.log
+is_of_empty s q budget log place trimmed t empty needed among = record {
+  goal = rank t.step_kept place;
+  is_empty = empty;
+  needed = subst (IsNeeded budget trimmed.log) t.new_goals needed;
   among = among;
 }
-  where
-    are : ℕ → Type 0
-    are goal = slice_get (clauses_of trimmed.log.steps) goal ≡ Some []
 
 -- ---- the report
 
 trimmed_reported : EmptyLaws → (seen : Search) (place : ℕ) (trimmed : Trimmed) (q : Question) (budget : ℕ)
     (completions : List Rankings) → IsSearchFor q seen
+    → counted_steps seen.log.steps ≤ budget
     → IsSearch seen → HasFewSteps seen.log → slice_get (clauses_of seen.log.steps) place ≡ Some []
     → AreInPlace seen.log (place ∷ [])
     → IsTrimmed seen.log (place ∷ []) trimmed → completions ≡ []
     → IsReported seen.spec q budget (record { verdict = Inconsistent; completions = completions; log = trimmed.log })
-trimmed_reported laws seen place trimmed q budget completions for_it is few empty in_place t none = record {
+trimmed_reported laws seen place trimmed q budget completions for_it within is few empty in_place t none = record {
   shown = record {
     sound = record {
       one_of = tt;
@@ -120,8 +120,9 @@ trimmed_reported laws seen place trimmed q budget completions for_it is few empt
   };
   lists = (
     none,
-    is_of_empty laws.reached seen.spec q seen.log place trimmed in_place t stays
-        (among_of laws.among q seen (place ∷ []) trimmed is for_it few t),
+    is_of_empty seen.spec q budget seen.log place trimmed t stays
+        (needed_of laws.reached laws.used laws.no_more budget seen.log (place ∷ []) trimmed in_place t within)
+        (among_of laws.among laws.no_more q seen (place ∷ []) trimmed is for_it few t),
   );
   enough = λ count counts enough. refl;
   first = tt;
@@ -136,9 +137,10 @@ trimmed_reported laws seen place trimmed q budget completions for_it is few empt
 
 pub empty_reported : EmptyLaws → (seen : Search) (log : Log) (place : ℕ) (trimmed : Trimmed) (q : Question)
     (budget : ℕ) (completions : List Rankings)
-    → IsSearchFor q seen → HasEmptyStep seen log place → IsTrimmed log (place ∷ []) trimmed → completions ≡ []
+    → IsSearchFor q seen → counted_steps seen.log.steps ≤ budget → HasEmptyStep seen log place
+    → IsTrimmed log (place ∷ []) trimmed → completions ≡ []
     → IsReported seen.spec q budget (record { verdict = Inconsistent; completions = completions; log = trimmed.log })
-empty_reported laws seen log place trimmed q budget completions for_it has t none =
-    trimmed_reported laws seen place trimmed q budget completions for_it has.search_is has.few has.empty
+empty_reported laws seen log place trimmed q budget completions for_it within has t none =
+    trimmed_reported laws seen place trimmed q budget completions for_it within has.search_is has.few has.empty
     (subst (λ (l : Log). AreInPlace l (place ∷ [])) has.log_is (can_trim laws seen log place has))
     (subst (λ (l : Log). IsTrimmed l (place ∷ []) trimmed) has.log_is t) none

@@ -7,7 +7,7 @@ use Rattle.std.proofs.lemmas.List.Elements.{All-filter, filter_passes}
 use Rattle.std.proofs.lemmas.List.Sums.{count_by-le-length, length-filter}
 use Rattle.std.proofs.lemmas.List.FromFn.{get_or-range_with_len, length-range_with_len}
 use Rattle.std.proofs.lemmas.Option.{same_Some, slice_get-get_or}
-use Rattle.answer_candidates.specs.Candidates.{AreCandidates, LeftAreCommon, Standing, is_left, left_of, left_tuples}
+use Rattle.answer_candidates.specs.Candidates.{AreCandidates, EachRefutes, LeftAreCommon, Standing, is_left, left_of, left_tuples}
 use Rattle.certain_answers.specs.Deciding.{AreDecidedUpTo, IsProved as HasItsUnit}
 use Rattle.currency_base.specs.declared.value.Value.{Value}
 use Rattle.refutation_log.specs.Writable.{AreFew}
@@ -21,6 +21,7 @@ use Rattle.spec_model.specs.Completion.{Rankings}
 use Rattle.spec_model.specs.Spec.{Spec}
 use Rattle.spec_model.specs.declared.question.Question.TheVariants as asked
 use Rattle.currency_base.specs.Values.{IsValue}
+use Rattle.currency_ask.specs.Answered.{EachLacksOne}
 use Rattle.currency_ask.specs.Goals.{AreClaims, AreProved, IsClaimOf, IsGoalOn, IsProved}
 use Rattle.currency_ask.specs.Reported.{IsListedFor}
 use Rattle.currency_ask.specs.declared.goal.Goal.{Goal}
@@ -179,7 +180,11 @@ module _ (search : Search) (s : Spec) (query : Query) (standing : Standing) (ste
       (verdict.Answers (left_tuples standing)) cs) (sym same)
       (subst (λ (x : Spec). IsListedFor x (asked.Answers query) (verdict.Answers (left_tuples standing))
       standing.completions) (sym are.spec)
-      (are.candidates.some, query, refl, record { each = common.each; all = common.all }))
+      (are.candidates.some, query, refl, record { each = common.each; all = common.all }, lacks))
+    where
+      lacks : EachLacksOne s (asked.Answers query) standing.completions
+      lacks own e =
+          subst (λ (x : Query). EachRefutes s.relations x standing.completions) (same_Some query own e) are.candidates.refuting
 
   pub answers_ascend : LeftAreCommon → IsOneOf search.spec (asked.Answers query) (verdict.Answers (left_tuples standing))
   answers_ascend law = (law s query standing are.candidates).ascending

@@ -1,5 +1,5 @@
 -- What a report that answers a question has besides that it shows its verdict.
-use Rattle.std.specs.Prelude.{◌≡◌, ◌≢◌, ◌⊎◌, ◌<◌, ℕ, true, List, [], ◌∷◌, All, Contains, Some, length, slice_get, take}
+use Rattle.std.specs.Prelude.{◌≡◌, ◌≢◌, ◌⊎◌, ◌<◌, ◌≤◌, ℕ, true, false, List, [], ◌∷◌, All, Contains, Some, length, slice_get, take}
 use Rattle.certain_answers.specs.Deciding.{relations_of}
 use Rattle.currency_base.specs.declared.ids.AttrId.{AttrId}
 use Rattle.currency_base.specs.declared.ids.EntId.{EntId}
@@ -21,22 +21,27 @@ use Rattle.refutation_log.specs.Counted.{CountedAreNew, IsOpenLog, counted_steps
 use Rattle.refutation_log.specs.Steps.{clauses_of}
 use Rattle.refutation_log.specs.declared.log.Log.{Log}
 use Rattle.refutation_log.specs.declared.statement.Statement.{Statement}
+use Rattle.refutation_log.specs.declared.step.Label.{Label}
+use Rattle.refutation_log.specs.declared.step.Label.TheVariants as label
+use Rattle.refutation_log.specs.declared.step.Step.TheVariants as step
 use Rattle.log_axioms.specs.Axioms.{answer, before, last, lit_says}
-use Rattle.log_trim.specs.Trimmed.{Reaches}
+use Rattle.log_trim.specs.Trimmed.{IsUsedAnswer, IsUsedVar, Reaches}
 use Rattle.order_literals.specs.Enough.{IsEnough}
 use Rattle.order_literals.specs.Numbers.{numbers_of}
 use Rattle.order_literals.specs.Statements.{statements_of}
 use Rattle.order_literals.specs.declared.wanted.Wanted.{Wanted}
+use Rattle.order_search.specs.Searches.{BeginsWithAxioms}
 use Rattle.report_model.specs.Verdicts.{is_decided, kind_of}
 use Rattle.report_model.specs.declared.report.Report.{Report}
 use Rattle.report_model.specs.declared.verdict.Verdict.{Verdict}
 use Rattle.report_model.specs.declared.verdict.Verdict.TheVariants.{Inconsistent, Consistent, Certain, NotCertain, Same, NotSame, Answers, Undecided}
-use Rattle.answer_candidates.specs.Candidates.{AreAnswersIn, IsTooMany}
+use Rattle.answer_candidates.specs.Candidates.{AreAnswersIn, EachRefutes, IsTooMany}
 use Rattle.report_verify.specs.Asked.{query_of}
 use Rattle.report_verify.specs.Right.{EachConsistent, PairHolds}
 use Rattle.report_verify.specs.Supported.{Claim, Need, needs_of}
 use Rattle.report_verify.specs.Supported.Claim.{Holds, HasValue, HasAnswer}
 use Rattle.axiom_agreement.specs.Agreement.{HasAxioms}
+use Rattle.search_logs.specs.Free.{IsFreeClause}
 
 -- ---- the variables of a question
 
@@ -67,27 +72,53 @@ AreNumberedAnswers s q tuples = (tuples ≡ []) ⊎ ((query : Query) × (query_o
 
 -- ---- logs
 
--- the log of a search that is cut off: so many counted steps, each new; it is open; it has every axiom of a given pair, a rule
--- and a copy function; and its statements are the variables of the question
+-- the label of a match
+abbrev pub IsMatchLabel : Label → Type 0
+IsMatchLabel (label.Match disjunct entities values) = Unit {0}
+IsMatchLabel other = ⊥
+
+-- the search brings in axioms of matches alone, and of the clauses that it learns those alone are not counted that are empty, of
+-- one literal, or of the derivation that some row of a list is last
+pub record IsCountedRight (s : Spec) (log : Log) : Type 0 where
+  pub demanded : (place : ℕ) (l : Label) (lits : List Lit) → slice_get log.steps place ≡ Some (step.OnDemand l lits)
+      → IsMatchLabel l
+  pub free : (place : ℕ) (lits : List Lit) (hints : List ℕ) → slice_get log.steps place ≡ Some (step.Learn lits hints false)
+      → IsFreeClause s log.statements lits
+
+-- the log of a search that is cut off: so many counted steps, each new, and no others than those that may be are not counted; it
+-- is open; it begins with exactly the axioms of given pairs, rules and copy functions and those on the current values that are
+-- asked for, none of which is counted, so it has every axiom of a given pair, a rule and a copy function; and its statements are
+-- the variables of the question
 pub record IsCutOff (s : Spec) (q : Question) (budget : ℕ) (log : Log) : Type 0 where
   pub counted : counted_steps log.steps ≡ budget
   pub counted_new : CountedAreNew log.steps
+  pub counted_right : IsCountedRight s log
   pub open_log : IsOpenLog log.steps
+  pub begins : BeginsWithAxioms s (wanted_of q (length log.answers)) log.steps
   pub axioms : HasAxioms s log.steps
   pub answers : AreNumberedAnswers s q log.answers
   pub statements : log.statements ≡ variables_of s q (length log.answers)
 
--- the statements of a log are among the variables of the question
+-- the statements of a log are among the variables of the question, and its answers among those that are numbered
 pub record AreAmong (s : Spec) (q : Question) (log : Log) : Type 0 where
   pub answers : List (List Value)
   pub numbered : AreNumberedAnswers s q answers
   pub each : All (Contains (variables_of s q (length answers))) log.statements
+  pub candidates : All (Contains answers) log.answers
 
--- each step of a log is reached by hints from a step that is the empty clause
-pub record IsOfEmpty (s : Spec) (q : Question) (log : Log) : Type 0 where
-  pub goals : List ℕ
-  pub are_empty : All (λ goal. slice_get (clauses_of log.steps) goal ≡ Some []) goals
+-- a log is what some of its steps, the goals, need: each step is reached from these by hints, each statement is that of a literal
+-- of such a step, and each answer is named by such a statement; and no more steps are counted than the budget has units
+pub record IsNeeded (budget : ℕ) (log : Log) (goals : List ℕ) : Type 0 where
   pub reached : (place : ℕ) → place < length log.steps → Reaches log.steps goals place
+  pub statements : (var : ℕ) → var < length log.statements → IsUsedVar log.steps goals var
+  pub answers : (tuple : ℕ) → tuple < length log.answers → IsUsedAnswer log goals tuple
+  pub counted : counted_steps log.steps ≤ budget
+
+-- a log is what one step needs, which is the empty clause
+pub record IsOfEmpty (s : Spec) (q : Question) (budget : ℕ) (log : Log) : Type 0 where
+  pub goal : ℕ
+  pub is_empty : slice_get (clauses_of log.steps) goal ≡ Some []
+  pub needed : IsNeeded budget log (goal ∷ [])
   pub among : AreAmong s q log
 
 -- a literal says that a value is the current one of an entity, which is named by a row of it with the value
@@ -118,17 +149,13 @@ pub record IsUnitOf (s : Spec) (log : Log) (claim : Claim) (goal : ℕ) : Type 0
   pub is_unit : slice_get (clauses_of log.steps) goal ≡ Some (lit ∷ [])
   pub says : SaysClaim s log lit claim
 
--- a step is the unit of one of the claims
-pub record IsGoal (s : Spec) (q : Question) (v : Verdict) (log : Log) (goal : ℕ) : Type 0 where
-  pub need : Need
-  pub needed : Contains (needs_of q v) need
-  pub unit : IsUnitOf s log need.claim goal
-
--- each step of a log is reached by hints from a step that is the unit of one of the verdict's claims
-pub record IsOfClaims (s : Spec) (q : Question) (v : Verdict) (log : Log) : Type 0 where
+-- a log is what the units of a verdict's claims need: one step for each claim, in their order
+pub record IsOfClaims (s : Spec) (q : Question) (budget : ℕ) (v : Verdict) (log : Log) : Type 0 where
   pub goals : List ℕ
-  pub are_goals : All (IsGoal s q v log) goals
-  pub reached : (place : ℕ) → place < length log.steps → Reaches log.steps goals place
+  pub one_each : length goals ≡ length (needs_of q v)
+  pub units : (k : ℕ) (need : Need) (goal : ℕ) → slice_get (needs_of q v) k ≡ Some need → slice_get goals k ≡ Some goal
+      → IsUnitOf s log need.claim goal
+  pub needed : IsNeeded budget log goals
   pub among : AreAmong s q log
 
 -- a log with nothing in it
@@ -138,20 +165,24 @@ pub record HasNothing (log : Log) : Type 0 where
 
 -- ---- answers
 
+-- of the query that is asked, each completion after the first lacks an answer that all before it have in common
+abbrev pub EachLacksOne : Spec → Question → List Rankings → Type 0
+EachLacksOne s q completions = (query : Query) → query_of q ≡ Some query → EachRefutes s.relations query completions
+
 -- what a report that answers a question lists and derives, within a budget: what a claim of some completion asks for, and no log;
--- or one completion, and what the units of the claims need; or no completion, and what the empty clause needs; or no completion,
--- and the log of a search that took the whole budget
+-- or one completion (of certain answers some, each of which is needed), and what the units of the claims need; or no completion,
+-- and what the empty clause needs; or no completion, and the log of a search that took the whole budget
 abbrev pub IsAnswerWithin : Spec → Question → ℕ → Report → Type 0
 IsAnswerWithin s q budget r = by r.verdict
   where
     by : Verdict → Type 0
-    by Inconsistent = (r.completions ≡ []) × IsOfEmpty s q r.log
+    by Inconsistent = (r.completions ≡ []) × IsOfEmpty s q budget r.log
     by Consistent = (length r.completions ≡ 1) × HasNothing r.log
-    by Certain = (length r.completions ≡ 1) × IsOfClaims s q r.verdict r.log
+    by Certain = (length r.completions ≡ 1) × IsOfClaims s q budget r.verdict r.log
     by (NotCertain p) = (length r.completions ≡ 1) × HasNothing r.log
-    by (Same items) = (length r.completions ≡ 1) × IsOfClaims s q r.verdict r.log
+    by (Same items) = (length r.completions ≡ 1) × IsOfClaims s q budget r.verdict r.log
     by (NotSame rel attr ent) = (length r.completions ≡ 2) × HasNothing r.log
-    by (Answers tuples) = (r.completions ≢ []) × IsOfClaims s q r.verdict r.log
+    by (Answers tuples) = (r.completions ≢ []) × EachLacksOne s q r.completions × IsOfClaims s q budget r.verdict r.log
     by (Undecided counted) = (r.completions ≡ []) × (counted ≡ budget) × IsCutOff s q budget r.log
 
 -- for each consistent completion it is told how many answers a question has over it; of a question that is no query, none

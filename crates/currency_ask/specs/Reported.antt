@@ -14,7 +14,7 @@ use Rattle.report_model.specs.declared.verdict.Verdict.TheVariants as verdict
 use Rattle.report_verify.specs.Shown.{ShowsVerdict}
 use Rattle.report_write.specs.Writable.{IsWritableReport}
 use Rattle.report_verify.specs.Asked.{query_of}
-use Rattle.currency_ask.specs.Answered.{AreNumberedAnswers, IsAnswerWithin, IsDecidedBy, NamesFirst, currents_of}
+use Rattle.currency_ask.specs.Answered.{AreNumberedAnswers, EachLacksOne, IsAnswerWithin, IsDecidedBy, NamesFirst, currents_of}
 use Rattle.certain_answers.specs.Deciding.{IsEnd}
 
 -- all that is said of a report that answers a question, within a budget
@@ -44,12 +44,13 @@ pub record HasSpent (search : Search) (budget : ℕ) : Type 0 where
   pub open_log : IsOpenLog search.log.steps
 
 -- what a verdict that claims something of every consistent completion lists: one completion, or, of answers, some that
--- have exactly these in common
+-- have exactly these in common, and of which each after the first lacks one that those before it have
 abbrev pub IsListedFor : Spec → Question → Verdict → List Rankings → Type 0
 IsListedFor s q verdict.Certain completions = length completions ≡ 1
 IsListedFor s q (verdict.Same items) completions = length completions ≡ 1
 IsListedFor s q (verdict.Answers tuples) completions =
     (completions ≢ []) × (query : Query) × (query_of q ≡ Some query) × AreCommon s.relations query tuples completions
+    × EachLacksOne s q completions
 IsListedFor s q v completions = ⊥
 
 -- the report has this verdict and these completions, and nothing else

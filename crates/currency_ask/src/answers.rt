@@ -208,7 +208,8 @@ fn reported(
     requires few { length candidates.tuples ≤ 1000000 }
     requires over { AreAnswersOverSome spec.now query.now candidates.tuples }
     requires decided { AreDecidedUpTo search candidates (length candidates.tuples) steps.now }
-    ensures { (budget : ℕ) → IfOk result (IsReported spec.now (asked.Answers query.now) budget) }
+    ensures { (budget : ℕ) → counted_steps search.entry.log.steps ≤ budget → IfOk result
+        (IsReported spec.now (asked.Answers query.now) budget) }
 {
     left_are_common();
     search.is_search();

@@ -119,7 +119,8 @@ fn pairs_derived(
     requires failing { IfSome failing (FailsFirst pairs.now first) }
     requires goals { AreFirstPairs pairs.now failing goals.now }
     requires proved { AreProved search goals.now steps.now }
-    ensures { (budget : ℕ) → IfOk result (IsReported spec.now (asked.Certain pairs.now) budget) }
+    ensures { (budget : ℕ) → counted_steps search.entry.log.steps ≤ budget → IfOk result
+        (IsReported spec.now (asked.Certain pairs.now) budget) }
 {
     search.is_search();
     match failing {

@@ -1,4 +1,5 @@
 ghost use Rattle.std.specs.Prelude.{◌≡◌, ◌≤◌, ◌∷◌, ℕ, [], All, Some, length, slice_get, IfOk};
+ghost use Rattle.refutation_log.specs.Counted.{counted_steps};
 ghost use Rattle.refutation_log.specs.Steps.{clauses_of};
 ghost use Rattle.report_verify.specs.Supported.{IsOneOf, needs_of};
 ghost use Rattle.report_model.specs.Writable.{IsWritableVerdict};
@@ -48,7 +49,8 @@ pub(crate) fn ended(
 fn inconsistent(alloc: Global, search: Search<'_>, place: u32) -> Result<Report, NoMemory>
     requires few { HasFewSteps search.log }
     requires empty { slice_get (clauses_of search.log.steps) place ≡ Some [] }
-    ensures { (q : Question) (budget : ℕ) → IsSearchFor q search.entry → IfOk result (IsReported search.entry.spec q budget) }
+    ensures { (q : Question) (budget : ℕ) → IsSearchFor q search.entry → counted_steps search.entry.log.steps ≤ budget
+        → IfOk result (IsReported search.entry.spec q budget) }
 {
     search_logs_are_accepted();
     trimmed_logs_are_accepted();
@@ -98,7 +100,8 @@ pub(crate) fn proved(
     requires proved { AreProved search goals.now steps.now }
     requires consistent { IsConsistent search.spec completion }
     requires writable { IsWritableVerdict search.spec.relations verdict }
-    ensures { (q : Question) (budget : ℕ) → IsSearchFor q search.entry → IsOneOf search.entry.spec q verdict
+    ensures { (q : Question) (budget : ℕ) → IsSearchFor q search.entry → counted_steps search.entry.log.steps ≤ budget
+        → IsOneOf search.entry.spec q verdict
         → AreClaims search.entry.spec search.entry.posed goals.now (needs_of q verdict)
         → IsListedFor search.entry.spec q verdict (completion ∷ []) → IfOk result (IsReported search.entry.spec q budget) }
 {
@@ -123,7 +126,8 @@ pub(crate) fn derived(
     requires listed { All (IsConsistent search.spec) completions }
     requires few { length completions ≤ 4294967294 }
     requires writable { IsWritableVerdict search.spec.relations verdict }
-    ensures { (q : Question) (budget : ℕ) → IsSearchFor q search.entry → IsOneOf search.entry.spec q verdict
+    ensures { (q : Question) (budget : ℕ) → IsSearchFor q search.entry → counted_steps search.entry.log.steps ≤ budget
+        → IsOneOf search.entry.spec q verdict
         → AreClaims search.entry.spec search.entry.posed goals.now (needs_of q verdict)
         → IsListedFor search.entry.spec q verdict completions → IfOk result (IsReported search.entry.spec q budget) }
 {
@@ -146,7 +150,8 @@ fn trimmed(
     requires listed { All (IsConsistent search.spec) completions }
     requires few { length completions ≤ 4294967294 }
     requires writable { IsWritableVerdict search.spec.relations verdict }
-    ensures { (q : Question) (budget : ℕ) → IsSearchFor q search.entry → IsOneOf search.entry.spec q verdict
+    ensures { (q : Question) (budget : ℕ) → IsSearchFor q search.entry → counted_steps search.entry.log.steps ≤ budget
+        → IsOneOf search.entry.spec q verdict
         → AreClaims search.entry.spec search.entry.posed goals.now (needs_of q verdict)
         → IsListedFor search.entry.spec q verdict completions → IfOk result (IsReported search.entry.spec q budget) }
 {

@@ -4,4 +4,5 @@ mod Trials
 mod Room
 mod Edited
 mod Named
-mod Known
+mod OfPart
+mod Settled

@@ -1,5 +1,5 @@
 -- Sessions: what is kept, and what a reply is.
-use Rattle.std.specs.Prelude.{◌≡◌, ◌⊎◌, ◌≤◌, ◌+◌, ◌-◌, ◌^◌, ℕ, true, false, min, nat_lt, List, [], ◌∷◌, ◌++◌, drop, take, length, All, IfSome, Option, Some, Result, Ok, Err, if◌then◌else◌, slice_get}
+use Rattle.std.specs.Prelude.{◌≡◌, ◌⊎◌, ◌≤◌, ◌+◌, ◌-◌, ◌^◌, ℕ, true, false, min, nat_lt, List, [], ◌∷◌, ◌++◌, drop, take, length, All, Option, Some, Result, Ok, Err, if◌then◌else◌, slice_get}
 use Rattle.currency_ask.specs.Answered.{HasTooMany}
 use Rattle.currency_ask.specs.Reported.{IsReported}
 use Rattle.currency_ask.specs.declared.fault.AskFault.{AskFault}
@@ -10,12 +10,13 @@ use Rattle.report_verify.specs.Right.{IsRight}
 use Rattle.report_verify.specs.Shown.{ShowsVerdict}
 use Rattle.report_write.specs.Writable.{IsWritableReport}
 use Rattle.spec_model.specs.Completion.{Rankings}
-use Rattle.spec_model.specs.Consistent.{IsConsistent}
 use Rattle.spec_model.specs.Spec.{Spec}
 use Rattle.spec_model.specs.declared.question.Question.{Question}
 use Rattle.spec_model.specs.declared.relation.Relation.{Relation}
 use Rattle.currency_session.specs.declared.reply.Reply.{Reply}
 use Rattle.currency_session.specs.declared.reply.Reply.TheVariants.{Kept, Open}
+use Rattle.currency_session.specs.declared.start.Start.{Start}
+use Rattle.currency_session.specs.Starts.{IsStart}
 
 -- a specification, the reports that are kept, the oldest first, and how often one of them was the reply
 pub record Session : Type 0 where
@@ -33,10 +34,10 @@ pub record AreKept (relations : List Relation) (kept : List Report) : Type 0 whe
   pub few : length kept ≤ 4
   pub each : All (IsKeptReport relations) kept
 
--- what a session holds of a specification: such reports, and a consistent completion, if one is known
-pub record IsHeld (s : Spec) (reports : List Report) (found : Option Rankings) : Type 0 where
+-- what a session holds of a specification: such reports, and what a search may start from
+pub record IsHeld (s : Spec) (reports : List Report) (from : Start) : Type 0 where
   pub kept : AreKept s.relations reports
-  pub known : IfSome found (IsConsistent s)
+  pub start : IsStart s from
 
 -- none of these reports shows its verdict
 abbrev pub NoneShows : Spec → Question → List Report → Type 0

@@ -5,6 +5,7 @@ ghost use Rattle.currency_ask.specs.Answered.{HasTooMany};
 ghost use Rattle.currency_ask.specs.Reported.{IsReported};
 ghost use Rattle.currency_ask.specs.declared.fault.AskFault.TheVariants as fault;
 ghost use Rattle.currency_session.specs.Sessions.{IsFirstShown, IsKeptReport, NoneShows};
+ghost use Rattle.currency_session.specs.Starts.{IsStart};
 ghost use Rattle.report_verify.specs.Shown.{ShowsVerdict};
 ghost use Rattle.search_logs.specs.SearchLogs.{IsWithin};
 ghost use Rattle.spec_model.specs.Completion.{Rankings};
@@ -13,6 +14,7 @@ ghost use Rattle.spec_model.specs.Questions.{IsQuestionOn};
 
 use crate::knowing::{known_copy, learn};
 use crate::looks::{has_turned, may_show};
+use crate::start::Start;
 use currency_ask::{AskFault, answer, answer_from};
 use currency_base::NoMemory;
 use log_form::literals_are_of_statements;
@@ -73,22 +75,21 @@ pub(crate) fn searched(
     alloc: Global,
     spec: &Specification,
     question: &Question,
-    known: &mut Option<Completion>,
-    turned: Option<Asked>,
+    start: &mut Start,
     kept: &[Report],
     budget: u64,
     guides: &mut Guides,
 ) -> Result<Report, AskFault>
     requires within { IsWithin spec.now }
     requires question { IsQuestionOn spec.now.relations question.now }
-    requires known { IfSome known.old (IsConsistent spec.now) }
+    requires start { IsStart spec.now start.old }
     requires kept { All (IsKeptReport spec.now.relations) kept.now }
     ensures answer { IfOk result (IsReported spec.now question.now budget) }
     ensures too_many { (c : Rankings) → result ≡ Err (fault.TooMany c) → HasTooMany spec.now question.now c }
-    ensures known { IfSome known.new (IsConsistent spec.now) }
+    ensures start { IsStart spec.now start.new }
 {
-    match known_copy(alloc, spec, known, turned, kept) {
-        Ok(first) => told(alloc, spec, question, known, first, budget, guides),
+    match known_copy(alloc, spec, start, kept, budget, guides) {
+        Ok(first) => told(alloc, spec, question, start, first, budget, guides),
         Err(_) => Err(AskFault::NoMemory),
     }
 }
@@ -99,21 +100,21 @@ fn told(
     alloc: Global,
     spec: &Specification,
     question: &Question,
-    known: &mut Option<Completion>,
+    start: &mut Start,
     first: Option<Completion>,
     budget: u64,
     guides: &mut Guides,
 ) -> Result<Report, AskFault>
     requires within { IsWithin spec.now }
     requires question { IsQuestionOn spec.now.relations question.now }
-    requires known { IfSome known.old (IsConsistent spec.now) }
+    requires start { IsStart spec.now start.old }
     requires first { IfSome first (IsConsistent spec.now) }
     ensures answer { IfOk result (IsReported spec.now question.now budget) }
     ensures too_many { (c : Rankings) → result ≡ Err (fault.TooMany c) → HasTooMany spec.now question.now c }
-    ensures known { IfSome known.new (IsConsistent spec.now) }
+    ensures start { IsStart spec.now start.new }
 {
     match begun(alloc, spec, question, first, budget, guides) {
-        Ok(report) => match learn(alloc, spec, known, &report) {
+        Ok(report) => match learn(alloc, spec, start, &report) {
             Ok(()) => Ok(report),
             Err(_) => Err(AskFault::NoMemory),
         },

@@ -7,14 +7,15 @@ ghost use Rattle.spec_model.specs.Questions.{IsQuestionOn};
 use crate::Reply;
 use crate::asking::{first_shown, searched};
 use crate::keeping::put;
-use crate::knowing::{added_pair, edit_known};
+use crate::knowing::edit_known;
+use crate::start::Start;
 use currency_ask::AskFault;
 use currency_base::NoMemory;
 use report_model::Report;
 use report_verify::shown_is_right;
 use solver_guides::Guides;
 use spec_edits::{Edit, EditFault, EditedSpec};
-use spec_model::{Asked, Completion, Question, Specification};
+use spec_model::{Question, Specification};
 use std::alloc::Global;
 use std::marker::Model;
 
@@ -24,10 +25,7 @@ use std::marker::Model;
 pub struct Session {
     edited: EditedSpec,
     kept: Vec<Report>,
-    // A consistent completion of the specification as it is now, if one is known.
-    known: Option<Completion>,
-    // The pair that was added when a known completion was last dropped.
-    turned: Option<Asked>,
+    start: Start,
     reused: u64,
 }
 
@@ -38,7 +36,7 @@ impl Model for Session {
 
     ghost view = { λ s. record { spec = s.edited; kept = s.kept.items; reused = s.reused } };
 
-    ghost invariant = { λ s. IsHeld s.edited s.kept.items s.known };
+    ghost invariant = { λ s. IsHeld s.edited s.kept.items s.start };
 }
 
 impl Session {
@@ -51,8 +49,11 @@ impl Session {
             Ok(edited) => Ok(Session {
                 edited,
                 kept: Vec::new(alloc),
-                known: None,
-                turned: None,
+                start: Start {
+                    known: None,
+                    lost: None,
+                    turned: None,
+                },
                 reused: 0,
             }),
             Err(error) => Err(error),
@@ -70,7 +71,8 @@ impl Session {
 
     /// Does an edit of the specification, as `EditedSpec::edit` does, and leaves the kept reports and the count. A refusal
     /// changes nothing. A withdrawal takes no memory, and no limit refuses it. Of a known completion it is seen whether it
-    /// has an added pair, and a withdrawal keeps it.
+    /// has an added pair, or an added copied row in its source row's order, and a withdrawal keeps it; one that has not is
+    /// put aside, to be mended.
     pub fn edit(&mut self, alloc: Global, edit: Edit) -> Result<(), EditFault>
         requires { IsEditOf self.old.spec edit }
         ensures ok { OnOk result (edited self.old.spec edit ≡ Ok self.new.spec) }
@@ -80,17 +82,7 @@ impl Session {
         ensures kept { self.new.kept ≡ self.old.kept }
         ensures reused { self.new.reused ≡ self.old.reused }
     {
-        let added = added_pair(&edit);
-        let was_known = self.known.is_some();
-        match edit_known(alloc, &mut self.edited, &mut self.known, edit) {
-            Ok(()) => {
-                if was_known && self.known.is_none() {
-                    self.turned = added;
-                }
-                Ok(())
-            }
-            Err(fault) => Err(fault),
-        }
+        edit_known(alloc, &mut self.edited, &mut self.start, edit)
     }
 
     /// The reports that are kept, oldest first. Takes no memory.
@@ -109,7 +101,8 @@ impl Session {
     }
 
     /// Answers a question about the specification as it is now: with the first kept report that shows its verdict for it, as
-    /// `verify` sees, or else by a search within a budget, which begins from a consistent completion where one is known. A
+    /// `verify` sees, or else by a search within a budget, which begins from a consistent completion where one is known or
+    /// one that an added pair or copied row broke can be mended within the budget. A
     /// decided reply of a search is kept, after the oldest was dropped where there are four. A refusal changes nothing.
     pub fn ask(
         &mut self,
@@ -142,7 +135,7 @@ impl Session {
             alloc,
             self.edited.spec(),
             question,
-            self.turned,
+            self.start.turned,
             self.kept.as_slice(),
         ) {
             Ok(Some(place)) => {
@@ -171,8 +164,7 @@ impl Session {
             alloc,
             self.edited.spec(),
             question,
-            &mut self.known,
-            self.turned,
+            &mut self.start,
             self.kept.as_slice(),
             budget,
             guides,

@@ -3,3 +3,5 @@ mod Over
 mod Edits
 mod Filled
 mod Turned
+mod Standing
+mod MoreMapped

@@ -17,7 +17,7 @@ use Rattle.edit_checks.proofs.Lists.{item_has}
 use Rattle.edit_checks.specs.Stays.{IsTurned}
 
 -- a list with an item is one of the lists
-one_of_lists : (lists : List (List RowId)) (ent i : ℕ) (x : RowId) → slice_get (slice_index_or lists ent []) i ≡ Some x
+pub one_of_lists : (lists : List (List RowId)) (ent i : ℕ) (x : RowId) → slice_get (slice_index_or lists ent []) i ≡ Some x
     → ent < length lists
 one_of_lists lists ent i x at =
     ⊎_elim (λ (h : ent < length lists). h)
@@ -25,11 +25,11 @@ one_of_lists lists ent i x at =
     absurd (none-some x (sym (ap (λ (l : List RowId). slice_get l i) (get_or_past lists ent [] h)) ∙ at)))
     (cases_lt ent (length lists))
 
-contained : (xs : List RowId) (i : ℕ) (x : RowId) → slice_get xs i ≡ Some x → Contains xs x
+pub contained : {A : Type 0} (xs : List A) (i : ℕ) (x : A) → slice_get xs i ≡ Some x → Contains xs x
 contained xs i x at = (i, slice_get_within xs i x at, get_or_from_slice_get xs i x x at)
 
 -- a row stands for its entity
-entity_of_row : (rows : List Row) (at : ℕ) (row : Row) → slice_get rows at ≡ Some row → entity_of rows at ≡ Some row.entity.0
+pub entity_of_row : (rows : List Row) (at : ℕ) (row : Row) → slice_get rows at ≡ Some row → entity_of rows at ≡ Some row.entity.0
 entity_of_row [] at row is = absurd (none-some row is)
 entity_of_row (r ∷ rows) zero row is = ap (λ (q : Row). Some q.entity.0) (same_Some r row is)
 entity_of_row (r ∷ rows) (suc at) row is = entity_of_row rows at row is

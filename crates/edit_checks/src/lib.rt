@@ -4,6 +4,8 @@
 mod breaks;
 mod copies;
 mod looks;
+mod mapped;
+mod pairs;
 mod stays;
 
 pub use breaks::breaks_given;

@@ -1,20 +1,22 @@
 // A look at what an edit adds.
 
-ghost use Rattle.std.specs.Prelude.{◌≡◌, true, IfSome, slice_get};
+ghost use Rattle.std.specs.Prelude.{◌≡◌, true};
 ghost use Rattle.edit_checks.specs.Stays.{StaysConsistent};
-ghost use Rattle.spec_edits.specs.Edits.{IsEditOf, IsPairAt, IsWithdrawal, is_of_one_entity};
+ghost use Rattle.spec_edits.specs.Edits.{IsEditOf, IsPairAt, IsWithdrawal};
 ghost use Rattle.spec_model.specs.Consistent.{IsConsistent};
-ghost use Rattle.spec_model.specs.Questions.{IsAskedPair};
 
+use crate::mapped::{CopiedRow, keeps_mapped};
+use crate::pairs::can_be_asked;
 use currency_base::{Pair, RelId};
 use ranked_pairs::pair_holds;
 use spec_edits::Edit;
-use spec_limits::are_of_one_entity;
 use spec_model::{Asked, Completion, Specification};
 
-/// Does a consistent completion stay one over an edit? `true` says so: it is told of every withdrawal, and of a given pair
-/// that is added and that the completion has already. `false` says nothing. Takes no memory, and time in proportion to the
-/// rows of the pair's entity.
+/// Does a consistent completion stay one over an edit? `true` says so: it is told of every withdrawal, of a given pair that is
+/// added and that the completion has already, and of a copied row that is added, where the completion has that row and each
+/// mapped row of its entity in the order of their source rows, at each place of the copy function. `false` says nothing. Takes
+/// no memory, and time in proportion to the rows of the pair's entity; for a copied row, to the rows of its entity times the
+/// places of the copy function times the rows of this entity and of the source row's.
 pub fn stays_consistent(spec: &Specification, edit: &Edit, completion: &Completion) -> bool
     requires edit { IsEditOf spec.now edit.now }
     requires consistent { IsConsistent spec.now completion.now }
@@ -22,6 +24,17 @@ pub fn stays_consistent(spec: &Specification, edit: &Edit, completion: &Completi
 {
     match edit {
         Edit::AddGiven { rel, pair } => is_given(spec, *rel, *pair, completion),
+        Edit::MapCopied {
+            copy,
+            target,
+            source,
+        } => {
+            let copied = CopiedRow {
+                target: *target,
+                source: *source,
+            };
+            keeps_mapped(spec, completion, *copy, copied)
+        }
         _ => is_withdrawal(edit),
     }
 }
@@ -50,21 +63,4 @@ fn is_given(spec: &Specification, rel: RelId, pair: Pair, completion: &Completio
         return false;
     }
     pair_holds(spec, completion, Asked { rel, pair })
-}
-
-/// Can a pair be asked about?
-fn can_be_asked(spec: &Specification, rel: RelId, pair: Pair) -> bool
-    requires { IsPairAt spec.now.relations rel.0 pair }
-    ensures { result ≡ true → IsAskedPair spec.now.relations (record { rel = rel; pair = pair }) }
-{
-    is_of_one_entity(spec, rel, pair)
-}
-
-/// Are the rows of a pair two different rows of one entity of this relation?
-fn is_of_one_entity(spec: &Specification, rel: RelId, pair: Pair) -> bool
-    requires { IsPairAt spec.now.relations rel.0 pair }
-    ensures { IfSome (slice_get spec.now.relations rel.0) (λ r. result ≡ is_of_one_entity r.rows pair) }
-{
-    let rows = spec.relations()[rel.0 as usize].rows.as_slice();
-    are_of_one_entity(rows, pair.earlier, pair.later)
 }

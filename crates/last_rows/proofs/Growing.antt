@@ -1,5 +1,5 @@
 -- Steps that are put after the others, and how far they came.
-use Rattle.std.proofs.Common.{◌≡◌, ◌≢◌, ◌<◌, ◌∙◌, ◌+◌, ℕ, suc, false, List, [], ◌∷◌, ◌++◌, Contains, Some, get_or, length, set, take, slice_get, refl, sym, ap, subst, ⊎_elim, arith}
+use Rattle.std.proofs.Common.{◌≡◌, ◌≢◌, ◌<◌, ◌∙◌, ◌+◌, ℕ, suc, false, List, [], ◌∷◌, ◌++◌, Contains, Some, get_or, length, set, take, slice_get, refl, sym, ap, subst, inl, inr, ⊎_elim, arith}
 use Rattle.std.proofs.lemmas.Bool.{cases_eq}
 use Rattle.std.proofs.lemmas.List.{get_or-set_same, get_or-set_other, get_or_append_left, length-append, length-map, length-set, map-append, take-append-le, append_assoc}
 use Rattle.std.proofs.Math.Seq.{get_or-append_seam, take-append_seam}
@@ -91,6 +91,12 @@ module _ (l : RowList) (earlier : List (List Lit)) (d : Derivation) (own later :
         lits = clause_lits (literals_of l) later own;
         hints = row_hints l d.places.items own later;
         is_step = refl;
+        of_rows = inl (record {
+          first = later;
+          own = own;
+          own_within = own_within;
+          is = clause_is (literals_of l) later own;
+        });
         within = clause_within (literals_of l) later own own_within;
         once = clause_once (literals_of l) apart later own (omega (arith, high)) own_within;
         follows = row_follows l (earlier ++ clauses_of d.steps) d.places.items own later apart there low high at_own at_later;
@@ -196,6 +202,7 @@ module _ (l : RowList) (earlier : List (List Lit)) (d : Derivation) (names : Lis
         lits = names;
         hints = hints;
         is_step = refl;
+        of_rows = inr current;
         within = λ vars within lit h. let m = are.each lit h in subst (λ (x : Lit). var_of x < vars) (sym m.2)
             (within.names m.0 m.1);
         once = are.once;

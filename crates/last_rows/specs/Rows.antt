@@ -134,12 +134,24 @@ pub record IsPlaced (l : RowList) (clauses : List (List Lit)) : Type 0 where
 
 -- ---- steps
 
--- a step that is not counted, and follows with its hints, where no literal and no hint stands twice; its variables are those
--- of the rows' literals
+-- the clause of some row that of the first rows, so many, one stands behind it, or that it stands last, or a row behind them does
+pub record IsRowClause (l : Literals) (lits : List Lit) : Type 0 where
+  pub first : ℕ
+  pub own : ℕ
+  pub own_within : own < l.count
+  pub is : IsClause l first own lits
+
+-- a clause that is derived of the rows: that of some row, or that some value is current
+abbrev pub IsOfRows : Literals → List Lit → Type 0
+IsOfRows l lits = IsRowClause l lits ⊎ IsSomeCurrent l lits
+
+-- a step that is not counted, whose clause is one that is derived of the rows and follows with its hints, where no literal and no
+-- hint stands twice; its variables are those of the rows' literals
 pub record IsDerivedStep (l : Literals) (earlier : List (List Lit)) (taken : Step) : Type 0 where
   pub lits : List Lit
   pub hints : List ℕ
   pub is_step : taken ≡ Learn lits hints false
+  pub of_rows : IsOfRows l lits
   pub within : (vars : ℕ) → AreWithin vars l → (lit : Lit) → Contains lits lit → var_of lit < vars
   pub once : OnlyOnce lits
   pub follows : FollowsFrom earlier lits hints

@@ -1,7 +1,7 @@
 -- Steps that are added: what a search keeps stays so.
-use Rattle.std.proofs.Common.{Result, Ok, Err, OnOk, ◌≡◌, ◌⊎◌, ◌<◌, ◌≤◌, ◌+◌, ◌∙◌, ℕ, zero, suc, Bool, true, false, cond, List, [], ◌∷◌, ◌++◌, All, Some, Contains, get_or, length, take, slice_get, refl, sym, ap, subst, inl, inr, arith}
+use Rattle.std.proofs.Common.{Result, Ok, Err, OnOk, ◌≡◌, ◌⊎◌, ◌<◌, ◌≤◌, ◌+◌, ◌∙◌, ℕ, zero, suc, Bool, true, false, cond, List, [], ◌∷◌, ◌++◌, All, Some, Contains, get_or, length, take, slice_get, refl, sym, ap, subst, inl, inr, ⊎_elim, arith}
 use Rattle.std.proofs.lemmas.Bool.{cases_lt}
-use Rattle.std.proofs.lemmas.List.{append-nil, append_assoc, take-append-le, take_more}
+use Rattle.std.proofs.lemmas.List.{append-nil, append_assoc, length_push, take-append-le, take_all, take_more}
 use Rattle.std.proofs.lemmas.Option.{get_or_from_slice_get, slice_get-get_or, slice_get_within}
 use Rattle.std.proofs.lemmas.List.Elements.{All-append, All-contains, All-head, All-nil, All-tail, All-take, Contains-append_left, Contains-append_right}
 use Rattle.std.proofs.lemmas.List.Sums.{sum_by-append, sum_by-cons}
@@ -15,6 +15,7 @@ use Rattle.refutation_log.specs.declared.step.Label.TheVariants as label
 use Rattle.refutation_log.specs.declared.step.Step.{Step}
 use Rattle.refutation_log.specs.declared.step.Step.TheVariants.{Axiom, Learn, OnDemand}
 use Rattle.log_axioms.specs.Posed.{Posed}
+use Rattle.order_literals.proofs.Items.{in_contained}
 use Rattle.order_literals.proofs.Sayings.{says_within}
 use Rattle.order_clauses.specs.Clauses.{AreAxioms, AreTransitive}
 use Rattle.search_state.specs.States.{Frame, IsFit}
@@ -123,15 +124,51 @@ module _ (s : Subject) (solver new : Solver) (brought : List Bool) (held : IsHel
     lists = brought_more s solver.steps next.added new.steps brought next.steps held.lists;
   }
 
+-- ---- one step more
+
+-- what stands before the last one is all that was there
+ends : (old : List Step) (x : Step) (new : List Step) (place : ℕ) (taken : Step) → new ≡ old ++ x ∷ []
+    → length old ≤ place → slice_get new place ≡ Some taken
+    → take place new ≡ old
+ends old x new place taken e high at =
+    let within = slice_get_within new place taken at in
+    let count = ap (λ (ss : List Step). length ss) e ∙ length_push old x in
+    let same : place ≡ length old = omega (arith, within, count, high) in
+    ap (λ (n : ℕ). take n new) same ∙ ap (take (length old)) e ∙ take-append-le (length old) old (x ∷ [])
+    (omega arith) ∙ take_all (length old) old (omega arith)
+
+pub one_next : (s : Subject) (posed : Posed) (old new : List Step) (mine : Step) → new ≡ old ++ mine ∷ []
+    → IsSearchStep s.spec posed (vars_of s) (clauses_of old) mine × (is_counted mine ≡ true → IsNew (clauses_of old) mine)
+    → AreNext s posed old new
+one_next s posed old new mine e is = record {
+  added = mine ∷ [];
+  steps = e;
+  each = λ place taken high at.
+      let there : slice_get (old ++ mine ∷ []) place ≡ Some taken = ap (λ (ss : List Step). slice_get ss place) (sym e) ∙ at in
+      let same : mine ≡ taken = ⊎_elim (λ (x : mine ≡ taken). x) (λ (x : ⊥). absurd x)
+      (in_contained (mine ∷ []) taken (behind old (mine ∷ []) place taken high there)) in
+      let front : take place new ≡ old = ends old mine new place taken e high at in
+      subst (λ (t : Step). IsSearchStep s.spec posed (vars_of s) (clauses_of (take place new)) t ×
+      (is_counted t ≡ true → IsNew (clauses_of (take place new)) t)) same
+      (subst (λ (ss : List Step). IsSearchStep s.spec posed (vars_of s) (clauses_of ss) mine ×
+      (is_counted mine ≡ true → IsNew (clauses_of ss) mine)) (sym front) is);
+}
+
 -- ---- what a solver learns
 
 learned_next : (s : Subject) (posed : Posed) (earlier : List (List Lit)) (taken : Step) → IsLearnedAfter
-    (length (vars_of s)) earlier taken
+    (length (vars_of s)) earlier taken → (is_counted taken ≡ false → length (clause_of taken) ≤ 1)
     → IsSearchStep s.spec posed (vars_of s) earlier taken × (is_counted taken ≡ true → IsNew earlier taken)
-learned_next s posed earlier (Axiom l lits) learned = absurd learned
-learned_next s posed earlier (OnDemand l lits) learned = absurd learned
-learned_next s posed earlier (Learn lits hints counted) learned = (
-  record { follows = learned.0; within = learned.1.within; lits_once = learned.1.once; hints_once = learned.2 },
+learned_next s posed earlier (Axiom l lits) learned small = absurd learned
+learned_next s posed earlier (OnDemand l lits) learned small = absurd learned
+learned_next s posed earlier (Learn lits hints counted) learned small = (
+  record {
+    follows = learned.0;
+    within = learned.1.within;
+    lits_once = learned.1.once;
+    hints_once = learned.2;
+    free = λ e. inl (small e);
+  },
   λ is. learned.3 is,
 )
 
@@ -139,7 +176,8 @@ grown_next : (s : Subject) (posed : Posed) (old new : List Step) → HasGrown (l
 grown_next s posed old new grown = record {
   added = grown.added;
   steps = grown.steps;
-  each = λ place taken h at. learned_next s posed (clauses_of (take place new)) taken (grown.learned place taken h at);
+  each = λ place taken h at.
+      learned_next s posed (clauses_of (take place new)) taken (grown.learned place taken h at) (grown.small place taken h at);
 }
 
 pub held_grown : (s : Subject) (solver new : Solver) (brought : List Bool) → IsHeld s solver brought → new.frame ≡ solver.frame

@@ -1,23 +1,25 @@
 -- The literals of a list's rows, and steps that are derived of them.
-use Rattle.std.proofs.Common.{◌≡◌, ◌≢◌, ◌<◌, ◌∙◌, ◌+◌, ℕ, Bool, true, false, cond, List, [], ◌∷◌, ◌++◌, Ok, Err, OnOk, Result, Some, get_or, length, take, slice_get, refl, sym, ap, subst, inl, inr, ⊎_elim, arith}
+use Rattle.std.proofs.Common.{◌≡◌, ◌≢◌, ◌<◌, ◌∙◌, ◌+◌, ℕ, Bool, true, false, cond, List, [], ◌∷◌, ◌++◌, All, Ok, Err, OnOk, Result, Some, get_or, length, take, slice_get, refl, sym, ap, subst, inl, inr, ⊎_elim, arith}
 use Rattle.std.proofs.lemmas.Bool.{cases_eq, false≢true}
-use Rattle.std.proofs.lemmas.List.{append-nil, get_or_append_left, length-append, length-map, map-append}
+use Rattle.std.proofs.lemmas.List.{get_or_append_left, length-append, length-map, map-append}
 use Rattle.std.proofs.Math.Seq.{get_or-append_seam}
-use Rattle.std.proofs.lemmas.List.Elements.{Contains-get_or}
+use Rattle.std.proofs.lemmas.List.Elements.{All-append, All-cons, All-contains, All-head, All-nil, Contains-get_or}
 use Rattle.std.proofs.lemmas.List.Sums.{sum_by-append}
 use Rattle.std.proofs.lemmas.Option.{get_or_from_slice_get, slice_get-get_or, slice_get_within}
 use Rattle.currency_base.specs.Lists.{OnlyOnce}
-use Rattle.currency_base.specs.Literals.{negation}
+use Rattle.currency_base.specs.Literals.{negation, var_of}
 use Rattle.currency_base.specs.declared.ids.AttrId.{AttrId}
 use Rattle.currency_base.specs.declared.ids.RelId.{RelId}
 use Rattle.currency_base.specs.declared.ids.RowId.{RowId}
 use Rattle.currency_base.specs.declared.lit.Lit.{Lit}
 use Rattle.entity_lists.specs.Lists.{entities_of, rows_of}
 use Rattle.entity_lists.proofs.Facts.{member_of, rows_once}
+use Rattle.partial_orders.specs.Pairs.{entity_of}
 use Rattle.value_names.specs.Names.{name_of}
-use Rattle.refutation_log.specs.Counted.{counted_steps}
+use Rattle.refutation_log.specs.Counted.{IsNew, counted_steps}
 use Rattle.refutation_log.specs.Follows.{FollowsFrom}
 use Rattle.refutation_log.specs.Steps.{clause_of, clauses_of, is_counted}
+use Rattle.refutation_log.specs.declared.statement.Statement.{Statement}
 use Rattle.refutation_log.specs.declared.statement.Statement.TheVariants as says
 use Rattle.refutation_log.specs.declared.step.Step.{Step}
 use Rattle.refutation_log.specs.declared.step.Step.TheVariants.{Learn}
@@ -25,13 +27,18 @@ use Rattle.order_literals.specs.Laws.{NegationSays, OneLiteral, OneSaid, SaysWit
 use Rattle.order_literals.specs.Numbers.{is_wanted, numbers_of}
 use Rattle.order_literals.specs.Said.{Said, Says, before, last, not_before, not_top, top, turned}
 use Rattle.order_links.specs.declared.list.ListId.{ListId}
-use Rattle.watch_solver.specs.Decided.{HasGrown, Solver}
-use Rattle.last_rows.specs.Rows.{AreApart, AreWithin, Literals, literals_of}
+use Rattle.search_logs.specs.Free.{IsFreeClause, IsLastRowClause, IsSomeCurrentClause, SaysCurrent, SaysLastOrAfter}
+use Rattle.search_logs.specs.SearchLogs.{IsSearchStep}
+use Rattle.watch_propagate.proofs.KeptLists.{contains_at}
+use Rattle.watch_solver.specs.Decided.{Solver}
+use Rattle.last_rows.specs.Rows.{AreApart, AreDerived, AreWithin, IsOfRows, IsRowClause, IsSomeCurrent, Literals, lit_of, literals_of}
 use Rattle.last_rows.specs.declared.rows.RowList.{RowList}
-use Rattle.order_search.specs.Kept.{ArePlain, AreRowsOf, HasAdded, IsHeld, vars_of}
-use Rattle.order_search.specs.Lasting.{AreSaid, EachIs, IsDerivation, IsNextStep, KeepsHeld, KeepsPlain, SaysBefore}
+use Rattle.last_rows.proofs.Below.{IsPairOf, IsTopOf, lit_how}
+use Rattle.order_search.specs.Kept.{ArePlain, AreRowsOf, IsPlain, posed_of, vars_of}
+use Rattle.order_search.specs.Lasting.{AreFree, AreSaid, EachIs, IsDerivation, IsNextStep, KeepsHeldBy, KeepsPlain, SaysBefore}
 use Rattle.order_search.specs.Searches.{IsWantedRow, Subject}
-use Rattle.order_search.proofs.Growing.{held_grown, plain_grown}
+use Rattle.order_search.proofs.Growing.{has_none, held_axioms, held_next, one_next}
+use Rattle.order_search.proofs.Rows.{found_row, of_entity}
 
 -- ---- lists that are made item by item
 
@@ -253,37 +260,138 @@ module _ (s : Subject) (list : ListId) (rows : List RowId) (l : RowList) (are : 
     names = λ i at. within (vars_of s) (lits.name i) (last list.rel list.attr (name i)) (says_name i at);
   }
 
+  -- ---- clauses that are not counted
+
+  row_of : (i : ℕ) → i < lits.count → entity_of are.is_list.relation.rows (row i).0 ≡ Some list.ent.0
+  row_of i within = of_entity s list rows are i (row i) (row_at i within)
+
+  -- the number of a row of the entity
+  number_of : (r : RowId) → entity_of are.is_list.relation.rows r.0 ≡ Some list.ent.0 → (i : ℕ) × (i < lits.count) × (row i ≡ r)
+  number_of r of =
+      let found = found_row s list rows are r of in
+      let low = slice_get_within rows found.0 r found.1 in
+      let many = said.tops.0 in
+      (found.0, omega (arith, low, many), get_or_from_slice_get rows found.0 r (record { 0 = 0 }) found.1)
+
+  says_after : (first own i : ℕ) → own < lits.count → i < lits.count
+      → SaysLastOrAfter (vars_of s) list.rel list.attr (row own) (row i) (lit_of lits first own i)
+  says_after first own i at_own at_i = ⊎_elim
+      (λ (p : IsTopOf lits first own i). inl (subst (λ (x : Lit). Says (vars_of s) x (top list.rel list.attr (row i)))
+      (sym p.is) (says_top i at_i)))
+      (λ (p : IsPairOf lits first own i). inr (subst (λ (x : Lit).
+      Says (vars_of s) x (before list.rel list.attr (row own) (row i))) (sym p.is)
+      (says_before own i at_own at_i (λ e. p.differ (sym e)))))
+      (lit_how lits first own i)
+
+  last_row : (clause : List Lit) → IsRowClause lits clause → IsLastRowClause s.spec (vars_of s) clause
+  last_row clause is = record {
+    rel = list.rel;
+    attr = list.attr;
+    relation = are.is_list.relation;
+    is_relation = are.is_list.is_relation;
+    ent = list.ent;
+    own = row is.own;
+    own_of = row_of is.own is.own_within;
+    told = record {
+      each = λ lit h.
+          let m = is.is.each lit h in (
+            row m.row,
+            row_of m.row m.within,
+            subst (λ (x : Lit). SaysLastOrAfter (vars_of s) list.rel list.attr (row is.own) (row m.row) x) (sym m.is_lit)
+                (says_after is.first is.own m.row is.own_within m.within),
+          );
+      all = λ r of.
+          let n = number_of r of in (
+            lit_of lits is.first is.own n.0,
+            is.is.all n.0 n.1,
+            subst (λ (x : RowId).
+                SaysLastOrAfter (vars_of s) list.rel list.attr (row is.own) x (lit_of lits is.first is.own n.0)) n.2
+                (says_after is.first is.own n.0 is.own_within n.1),
+          );
+    };
+  }
+
+  some_current : (clause : List Lit) → IsSomeCurrent lits clause → IsSomeCurrentClause s.spec (vars_of s) clause
+  some_current clause is = record {
+    rel = list.rel;
+    attr = list.attr;
+    relation = are.is_list.relation;
+    is_relation = are.is_list.is_relation;
+    ent = list.ent;
+    told = record {
+      each = λ lit h.
+          let m = is.each lit h in (
+            row m.0,
+            row_of m.0 m.1,
+            subst (λ (x : Lit). SaysCurrent (vars_of s) list.rel list.attr are.is_list.relation (row m.0) x) (sym m.2)
+                (says_name m.0 m.1),
+          );
+      all = λ r of.
+          let n = number_of r of in (
+            lits.name n.0,
+            is.all n.0 n.1,
+            subst (λ (x : RowId). SaysCurrent (vars_of s) list.rel list.attr are.is_list.relation x (lits.name n.0)) n.2
+                (says_name n.0 n.1),
+          );
+    };
+  }
+
+  clause_free : (clause : List Lit) → IsOfRows lits clause → IsFreeClause s.spec (vars_of s) clause
+  clause_free clause (inl is) = inr (inl (last_row clause is))
+  clause_free clause (inr is) = inr (inr (some_current clause is))
+
+  pub steps_free : (earlier : List (List Lit)) (steps : List Step) → AreDerived (literals_of l) earlier steps → AreFree s steps
+  steps_free earlier steps derived = λ k d h.
+      let one = derived k (get_or steps k d) (slice_get-get_or steps k d h) in
+      subst (λ (t : Step). IsFreeClause s.spec (vars_of s) (clause_of t)) (sym one.is_step) (clause_free one.lits one.of_rows)
+
 -- ---- steps
 
-pub keeps_none : (a b : Solver) → a ≡ b → KeepsHeld a b
-keeps_none a b e s brought held = subst (λ (x : Solver). IsHeld s x brought) e held
+-- a step of some, which is put after others that hold
+pub keeps_then : (a b c : Solver) (steps : List Step) (place : ℕ) (taken : Step) → slice_get steps place ≡ Some taken
+    → KeepsHeldBy steps a b → KeepsHeldBy (taken ∷ []) b c → KeepsHeldBy steps a c
+keeps_then a b c steps place taken at one other s free brought held =
+    let P = λ (t : Step). IsFreeClause s.spec (vars_of s) (clause_of t) in
+    other s
+    (All-cons P taken [] (All-contains P steps taken free (contains_at steps place taken at)) (All-nil P))
+    brought (one s free brought held)
 
-pub keeps_then : (a b c : Solver) → KeepsHeld a b → KeepsHeld b c → KeepsHeld a c
-keeps_then a b c one other s brought held = other s brought (one s brought held)
+-- where a step was put after the others that may come next
+pub put_keeps : (old new : Solver) (taken : Step) → IsNextStep (length old.frame.statements) (clauses_of old.steps) taken
+    → new.frame ≡ old.frame → new.steps ≡ old.steps ++ taken ∷ [] → KeepsHeldBy (taken ∷ []) old new
+put_keeps old new taken is frame steps s free brought held =
+    held_next s old new brought held frame
+    (one_next s (posed_of s old.frame) old.steps new.steps taken steps
+    (subst (λ (t : Step). IsSearchStep s.spec (posed_of s old.frame) (vars_of s) (clauses_of old.steps) t ×
+    (is_counted t ≡ true → IsNew (clauses_of old.steps) t)) (sym is.is_step) (
+      record {
+        follows = is.follows;
+        within = subst (λ (xs : List Statement). All (λ lit. var_of lit < length xs) is.lits) held.search.log.statements
+            is.fit.within;
+        lits_once = is.fit.once;
+        hints_once = is.once;
+        free = λ e.
+            subst (λ (t : Step). IsFreeClause s.spec (vars_of s) (clause_of t)) is.is_step
+            (All-head (λ t. IsFreeClause s.spec (vars_of s) (clause_of t)) taken [] free);
+      },
+      λ counted. let no : ⊥ = cc in absurd no,
+    )))
 
-pub grown_keeps : (old new : Solver) → new.frame ≡ old.frame
-    → HasGrown (length old.frame.statements) old.steps new.steps → KeepsHeld old new
-grown_keeps old new frame grown s brought held = held_grown s old new brought held frame grown
-
-pub none_plain : (a b : Solver) → a ≡ b → KeepsPlain a b
-none_plain a b e s plain = subst (λ (x : Solver). ArePlain s x.steps) e plain
+pub same_keeps : (old new : Solver) (steps : List Step) → new.frame ≡ old.frame → new.steps ≡ old.steps
+    → KeepsHeldBy steps old new
+same_keeps old new steps frame same s free brought held =
+    held_axioms s old new brought held frame (has_none s old.steps new.steps same)
 
 pub plain_then : (a b c : Solver) → KeepsPlain a b → KeepsPlain b c → KeepsPlain a c
 plain_then a b c one other s plain = other s (one s plain)
 
-pub grown_plain : (old new : Solver) → HasGrown (length old.frame.statements) old.steps new.steps → KeepsPlain old new
-grown_plain old new grown s plain = plain_grown s (length old.frame.statements) old.steps new.steps grown plain
-
-pub grown_added : (old new : Solver) → new.frame ≡ old.frame
-    → HasGrown (length old.frame.statements) old.steps new.steps → HasAdded old new
-grown_added old new frame grown = record { frame = frame; added = grown.added; steps = grown.steps }
-
-pub same_added : (old new : Solver) → new ≡ old → HasAdded old new
-same_added old new e = record {
-  frame = ap (λ (x : Solver). x.frame) e;
-  added = [];
-  steps = ap (λ (x : Solver). x.steps) e ∙ sym (append-nil old.steps);
-}
+pub put_plain : (old new : Solver) (lits : List Lit) (hints : List ℕ) → new.steps ≡ old.steps ++ Learn lits hints false ∷ []
+    → KeepsPlain old new
+put_plain old new lits hints is s plain =
+    let taken = Learn lits hints false in
+    let one : IsPlain s taken = record {} in
+    subst (ArePlain s) (sym is) (All-append (IsPlain s) old.steps (taken ∷ []) plain
+    (All-cons (IsPlain s) taken [] one (All-nil (IsPlain s))))
 
 -- a step that is not counted counts for nothing
 pub counted_same : (old new : List Step) (lits : List Lit) (hints : List ℕ) → new ≡ old ++ Learn lits hints false ∷ []

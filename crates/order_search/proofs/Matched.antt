@@ -1,11 +1,10 @@
 -- The axiom of a match is put after the steps: what a search keeps stays so, and where the search demands it, it is new.
-use Rattle.std.proofs.Common.{◌≡◌, ◌∙◌, ◌<◌, ◌≤◌, ◌+◌, ℕ, Bool, true, false, not, cond, if◌then◌else◌, List, [], ◌∷◌, ◌++◌, Contains, Some, get_or, length, take, slice_get, inr, ⊎_elim, refl, sym, ap, subst, arith}
+use Rattle.std.proofs.Common.{◌≡◌, ◌∙◌, ◌<◌, ◌+◌, ℕ, Bool, true, false, not, cond, if◌then◌else◌, List, [], ◌∷◌, ◌++◌, Contains, Some, get_or, length, slice_get, inr, ⊎_elim, refl, sym, ap, subst, arith}
 use Rattle.std.specs.Cmp.{IsTotalOrder}
 use Rattle.std.specs.Cmp.Lexicographic.{slice_cmp}
 use Rattle.std.specs.Ordering.{ordering_reverse}
 use Rattle.std.specs.declared.cmp.Ordering.{Ordering}
 use Rattle.std.specs.declared.cmp.Ordering.TheVariants.{Less, Equal, Greater}
-use Rattle.std.proofs.lemmas.List.{length_push, take-append-le, take_all}
 use Rattle.std.proofs.lemmas.List.Sums.{sum_by-append}
 use Rattle.std.proofs.lemmas.Option.{slice_get-get_or, slice_get_within}
 use Rattle.currency_base.specs.Literals.{is_negative, negation, var_of}
@@ -25,7 +24,6 @@ use Rattle.refutation_log.specs.declared.step.Step.{Step}
 use Rattle.refutation_log.specs.declared.step.Step.TheVariants.{OnDemand}
 use Rattle.spec_model.specs.Completion.{Rankings}
 use Rattle.order_literals.specs.Laws.{OneLiteral}
-use Rattle.order_literals.proofs.Items.{in_contained}
 use Rattle.order_literals.proofs.Sayings.{Tells, negation_sign, negation_var, tells}
 use Rattle.match_clauses.specs.Clauses.{AreMatchLits, IsCurrentDenied, SaysAnswer}
 use Rattle.match_clauses.specs.Matched.{IsPosedAt}
@@ -38,7 +36,7 @@ use Rattle.watch_solver.specs.Decided.{Solver, axiom_step, truth_in}
 use Rattle.order_search.specs.Kept.{AreLitsFor, HasMatched, IsHeld, IsMatchFor, posed_of, search_of, vars_of}
 use Rattle.order_search.specs.Searches.{IsAnswerCounter, IsMatchOf, Subject}
 use Rattle.order_search.proofs.Falsified.{new_demand}
-use Rattle.order_search.proofs.Growing.{AreNext, behind, held_axioms, held_next, has_none}
+use Rattle.order_search.proofs.Growing.{held_axioms, held_next, has_none, one_next}
 
 -- ---- what is asked of a match
 
@@ -72,17 +70,6 @@ stands_first total answers up answer tuple at place below there =
 
 -- ---- one step more
 
--- what stands before the last one is all that was there
-ends : (old : List Step) (x : Step) (new : List Step) (place : ℕ) (taken : Step) → new ≡ old ++ x ∷ []
-    → length old ≤ place → slice_get new place ≡ Some taken
-    → take place new ≡ old
-ends old x new place taken e high at =
-    let within = slice_get_within new place taken at in
-    let count = ap (λ (ss : List Step). length ss) e ∙ length_push old x in
-    let same : place ≡ length old = omega (arith, within, count, high) in
-    ap (λ (n : ℕ). take n new) same ∙ ap (take (length old)) e ∙ take-append-le (length old) old (x ∷ [])
-    (omega arith) ∙ take_all (length old) old (omega arith)
-
 module _ (total : IsTotalOrder (slice_cmp value_cmp)) (s : Subject) (solver : Solver) (brought : List Bool)
     (held : IsHeld s solver brought)
     (c : Rankings) (m : Match) (answer : ℕ) (is : IsMatchOf (search_of s solver) c m answer) where
@@ -113,36 +100,18 @@ module _ (total : IsTotalOrder (slice_cmp value_cmp)) (s : Subject) (solver : So
       (axiom_step (label.Match m.disjunct m.entities m.values) lits counted)
       × (is_counted (axiom_step (label.Match m.disjunct m.entities m.values) lits counted) ≡ true
       → IsNew earlier (axiom_step (label.Match m.disjunct m.entities m.values) lits counted))
-  step_is true lits earlier are new = (inr (match_step lits are), λ counted. new refl)
+  step_is true lits earlier are new = (match_step lits are, λ counted. new refl)
   step_is false lits earlier are new = (inr (match_step lits are), λ counted. let no : ⊥ = cc in absurd no)
-
-  one_next : (counted : Bool) (lits : List Lit) (new : List Step) → AreLitsFor s c m answer lits
-      → (counted ≡ true → IsNew (clauses_of solver.steps) (OnDemand (label.Match m.disjunct m.entities m.values) lits))
-      → new ≡ solver.steps ++ axiom_step (label.Match m.disjunct m.entities m.values) lits counted ∷ []
-      → AreNext s (posed_of s solver.frame) solver.steps new
-  one_next counted lits new are is_new e = record {
-    added = axiom_step (label.Match m.disjunct m.entities m.values) lits counted ∷ [];
-    steps = e;
-    each = λ place taken high at.
-        let mine = axiom_step (label.Match m.disjunct m.entities m.values) lits counted in
-        let there : slice_get (solver.steps ++ mine ∷ []) place ≡ Some taken =
-        ap (λ (ss : List Step). slice_get ss place) (sym e) ∙ at in
-        let same : mine ≡ taken = ⊎_elim (λ (x : mine ≡ taken). x) (λ (x : ⊥). absurd x)
-        (in_contained (mine ∷ []) taken (behind solver.steps (mine ∷ []) place taken high there)) in
-        let front : take place new ≡ solver.steps = ends solver.steps mine new place taken e high at in
-        subst (λ (t : Step). IsSearchStep s.spec (posed_of s solver.frame) (vars_of s) (clauses_of (take place new))
-        t × (is_counted t ≡ true → IsNew (clauses_of (take place new)) t)) same
-        (subst (λ (ss : List Step). IsSearchStep s.spec (posed_of s solver.frame) (vars_of s) (clauses_of ss) mine ×
-        (is_counted mine ≡ true → IsNew (clauses_of ss) mine)) (sym front)
-        (step_is counted lits (clauses_of solver.steps) are is_new));
-  }
 
   pub held_matched : (new : Solver) (counted : Bool) → new.frame ≡ solver.frame →
       (has : HasMatched s c m answer counted solver.steps new.steps)
       → (counted ≡ true → IsNew (clauses_of solver.steps) (OnDemand (label.Match m.disjunct m.entities m.values)
       has.lits)) → IsHeld s new brought
   held_matched new counted frame has is_new =
-      held_next s solver new brought held frame (one_next counted has.lits new.steps has.are_lits is_new has.steps)
+      held_next s solver new brought held frame
+      (one_next s (posed_of s solver.frame) solver.steps new.steps
+      (axiom_step (label.Match m.disjunct m.entities m.values) has.lits counted) has.steps
+      (step_is counted has.lits (clauses_of solver.steps) has.are_lits is_new))
 
 -- a step more is counted or not
 pub counted_one : (old new : List Step) (l : Label) (lits : List Lit) (counted : Bool) → new ≡ old

@@ -8,14 +8,14 @@ use Rattle.currency_base.specs.declared.ids.RowId.{RowId}
 use Rattle.currency_base.specs.declared.lit.Lit.{Lit}
 use Rattle.currency_base.specs.declared.row.Row.{Row}
 use Rattle.entity_lists.specs.Lists.{Grouping, entities_of, rows_of}
-use Rattle.entity_lists.proofs.Facts.{member_of, rows_once}
+use Rattle.entity_lists.proofs.Facts.{found_in, member_of, rows_once}
 use Rattle.partial_orders.specs.Pairs.{entity_of}
 use Rattle.spec_model.specs.Facts.{IsRelation}
 use Rattle.spec_model.specs.Spec.{Spec}
 use Rattle.spec_model.specs.declared.relation.Relation.{Relation}
 use Rattle.value_names.proofs.NameFacts
 use Rattle.value_names.specs.Names.{name_of}
-use Rattle.order_literals.proofs.Callers.{table_at, pair_of, row_of, name_is, own_name}
+use Rattle.order_literals.proofs.Callers.{entity_read, table_at, pair_of, row_of, name_is, own_name}
 use Rattle.order_literals.specs.Axioms.{AreTwo}
 use Rattle.order_literals.specs.Numbers.{IsPairOf, IsRowOf, Numbered, Numbers, numbered, numbers_of}
 use Rattle.order_literals.specs.Said.{Says, last}
@@ -74,10 +74,20 @@ module _ (s : Subject) (list : ListId) (rows : List RowId) (are : AreRowsOf s li
       → slice_get (rows_of (entities_of are.is_list.relation.rows) list.ent.0) i ≡ Some row
   row_at i row e = ap (λ (xs : List RowId). slice_get xs i) (sym (are.rows_are are.is_list.relation are.is_list.is_relation)) ∙ e
 
-  of_entity : (i : ℕ) (row : RowId) → slice_get rows i ≡ Some row → entity_of are.is_list.relation.rows row.0 ≡ Some list.ent.0
+  pub of_entity : (i : ℕ) (row : RowId) → slice_get rows i ≡ Some row
+      → entity_of are.is_list.relation.rows row.0 ≡ Some list.ent.0
   of_entity i row e =
       entity_there are.is_list.relation.rows row.0 list.ent.0 (member_of (entities_of are.is_list.relation.rows)
       list.ent.0 i row (row_at i row e))
+
+  -- a row of the entity stands in the list
+  pub found_row : (row : RowId) → entity_of are.is_list.relation.rows row.0 ≡ Some list.ent.0
+      → (i : ℕ) × (slice_get rows i ≡ Some row)
+  found_row row of =
+      let found = found_in (entities_of are.is_list.relation.rows) list.ent.0 row
+      (entity_read are.is_list.relation.rows row.0 list.ent.0 of) in
+      let same = are.rows_are are.is_list.relation are.is_list.is_relation in
+      (found.0, ap (λ (xs : List RowId). slice_get xs found.0) same ∙ found.1)
 
   two_rows : (i j : ℕ) (a b : RowId) → slice_get rows i ≡ Some a → slice_get rows j ≡ Some b → i ≢ j
       → AreTwo are.is_list.relation.rows a b

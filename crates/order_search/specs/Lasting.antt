@@ -1,17 +1,19 @@
 -- That some row of a list is last: what is said of its rows, and what is derived of them.
-use Rattle.std.specs.Prelude.{◌≡◌, ◌≢◌, ◌<◌, ◌+◌, ℕ, Bool, false, List, [], Some, length, min, slice_get, slice_index_or}
+use Rattle.std.specs.Prelude.{◌≡◌, ◌≢◌, ◌<◌, ◌+◌, ℕ, Bool, false, List, [], All, Some, length, min, slice_get, slice_index_or}
 use Rattle.currency_base.specs.Lists.{OnlyOnce}
 use Rattle.currency_base.specs.declared.ids.RowId.{RowId}
 use Rattle.currency_base.specs.declared.lit.Lit.{Lit}
 use Rattle.spec_model.specs.declared.relation.Relation.{Relation}
 use Rattle.value_names.specs.Names.{name_of}
 use Rattle.refutation_log.specs.Follows.{FollowsFrom}
+use Rattle.refutation_log.specs.Steps.{clause_of}
 use Rattle.refutation_log.specs.declared.step.Step.{Step}
 use Rattle.refutation_log.specs.declared.step.Step.TheVariants.{Learn}
 use Rattle.search_state.specs.States.{IsFit}
 use Rattle.order_literals.specs.Said.{Says, before, last, top}
 use Rattle.order_links.specs.declared.list.ListId.{ListId}
 use Rattle.watch_solver.specs.Decided.{Solver}
+use Rattle.search_logs.specs.Free.{IsFreeClause}
 use Rattle.last_rows.specs.Rows.{AreDerived, AreWithin, EndsCurrent, Literals, no_lit}
 use Rattle.last_rows.specs.declared.rows.RowList.{RowList}
 use Rattle.order_search.specs.Kept.{ArePlain, IsHeld, vars_of}
@@ -52,6 +54,10 @@ pub record IsDerivation (vars : ℕ) (clauses : List (List Lit)) (steps : List S
   pub derived : AreDerived lits clauses steps
   pub current : EndsCurrent lits clauses steps
 
+-- the clause of each of these steps is one that a search of the subject may learn and not count
+abbrev pub AreFree : Subject → List Step → Type 0
+AreFree s steps = All (λ taken. IsFreeClause s.spec (vars_of s) (clause_of taken)) steps
+
 -- a step that may be put after these clauses: of so many variables, not counted, and derived with its hints
 pub record IsNextStep (vars : ℕ) (clauses : List (List Lit)) (taken : Step) : Type 0 where
   pub lits : List Lit
@@ -61,9 +67,13 @@ pub record IsNextStep (vars : ℕ) (clauses : List (List Lit)) (taken : Step) : 
   pub follows : FollowsFrom clauses lits hints
   pub once : OnlyOnce hints
 
--- where a search is held with one solver, it is so with the other
-abbrev pub KeepsHeld : Solver → Solver → Type 0
-KeepsHeld old new = (s : Subject) (brought : List Bool) → IsHeld s old brought → IsHeld s new brought
+-- where a search of the subject is held with one solver, it is so with the other
+abbrev pub KeepsHeld : Subject → Solver → Solver → Type 0
+KeepsHeld s old new = (brought : List Bool) → IsHeld s old brought → IsHeld s new brought
+
+-- this holds of each subject a search of which may learn these steps and not count them
+abbrev pub KeepsHeldBy : List Step → Solver → Solver → Type 0
+KeepsHeldBy steps old new = (s : Subject) → AreFree s steps → KeepsHeld s old new
 
 -- where no step of the one solver was brought in by a match, none of the other was
 abbrev pub KeepsPlain : Solver → Solver → Type 0

@@ -7,7 +7,7 @@ ghost use Rattle.last_rows.specs.Rows.{no_lit};
 ghost use Rattle.refutation_log.specs.Counted.{counted_steps};
 ghost use Rattle.refutation_log.specs.Steps.{clauses_of, step_of};
 ghost use Rattle.order_search.specs.Kept.{AreRowsOf, HasAdded, IsOfList, vars_of};
-ghost use Rattle.order_search.specs.Lasting.{AreSaid, EachIs, IsDerivation, IsNextStep, KeepsHeld, KeepsPlain, SaysBefore, SaysName, SaysTop, next_place};
+ghost use Rattle.order_search.specs.Lasting.{AreFree, AreSaid, EachIs, IsDerivation, IsNextStep, KeepsHeld, KeepsHeldBy, KeepsPlain, SaysBefore, SaysName, SaysTop, next_place};
 
 use crate::linked::pair_at;
 use crate::progress::{Progress, root_value};
@@ -38,7 +38,7 @@ pub(crate) fn add_lasts(
 ) -> Result<(), NoMemory>
     requires cycle { IsOfList subject.now cycle }
     requires statements { progress.old.solver.frame.statements ≡ vars_of subject.now }
-    ensures keeps { KeepsHeld progress.old.solver progress.new.solver }
+    ensures keeps { KeepsHeld subject.now progress.old.solver progress.new.solver }
     ensures plain { KeepsPlain progress.old.solver progress.new.solver }
     ensures scope { progress.new.solver.trail.scope ≡ progress.old.solver.trail.scope }
     ensures added { HasAdded progress.old.solver progress.new.solver }
@@ -163,7 +163,8 @@ fn derivation(
 ) -> Result<Option<Steps>, NoMemory>
     requires list { IsListOf subject.now.spec.relations list }
     requires wanted { is_wanted subject.now.wanted.currents list.rel.0 ≡ true }
-    ensures { IfOk result (λ found. IfSome found (IsDerivation (length (vars_of subject.now)) (clauses_of earlier.now))) }
+    ensures derived { IfOk result (λ found. IfSome found (IsDerivation (length (vars_of subject.now)) (clauses_of earlier.now))) }
+    ensures free { IfOk result (λ found. IfSome found (AreFree subject.now)) }
 {
     let rows = subject.rows(list);
     if rows.is_empty() {
@@ -397,7 +398,7 @@ impl Places {
 // Puts these steps after the others; where memory runs out, the first of them.
 fn put_all(solver: &mut Solver, steps: &Steps, guides: &mut Guides) -> Result<(), NoMemory>
     requires { IsDerivation (length solver.old.frame.statements) (clauses_of solver.old.steps) steps.now }
-    ensures keeps { KeepsHeld solver.old solver.new }
+    ensures keeps { KeepsHeldBy steps.now solver.old solver.new }
     ensures plain { KeepsPlain solver.old solver.new }
     ensures scope { solver.new.trail.scope ≡ solver.old.trail.scope }
     ensures added { HasAdded solver.old solver.new }
@@ -415,7 +416,7 @@ fn put_all(solver: &mut Solver, steps: &Steps, guides: &mut Guides) -> Result<()
 // Puts a derived step after the others. It is not counted.
 fn put(solver: &mut Solver, step: StepRef<'_>, guides: &mut Guides) -> Result<(), NoMemory>
     requires { IsNextStep (length solver.old.frame.statements) (clauses_of solver.old.steps) (step_of step) }
-    ensures keeps { KeepsHeld solver.old solver.new }
+    ensures keeps { KeepsHeldBy (step_of step.entry ∷ []) solver.old solver.new }
     ensures plain { KeepsPlain solver.old solver.new }
     ensures scope { solver.new.trail.scope ≡ solver.old.trail.scope }
     ensures added { HasAdded solver.old solver.new }

@@ -9,5 +9,6 @@ mod Labels
 mod Plain
 mod Searched
 mod Trimmed
+mod Used
 mod Completions
 mod Whole

@@ -64,7 +64,7 @@ module _ (s : Spec) (posed : Posed) (statements : List Statement) (earlier : Lis
   lits_within : (step : Step) → IsSearchStep s posed statements earlier step
       → All (λ lit. var_of lit < length statements) (clause_of step)
   lits_within (Axiom l lits) is = lits_of_axiom s posed statements l lits is
-  lits_within (OnDemand l lits) is = lits_of_axiom s posed statements l lits is
+  lits_within (OnDemand l lits) is = is.within
   lits_within (Learn lits hints counted) is = is.within
 
   hints_below : (step : Step) → IsSearchStep s posed statements earlier step → All (λ hint. hint < length earlier) (hints_of step)
@@ -81,14 +81,14 @@ module _ (s : Spec) (posed : Posed) (statements : List Statement) (earlier : Lis
 
   plain_step : IsWithin s → (step : Step) → IsSearchStep s posed statements earlier step → IsPlainStep step
   plain_step within (Axiom l lits) is = plain_axiom s posed statements l lits within is
-  plain_step within (OnDemand l lits) is = plain_axiom s posed statements l lits within is
+  plain_step within (OnDemand l lits) is = (is.writable, is.once)
   plain_step within (Learn lits hints counted) is = (is.lits_once, is.hints_once)
 
 accepted_step : StepsAreAxioms → (s : Spec) (posed : Posed) (wanted : Wanted) (earlier : List (List Lit))
     → IsWithin s → (step : Step)
     → IsSearchStep s posed (variables s wanted) earlier step → IsAcceptedStep s posed (variables s wanted) earlier step
 accepted_step made s posed wanted earlier within (Axiom l lits) is = judged_axiom made s posed wanted l lits within is
-accepted_step made s posed wanted earlier within (OnDemand l lits) is = judged_axiom made s posed wanted l lits within is
+accepted_step made s posed wanted earlier within (OnDemand l lits) is = is.judged
 accepted_step made s posed wanted earlier within (Learn lits hints counted) is = is.follows
 
 -- the steps before a place

@@ -341,7 +341,7 @@ module _ (log : Log) (goals : List ℕ) (trimmed : Trimmed) (t : IsTrimmed log g
       (contained (map (rank t.step_kept) goals) (rank t.step_kept goal)
       (in_map (rank t.step_kept) goals goal (in_contained goals goal is_in)))
 
-  still_reached : (place : ℕ) → Reaches log.steps goals place → Reaches trimmed.log.steps trimmed.goals (rank t.step_kept place)
+  pub still_reached : (place : ℕ) → Reaches log.steps goals place → Reaches trimmed.log.steps trimmed.goals (rank t.step_kept place)
   still_reached place (is_goal _ is_in) = is_goal _ (new_goal _ is_in)
   still_reached place (is_hint before _ reached is_in) =
       is_hint (rank t.step_kept before) _ (still_reached before reached) (hint_stands before _ reached is_in)

@@ -1,13 +1,14 @@
 -- What holds of the log of a search: it is accepted, and can be trimmed and written.
-use Rattle.std.specs.Prelude.{◌≡◌, ◌<◌, ℕ, List, None, All, Contains, length}
+use Rattle.std.specs.Prelude.{◌≡◌, ◌<◌, ◌≤◌, ℕ, List, None, All, Contains, length}
 use Rattle.spec_model.specs.Completion.{Rankings, IsCompletion}
 use Rattle.spec_model.specs.Spec.{Spec}
+use Rattle.refutation_log.specs.Counted.{counted_steps}
 use Rattle.refutation_log.specs.declared.log.Log.{Log}
 use Rattle.log_axioms.specs.Posed.{Posed}
 use Rattle.log_checker.specs.Accepted.{IsAccepted}
 use Rattle.refutation_log.specs.Numbered.{IsNumbered}
 use Rattle.log_form.specs.Form.{first_fault}
-use Rattle.log_trim.specs.Trimmed.{IsTrimmed, AreInPlace, Reaches}
+use Rattle.log_trim.specs.Trimmed.{IsTrimmed, IsUsedAnswer, IsUsedVar, AreInPlace, Reaches}
 use Rattle.log_trim.specs.declared.trimming.Trimmed.{Trimmed}
 use Rattle.refutation_log.specs.Writable.{IsWritable}
 use Rattle.report_model.specs.Writable.{IsWritableCompletion}
@@ -53,6 +54,23 @@ abbrev pub TrimmedAreReached : Type 0
 TrimmedAreReached =
     (log : Log) (goals : List ℕ) (trimmed : Trimmed) → AreInPlace log goals → IsTrimmed log goals trimmed
     → (place : ℕ) → place < length trimmed.log.steps → Reaches trimmed.log.steps trimmed.goals place
+
+-- of what a log is trimmed to, each statement is of a literal of a step that its goals reach, and each answer is named by such
+-- a statement
+pub record IsAllUsed (trimmed : Trimmed) : Type 0 where
+  pub statements : (var : ℕ) → var < length trimmed.log.statements → IsUsedVar trimmed.log.steps trimmed.goals var
+  pub answers : (tuple : ℕ) → tuple < length trimmed.log.answers → IsUsedAnswer trimmed.log trimmed.goals tuple
+
+-- it has no more counted steps, and its answers are some of the log's
+pub record IsNoMore (log : Log) (trimmed : Trimmed) : Type 0 where
+  pub counted : counted_steps trimmed.log.steps ≤ counted_steps log.steps
+  pub answers : All (Contains log.answers) trimmed.log.answers
+
+abbrev pub TrimmedAreUsed : Type 0
+TrimmedAreUsed = (log : Log) (goals : List ℕ) (trimmed : Trimmed) → IsTrimmed log goals trimmed → IsAllUsed trimmed
+
+abbrev pub TrimmedAreNoMore : Type 0
+TrimmedAreNoMore = (log : Log) (goals : List ℕ) (trimmed : Trimmed) → IsTrimmed log goals trimmed → IsNoMore log trimmed
 
 -- a completion of a specification within its limits can be written
 abbrev pub CompletionsAreWritable : Type 0

@@ -1,5 +1,5 @@
 -- The log of a search over the statements of a specification.
-use Rattle.std.specs.Prelude.{◌≡◌, ◌⊎◌, ◌<◌, ◌≤◌, ℕ, true, List, length, take, All, None, Some, slice_get}
+use Rattle.std.specs.Prelude.{◌≡◌, ◌⊎◌, ◌<◌, ◌≤◌, ℕ, Bool, true, false, List, length, take, All, None, Some, slice_get}
 use Rattle.currency_base.specs.Lists.{OnlyOnce}
 use Rattle.currency_base.specs.Literals.{var_of}
 use Rattle.currency_base.specs.declared.ids.EntId.{EntId}
@@ -26,19 +26,21 @@ use Rattle.order_literals.specs.Numbers.{numbers_of}
 use Rattle.order_literals.specs.Statements.{statements_of}
 use Rattle.order_literals.specs.declared.wanted.Wanted.{Wanted}
 use Rattle.order_clauses.specs.Clauses.{IsAxiomStep}
+use Rattle.search_logs.specs.Free.{IsFreeClause}
 
 -- the statements that are numbered of a specification
 abbrev pub variables : Spec → Wanted → List Statement
 variables s wanted = statements_of (numbers_of s.relations wanted)
 
--- a clause that is derived: it follows from the clauses before it with its hints, its literals are of the statements, and
--- no literal and no hint stands twice
-pub record IsDerivedStep (statements : List Statement) (earlier : List (List Lit)) (lits : List Lit)
-    (hints : List ℕ) : Type 0 where
+-- a clause that is learned: it follows from the clauses before it with its hints, its literals are of the statements, and no
+-- literal and no hint stands twice; where it is not counted, it is one that is free of the budget
+pub record IsLearnedStep (s : Spec) (statements : List Statement) (earlier : List (List Lit)) (lits : List Lit)
+    (hints : List ℕ) (counted : Bool) : Type 0 where
   pub follows : FollowsFrom earlier lits hints
   pub within : All (λ lit. var_of lit < length statements) lits
   pub lits_once : OnlyOnce lits
   pub hints_once : OnlyOnce hints
+  pub free : counted ≡ false → IsFreeClause s statements lits
 
 -- what is posed of a search: tuples that ascend, at most a million, of values such as documents have
 pub record IsPosed (posed : Posed) : Type 0 where
@@ -62,11 +64,13 @@ abbrev pub IsAxiomTaken : Spec → Posed → List Statement → Label → List L
 IsAxiomTaken s posed statements l lits = IsAxiomStep s statements l lits (step.Axiom l lits) ⊎ IsMatchStep s posed
     statements l lits
 
--- a step that a search adds after these clauses: the axiom of a label, or a clause that is derived
+-- a step that a search adds after these clauses: the axiom of a label, which is that of a match where it is demanded, or a
+-- clause that is learned
 abbrev pub IsSearchStep : Spec → Posed → List Statement → List (List Lit) → Step → Type 0
 IsSearchStep s posed statements earlier (step.Axiom l lits) = IsAxiomTaken s posed statements l lits
-IsSearchStep s posed statements earlier (step.OnDemand l lits) = IsAxiomTaken s posed statements l lits
-IsSearchStep s posed statements earlier (step.Learn lits hints counted) = IsDerivedStep statements earlier lits hints
+IsSearchStep s posed statements earlier (step.OnDemand l lits) = IsMatchStep s posed statements l lits
+IsSearchStep s posed statements earlier (step.Learn lits hints counted) =
+    IsLearnedStep s statements earlier lits hints counted
 
 -- each step is one that a search adds after the steps before it
 abbrev pub AreSearchSteps : Spec → Posed → List Statement → List Step → Type 0

@@ -1,4 +1,4 @@
-ghost use Rattle.search_logs.specs.Laws.{LogsAreAccepted, LogsAreInPlace, LogsAreWritable, TrimmedAreWritable, TrimmedAreAmong, TrimmedAreReached, CompletionsAreWritable};
+ghost use Rattle.search_logs.specs.Laws.{LogsAreAccepted, LogsAreInPlace, LogsAreWritable, TrimmedAreWritable, TrimmedAreAmong, TrimmedAreNoMore, TrimmedAreReached, TrimmedAreUsed, CompletionsAreWritable};
 
 use axiom_agreement::axioms_agree;
 use order_limits::statements_are_few;
@@ -20,11 +20,14 @@ pub fn search_logs_are_writable()
 }
 
 /// Laws: what the log of a search is trimmed to can be written, and is well formed; its statements are among those
-/// that are numbered; each step of it is reached from its goals.
+/// that are numbered; each step of it is reached from its goals, each statement and each answer used by such a step; and it
+/// has no more counted steps, and no other answers.
 pub fn trimmed_logs_are_writable()
     ensures writable { TrimmedAreWritable }
     ensures among { TrimmedAreAmong }
     ensures reached { TrimmedAreReached }
+    ensures used { TrimmedAreUsed }
+    ensures no_more { TrimmedAreNoMore }
 {
     statements_are_few();
 }

@@ -14,7 +14,8 @@ use std::alloc::Global;
 /// that it had when it was last freed. A variable that it was not fitted for is never picked.
 #[derive(Drop)]
 pub struct Activity {
-    // a variable of the scope is present from when it is freed until it is met at the root with a value
+    // a variable of the scope is present from when it is freed, or the scope is entered, until it is met at the root with a
+    // value; one beyond the scope may be, until it is met at the root
     tree: CountTree,
     phases: Vec<bool>,
     bump: u64,
@@ -116,14 +117,9 @@ impl Guide for Activity {
         }
     }
 
-    fn leave(&mut self, scope: &[u32])
-        ensures present { present_of self.new ≡ marked (present_of self.old) scope.now false }
-        ensures truths { truths_of self.new ≡ truths_of self.old }
-        ensures counts { counts_of self.new ≡ counts_of self.old }
-        ensures bump { bump_of self.new ≡ bump_of self.old }
-    {
-        take_off(&mut self.tree, scope);
-    }
+    fn leave(&mut self, _scope: &[u32])
+        ensures { self.new ≡ self.old }
+    {}
 
     fn enter(&mut self, scope: &[u32])
         ensures present { present_of self.new ≡ marked (present_of self.old) scope.now true }
@@ -159,23 +155,14 @@ fn mark(tree: &mut CountTree, var: u32, present: bool)
     }
 }
 
-// Makes variables present, where they are in range: the first one first, so that of equal counts the others stand at few nodes.
+// Makes variables present, where they are in range: the first one first, so that of equal counts
+// the others stand at few nodes.
 fn make_present(tree: &mut CountTree, vars: &[u32])
     ensures counts { tree.new.counts ≡ tree.old.counts }
     ensures present { tree.new.present ≡ marked tree.old.present vars.now true }
 {
     for var in vars {
         mark(tree, *var, true);
-    }
-}
-
-// Takes variables off, where they are in range: the last one first, since of equal counts it stands at few nodes.
-fn take_off(tree: &mut CountTree, vars: &[u32])
-    ensures counts { tree.new.counts ≡ tree.old.counts }
-    ensures present { tree.new.present ≡ marked tree.old.present vars.now false }
-{
-    for place in 0..vars.len() {
-        mark(tree, vars[vars.len() - 1 - place], false);
     }
 }
 

@@ -1,19 +1,19 @@
 -- Steps that are added, one turn after another.
-use Rattle.std.proofs.Common.{◌≡◌, ◌⊎◌, ◌<◌, ◌≤◌, ◌+◌, ◌∙◌, ℕ, Bool, true, false, List, [], ◌∷◌, ◌++◌, Some, length, take, slice_get, refl, sym, ap, subst, inl, inr, arith}
-use Rattle.std.proofs.lemmas.Bool.{cases_lt}
+use Rattle.std.proofs.Common.{◌≡◌, ◌⊎◌, ◌<◌, ◌≤◌, ◌+◌, ◌∙◌, ℕ, Bool, true, false, List, [], ◌∷◌, ◌++◌, Contains, Option, Some, length, take, slice_get, refl, sym, ap, subst, inl, inr, arith}
+use Rattle.std.proofs.lemmas.Bool.{cases_lt, false≢true}
 use Rattle.std.proofs.lemmas.List.{append-nil, append_assoc, length-append, take-append-le, take_all}
-use Rattle.std.proofs.lemmas.Option.{slice_get_within}
+use Rattle.std.proofs.lemmas.Option.{same_Some, slice_get_within}
 use Rattle.currency_base.specs.Lists.{OnlyOnce}
 use Rattle.currency_base.specs.declared.lit.Lit.{Lit}
-use Rattle.refutation_log.specs.Steps.{clauses_of, is_counted}
+use Rattle.refutation_log.specs.Steps.{clause_of, clauses_of, is_counted}
 use Rattle.refutation_log.specs.Counted.{CountedAreNew, IsNew}
 use Rattle.refutation_log.specs.Follows.{FollowsFrom}
 use Rattle.refutation_log.specs.declared.step.Step.{Step}
 use Rattle.refutation_log.specs.declared.step.Step.TheVariants.{Axiom, Learn, OnDemand}
-use Rattle.search_state.specs.States.{Frame, HasConcluded, HasLearned, IsFit, State, vars_of}
+use Rattle.search_state.specs.States.{Frame, HasConcluded, HasLearned, HasRefuted, IsFit, State, vars_of}
 use Rattle.watch_propagate.proofs.KeptLists.{get_front, get_push}
 use Rattle.watch_solver.specs.Decided.{HasGrown, IsLearnedAfter}
-use Rattle.watch_solver.specs.Underway.{HasCounted}
+use Rattle.watch_solver.specs.Underway.{HasCounted, IsFinal}
 
 -- the front of a list with more behind is the same at each place of the list
 take_front : (old added new : List Step) (place : ℕ) → new ≡ old ++ added → place ≤ length old → take place new ≡ take place old
@@ -33,6 +33,7 @@ grown_none vars old new is = record {
   steps = is ∙ sym (append-nil old);
   learned = λ place step h at. none place step h at;
   counted = λ place step h more at. none place step h at;
+  small = λ place step h at free. none place step h at;
 }
   where
     none : {A : Type 0} (place : ℕ) (step : Step) → length old ≤ place → slice_get new place ≡ Some step → A
@@ -73,12 +74,14 @@ learned_last vars old new step is learned place other h at =
     (subst (λ (ss : List Step). IsLearnedAfter vars (clauses_of ss) step) (sym whole) learned)
 
 pub grown_one : (vars : ℕ) (old new : List Step) (step : Step) → new ≡ old ++ step ∷ [] → IsLearnedAfter vars
-    (clauses_of old) step → HasGrown vars old new
-grown_one vars old new step is learned = record {
+    (clauses_of old) step → (is_counted step ≡ false → length (clause_of step) ≤ 1) → HasGrown vars old new
+grown_one vars old new step is learned small = record {
   added = step ∷ [];
   steps = is;
   learned = learned_last vars old new step is learned;
   counted = λ place other h more at. absurd (omega (arith, h, more, ap length is, length-append old (step ∷ [])));
+  small = λ place other h at.
+      subst (λ (s : Step). is_counted s ≡ false → length (clause_of s) ≤ 1) (last_place old new step other place is h at).1 small;
 }
 
 pub counted_one : (vars : ℕ) (old new : List Step) (step : Step) → new ≡ old ++ step ∷ [] → IsLearnedAfter vars
@@ -100,6 +103,7 @@ grown_then vars old middle new one other = record {
   steps = other.steps ∙ ap (λ (ss : List Step). ss ++ other.added) one.steps ∙ append_assoc old one.added other.added;
   learned = λ place step h at. learned place step h at (cases_lt place (length middle));
   counted = λ place step h more at. counted place step h more at (cases_lt place (length middle));
+  small = λ place step h at free. small place step h at free (cases_lt place (length middle));
 }
   where
     learned : (place : ℕ) (step : Step) → length old ≤ place → slice_get new place ≡ Some step →
@@ -116,6 +120,13 @@ grown_then vars old middle new one other = record {
     counted place step h more at (inl below) = one.counted place step h
         (stood middle other.added new place step other.steps below at)
     counted place step h more at (inr above) = other.counted place step above more at
+
+    small : (place : ℕ) (step : Step) → length old ≤ place → slice_get new place ≡ Some step → is_counted step ≡ false
+        → (place < length middle) ⊎ (length middle ≤ place) → length (clause_of step) ≤ 1
+    small place step h at free (inl below) =
+        absurd (false≢true (sym free ∙ one.counted place step h
+        (stood middle other.added new place step other.steps below at)))
+    small place step h at free (inr above) = other.small place step above at free
 
 pub counted_then : (vars : ℕ) (old middle new : List Step) → HasCounted vars old middle → HasCounted vars middle new
     → HasCounted vars old new
@@ -168,18 +179,29 @@ counted_learned old new h =
     counted_one (vars_of old) old.steps new.steps (Learn h.lits h.hints true) h.steps
     (learned_after old h.lits h.hints true h.derived.follows h.derived.fit h.derived.hints_once (λ e. h.is_new)) refl
 
-pub grown_concluded : (old new : State) (lits : List Lit) → HasConcluded old new lits → HasGrown (vars_of old) old.steps new.steps
-grown_concluded old new lits h =
+pub grown_concluded : (old new : State) (lits : List Lit) → HasConcluded old new lits → length lits ≤ 1
+    → HasGrown (vars_of old) old.steps new.steps
+grown_concluded old new lits h few =
     grown_one (vars_of old) old.steps new.steps (Learn lits h.hints false) h.steps
     (learned_after old lits h.hints false h.derived.follows h.derived.fit h.derived.hints_once
     (λ e. let no : ⊥ = cc in absurd no))
+    (λ free. few)
 
--- a clause that follows is added, and not counted
-pub grown_derived : (vars : ℕ) (old new : List Step) (lits : List Lit) (hints : List ℕ)
-    → new ≡ old ++ Learn lits hints false ∷ [] → FollowsFrom (clauses_of old) lits hints → IsFit vars lits → OnlyOnce hints
-    → HasGrown vars old new
-grown_derived vars old new lits hints is follows fit once =
-    grown_one vars old new (Learn lits hints false) is (follows, fit, once, λ e. let no : ⊥ = cc in absurd no)
+-- of a clause whose literals are all the goal, none twice, there is at most one
+few_lits : (goal : Option Lit) (lits : List Lit) → ((lit : Lit) → Contains lits lit → goal ≡ Some lit) → OnlyOnce lits
+    → length lits ≤ 1
+few_lits goal [] all once = omega arith
+few_lits goal (x ∷ []) all once = omega arith
+few_lits goal (x ∷ y ∷ more) all once =
+    let same : x ≡ y = same_Some x y (sym (all x (0, omega arith, refl)) ∙ all y (1, omega arith, refl)) in
+    let no : 0 ≡ 1 = once 0 1 y (ap Some same) refl in
+    absurd (omega (arith, no))
+
+pub grown_refuted : (old new : State) (goal : Option Lit) → HasRefuted old new → IsFinal old.trail goal
+    → HasGrown (vars_of old) old.steps new.steps
+grown_refuted old new goal h last =
+    grown_concluded old new h.lits h.concluded
+    (few_lits goal h.lits (λ lit c. last lit (h.assumed lit c)) h.concluded.derived.fit.once)
 
 -- ---- the law
 

@@ -65,7 +65,7 @@ pub answer_empty : (s : State) (goal : Option Lit) (place left : ℕ) → IsStep
     → IsAnswer s goal left (Empty place)
 answer_empty s goal place left is = not_due s goal left (Empty place) is (no_due_empty s goal place is)
 
-answer_proved : (s : State) (goal : Option Lit) (lit : Lit) (place left : ℕ) → goal ≡ Some lit
+pub answer_proved : (s : State) (goal : Option Lit) (lit : Lit) (place left : ℕ) → goal ≡ Some lit
     → IsStepOf s.steps place (lit ∷ []) → s.trail.starts ≡ []
     → IsAnswer s goal left (Proved place)
 answer_proved s goal lit place left is_goal is ground = not_due s goal left (Proved place) (lit, is_goal, is)

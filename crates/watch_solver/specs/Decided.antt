@@ -33,7 +33,8 @@ IsLearnedAfter vars earlier (Learn lits hints counted) =
     FollowsFrom earlier lits hints × IsFit vars lits × OnlyOnce hints ×
     (counted ≡ true → IsNew earlier (Learn lits hints counted))
 
--- steps were added; each was learned after those before it, and each but the last is counted
+-- steps were added; each was learned after those before it, each but the last is counted, and one that is not counted has at
+-- most one literal
 pub record HasGrown (vars : ℕ) (old new : List Step) : Type 0 where
   pub added : List Step
   pub steps : new ≡ old ++ added
@@ -41,6 +42,8 @@ pub record HasGrown (vars : ℕ) (old new : List Step) : Type 0 where
       → IsLearnedAfter vars (clauses_of (take place new)) step
   pub counted : (place : ℕ) (step : Step) → length old ≤ place → place + 1 < length new → slice_get new place ≡ Some
       step → is_counted step ≡ true
+  pub small : (place : ℕ) (step : Step) → length old ≤ place → slice_get new place ≡ Some step → is_counted step ≡ false
+      → length (clause_of step) ≤ 1
 
 -- ---- what is found
 

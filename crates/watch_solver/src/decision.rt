@@ -1,4 +1,5 @@
-ghost use Rattle.std.specs.Prelude.{◌≡◌, ◌+◌, ◌<◌, ℕ, [], true, false, length, IfOk, IfSome, IfNone, OnOk, OnErr};
+ghost use Rattle.std.specs.Prelude.{◌≡◌, ◌+◌, ◌<◌, ◌∷◌, ℕ, [], true, false, length, IfOk, IfSome, IfNone, OnOk, OnErr};
+ghost use Rattle.currency_base.specs.Literals.{var_of};
 ghost use Rattle.refutation_log.specs.Counted.{counted_steps};
 ghost use Rattle.search_state.specs.States.{IsFalse, vars_of};
 ghost use Rattle.watch_solver.specs.Decided.{HasGrown, IsStepOf};
@@ -8,7 +9,7 @@ use crate::goal::goal_level;
 use crate::search::{Stop, search};
 use crate::{Budget, Found};
 use currency_base::{Lit, NoMemory};
-use refutation_log::Log;
+use refutation_log::{Log, StepRef};
 use search_restarts::Restarts;
 use search_state::State;
 use solver_guides::Guides;
@@ -76,19 +77,63 @@ fn found_model(state: &State, goal: Option<Lit>) -> Found
     Found::Model
 }
 
-// The goal is true where nothing is assumed: its clause is derived.
+// The goal is true where nothing is assumed: its clause is derived, unless it was before.
 fn prove(state: &mut State, goal: Option<Lit>, lit: Lit) -> Result<Found, NoMemory>
-    requires { IsGoalTrue state.old.trail goal lit }
+    requires within { IsGoalWithin (vars_of state.old) goal }
+    requires holds { IsGoalTrue state.old.trail goal lit }
     ensures frame { state.new.frame ≡ state.old.frame }
     ensures scope { state.new.trail.scope ≡ state.old.trail.scope }
     ensures grown { HasGrown (vars_of state.old) state.old.steps state.new.steps }
     ensures units { counted_steps state.new.steps ≡ counted_steps state.old.steps }
     ensures found { (left : ℕ) → IfOk result (IsAnswer state.new goal left) }
 {
+    if let Some(place) = derived_before(state, lit) {
+        return Ok(Found::Proved(place));
+    }
     match state.derive(lit) {
         Ok(place) => Ok(Found::Proved(place)),
         Err(error) => Err(error),
     }
+}
+
+// The step by which a literal alone was derived, where that is the reason of its variable.
+fn derived_before(state: &State, lit: Lit) -> Option<u32>
+    requires { var_of lit < vars_of state.now }
+    ensures { IfSome result (λ place. IsStepOf state.now.steps place (lit ∷ [])) }
+{
+    state.is_state();
+    let place = state.trail().reason(lit.var())?.0;
+    if is_derived(state.log(), place) && is_alone(state.log(), place, lit) {
+        Some(place)
+    } else {
+        None
+    }
+}
+
+// Is a step a clause that was derived? An axiom is none.
+fn is_derived(log: &Log, place: u32) -> bool
+    ensures { result ≡ true → place < length log.now.steps }
+{
+    let place = place as usize;
+    if place >= log.steps.len() {
+        return false;
+    }
+    matches!(log.steps.get(place), StepRef::Learn { .. })
+}
+
+// Is the clause of a step this literal alone?
+fn is_alone(log: &Log, place: u32, lit: Lit) -> bool
+    requires { place < length log.now.steps }
+    ensures { result ≡ true → IsStepOf log.now.steps place (lit ∷ []) }
+{
+    is_one(log.steps.lits(place as usize), lit)
+}
+
+// Is a clause this literal alone?
+fn is_one(lits: &[Lit], lit: Lit) -> bool
+    ensures { result ≡ true → lits.now ≡ lit ∷ [] }
+{
+    lits.len() == 1 && lits[0] == lit
 }
 
 // A conflict: where nothing is assumed but the goal's negation it refutes that, else a clause is learned.

@@ -160,7 +160,6 @@ impl Solver {
         ensures frame { self.new.frame ≡ self.old.frame }
         ensures scope { self.new.trail.scope ≡ self.old.trail.scope }
         ensures ok { OnOk result (self.new.steps ≡ self.old.steps ++ Learn lits.now hints.now false ∷ []) }
-        ensures grown { HasGrown (length self.old.frame.statements) self.old.steps self.new.steps }
         ensures place { IfOk result (λ place. place ≡ length self.old.steps) }
         ensures err { OnErr result (self.new.steps ≡ self.old.steps) }
         ensures failed { self.old.failed ≡ true → IsErr result }

@@ -49,7 +49,6 @@ derive 4 1 6 by 1 8 5;
 derive -1 5 6 by 3 7 5;
 derive 4 5 6 by 9 10;
 derive 7 by 2 4 6 11;
-derive 7 by 12;
 end;
 >> verify s q p => 0 accepted same
 

@@ -134,6 +134,27 @@ current T x (2);
 ...
 >> verify s q p => 0 accepted same
 
+== a pair that is asked twice is derived once
+-- s
+relation R from "r.csv" row id entity eid (a: int);
+rule up on R (s, t): if s.a < t.a then s before t in a;
+-- r.csv
+id,eid,a
+r1,e,1
+r2,e,2
+-- q: certain R.a: r1 < r2, r1 < r2;
+>> ask s q
+0 currency report 2;
+verdict certain;
+completion;
+ranking R.a of e: r1 < r2;
+log;
+statement before 1 1 1 2;
+axiom rule 1 1 2: 1;
+derive 1 by 1;
+end;
+>> verify s q p => 0 accepted certain
+
 == pairs are decided
 -- s
 relation Staff from "staff.csv" row record entity person (name: text, salary: int);

@@ -231,6 +231,243 @@ ranking T.b of x: t2 < t1;
 end;
 end;
 
+== a known completion that added pairs break is mended
+-- s
+relation R from "r.csv" row id entity eid (a: int);
+relation T from "t.csv" row id entity eid (b: int);
+copy c into T (b) from R (a): t1 from r1, t2 from r2;
+-- r.csv
+id,eid,a
+r1,x,1
+r2,x,2
+q1,y,1
+q2,y,2
+o1,v,1
+o2,v,2
+-- t.csv
+id,eid,b
+t1,z,1
+t2,z,2
+-- script
+ask certain R.a: o2 < o1;
+add order T.b: t1 < t2;
+ask consistent;
+add order R.a: q1 < q2;
+ask consistent;
+add order R.a: o2 < o1;
+add order R.a: r2 < r1;
+ask consistent;
+withdraw order R.a: r2 < r1;
+ask consistent;
+>> session s script --brief
+0 currency session 1;
+reply 1;
+currency brief 2;
+verdict not certain R.a: o2 < o1;
+completion;
+ranking R.a of x: r2 < r1;
+ranking R.a of y: q2 < q1;
+ranking R.a of v: o1 < o2;
+ranking T.b of z: t2 < t1;
+end;
+edit 2 accepted;
+reply 3;
+currency brief 2;
+verdict consistent;
+completion;
+ranking R.a of x: r1 < r2;
+ranking R.a of y: q2 < q1;
+ranking R.a of v: o1 < o2;
+ranking T.b of z: t1 < t2;
+end;
+edit 4 accepted;
+reply 5;
+currency brief 2;
+verdict consistent;
+completion;
+ranking R.a of x: r1 < r2;
+ranking R.a of y: q1 < q2;
+ranking R.a of v: o1 < o2;
+ranking T.b of z: t1 < t2;
+end;
+edit 6 accepted;
+edit 7 accepted;
+reply 8;
+currency brief 2;
+verdict inconsistent;
+end;
+edit 9 accepted;
+reply 10;
+currency brief 2;
+verdict consistent;
+completion;
+ranking R.a of x: r1 < r2;
+ranking R.a of y: q1 < q2;
+ranking R.a of v: o2 < o1;
+ranking T.b of z: t1 < t2;
+end;
+end;
+
+== a copied row that the known completion agrees with
+-- s
+relation R from "r.csv" row id entity eid (a: int);
+relation T from "t.csv" row id entity eid (b: int);
+copy c into T (b) from R (a): t1 from r1;
+-- r.csv
+id,eid,a
+r1,x,1
+r2,x,2
+o1,v,1
+o2,v,2
+-- t.csv
+id,eid,b
+t1,z,1
+t2,z,2
+-- script
+ask certain R.a: o2 < o1;
+add copy c: t2 from r2;
+ask consistent;
+ask certain T.b: t1 < t2;
+>> session s script --brief
+0 currency session 1;
+reply 1;
+currency brief 2;
+verdict not certain R.a: o2 < o1;
+completion;
+ranking R.a of x: r2 < r1;
+ranking R.a of v: o1 < o2;
+ranking T.b of z: t2 < t1;
+end;
+edit 2 accepted;
+reply 3;
+currency brief 2;
+verdict consistent;
+completion;
+ranking R.a of x: r2 < r1;
+ranking R.a of v: o1 < o2;
+ranking T.b of z: t2 < t1;
+end;
+reply 4;
+currency brief 2;
+verdict not certain T.b: t1 < t2;
+completion;
+ranking R.a of x: r2 < r1;
+ranking R.a of v: o1 < o2;
+ranking T.b of z: t2 < t1;
+end;
+end;
+
+== a known completion that an added copied row breaks is mended
+-- s
+relation R from "r.csv" row id entity eid (a: int);
+relation T from "t.csv" row id entity eid (b: int);
+copy c into T (b) from R (a): t1 from r2;
+-- r.csv
+id,eid,a
+r1,x,2
+r2,x,1
+q1,y,1
+q2,y,2
+o1,v,1
+o2,v,2
+-- t.csv
+id,eid,b
+t1,z,1
+t2,z,2
+-- script
+ask certain R.a: o2 < o1;
+add copy c: t2 from r1;
+ask consistent;
+ask certain T.b: t1 < t2;
+>> session s script --brief
+0 currency session 1;
+reply 1;
+currency brief 2;
+verdict not certain R.a: o2 < o1;
+completion;
+ranking R.a of x: r2 < r1;
+ranking R.a of y: q2 < q1;
+ranking R.a of v: o1 < o2;
+ranking T.b of z: t2 < t1;
+end;
+edit 2 accepted;
+reply 3;
+currency brief 2;
+verdict consistent;
+completion;
+ranking R.a of x: r2 < r1;
+ranking R.a of y: q2 < q1;
+ranking R.a of v: o1 < o2;
+ranking T.b of z: t1 < t2;
+end;
+reply 4;
+currency brief 2;
+verdict not certain T.b: t1 < t2;
+completion;
+ranking R.a of x: r1 < r2;
+ranking R.a of y: q2 < q1;
+ranking R.a of v: o2 < o1;
+ranking T.b of z: t2 < t1;
+end;
+end;
+:: With a pair that breaks it too.
+-- script
+ask certain R.a: o2 < o1;
+add copy c: t2 from r1;
+add order R.a: q1 < q2;
+ask consistent;
+>> session s script --brief
+0 currency session 1;
+reply 1;
+currency brief 2;
+verdict not certain R.a: o2 < o1;
+completion;
+ranking R.a of x: r2 < r1;
+ranking R.a of y: q2 < q1;
+ranking R.a of v: o1 < o2;
+ranking T.b of z: t2 < t1;
+end;
+edit 2 accepted;
+edit 3 accepted;
+reply 4;
+currency brief 2;
+verdict consistent;
+completion;
+ranking R.a of x: r2 < r1;
+ranking R.a of y: q1 < q2;
+ranking R.a of v: o1 < o2;
+ranking T.b of z: t1 < t2;
+end;
+end;
+-- script
+ask certain R.a: o2 < o1;
+add order R.a: q1 < q2;
+add copy c: t2 from r1;
+ask consistent;
+>> session s script --brief
+0 currency session 1;
+reply 1;
+currency brief 2;
+verdict not certain R.a: o2 < o1;
+completion;
+ranking R.a of x: r2 < r1;
+ranking R.a of y: q2 < q1;
+ranking R.a of v: o1 < o2;
+ranking T.b of z: t2 < t1;
+end;
+edit 2 accepted;
+edit 3 accepted;
+reply 4;
+currency brief 2;
+verdict consistent;
+completion;
+ranking R.a of x: r2 < r1;
+ranking R.a of y: q1 < q2;
+ranking R.a of v: o1 < o2;
+ranking T.b of z: t1 < t2;
+end;
+end;
+
 == what ends inconsistent is mended by what is explained
 -- s
 relation R from "r.csv" row id entity eid (a: int);

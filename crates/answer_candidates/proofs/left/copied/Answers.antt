@@ -1,4 +1,4 @@
-use Rattle.std.proofs.Common.{◌≡◌, ◌∷◌, ◌++◌, [], ap, ◌∙◌, subst, sym}
+use Rattle.std.proofs.Common.{◌∷◌, ◌++◌, [], ap, ◌∙◌}
 use Rattle.answer_candidates.proofs.Growing.{copied_more}
 use Rattle.answer_candidates.proofs.left.copied.Goals as goal
 

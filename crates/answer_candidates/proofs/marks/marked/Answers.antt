@@ -9,4 +9,4 @@ loop-place-preserved c =
     c.push.new.self.items c.loop-place.more
     c.is_more-more.result c.index-tuples-place.result _ c.in-Ok.mark c.requires c.loop-place-test.true
     c.loop-place.invariant c.index-tuples-place.is
-    c.in-Ok.ensures after c.is_more-more.ensures
+    c.in-Ok.ensures after c.is_more-more.ensures.none c.is_more-more.ensures.some

@@ -65,7 +65,7 @@ derived-requires-clause-writable c =
     (answers_written c.args.search c.args.spec.now c.args.query.now c.args.candidates c.args.steps.now are)
 
 pub returns : goal.returns
-returns c = λ budget.
+returns c = λ budget within.
     let s = c.args.spec.now in
     let query = c.args.query.now in
     let search = c.args.search in
@@ -95,5 +95,5 @@ returns c = λ budget.
     c.into_completions-completions.ensures) in
     subst (λ (x : Spec). IfOk c.derived.result (IsReported x (asked.Answers query) budget)) c.requires.search.spec
     (c.derived.ensures (asked.Answers query) budget (search_for_answers s query standing.tuples search
-    c.requires.search c.requires.posed c.requires.over) one_of
+    c.requires.search c.requires.posed c.requires.over) within one_of
     claims listed)

@@ -1,4 +1,4 @@
-use Rattle.std.proofs.Common.{IfOk, [], ◌∷◌, refl, subst}
+use Rattle.std.proofs.Common.{IfOk, [], ◌∷◌, refl, subst, arith}
 use Rattle.spec_model.specs.Spec.{Spec}
 use Rattle.spec_model.specs.declared.question.Question.TheVariants as asked
 use Rattle.report_model.specs.declared.verdict.Verdict.TheVariants as verdict
@@ -31,7 +31,8 @@ returns-in-Proved c =
     → AreClaims s c.args.search.posed v.goals (needs_of (asked.Same rels) (verdict.Same v.claims.items))
     → IsListedFor s (asked.Same rels) (verdict.Same v.claims.items) (c.args.first ∷ []) → IfOk c.proved.result
     (IsReported s (asked.Same rels) c.args.budget))
-    c.requires.spec (c.proved.ensures (asked.Same rels) c.args.budget c.requires.asked_for) claims.items
+    c.requires.spec (c.proved.ensures (asked.Same rels) c.args.budget c.requires.asked_for
+    (let units = c.requires.outcome.units in omega (arith, units))) claims.items
     (values_claimed c.args.spec.now c.args.search.posed rels c.args.first v.claims.rows v.goals
     (needs_of (asked.Same rels) (verdict.Same v.claims.items)) claims.rows
     c.requires.values.goals) refl

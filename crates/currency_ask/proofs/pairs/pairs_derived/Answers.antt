@@ -14,9 +14,9 @@ proved-requires-clause-goals c =
     c.requires.spec c.requires.asked c.requires.goals)
 
 pub returns-in-None : goal.returns-in-None
-returns-in-None c = λ budget.
+returns-in-None c = λ budget within.
     subst (λ (s : Spec). IfOk c.proved.result (IsReported s (asked.Certain c.args.pairs.now) budget)) c.requires.spec
-    (c.proved.ensures (asked.Certain c.args.pairs.now) budget c.requires.asked_for tt
+    (c.proved.ensures (asked.Certain c.args.pairs.now) budget c.requires.asked_for within tt
     (pairs_claimed c.args.search.spec c.args.search.posed c.args.pairs.now c.args.goals.now
     (all_pairs c.args.pairs.now c.args.failing c.args.goals.now c.in-None.is c.requires.goals)) refl)
 

@@ -11,6 +11,8 @@ trim-requires c =
       writable = c.trimmed_logs_are_writable.ensures.writable;
       among = c.trimmed_logs_are_writable.ensures.among;
       reached = c.trimmed_logs_are_writable.ensures.reached;
+      used = c.trimmed_logs_are_writable.ensures.used;
+      no_more = c.trimmed_logs_are_writable.ensures.no_more;
     } in
     can_trim laws c.args.search c.into_log-log.result c.args.place record {
       search_is = c.is_search.ensures;
@@ -20,7 +22,7 @@ trim-requires c =
     }
 
 pub returns : goal.returns
-returns c = λ q budget for_it.
+returns c = λ q budget for_it within.
     let laws : EmptyLaws = record {
       accepted = c.search_logs_are_accepted.ensures.accepted;
       in_place = c.search_logs_are_accepted.ensures.in_place;
@@ -29,6 +31,8 @@ returns c = λ q budget for_it.
       writable = c.trimmed_logs_are_writable.ensures.writable;
       among = c.trimmed_logs_are_writable.ensures.among;
       reached = c.trimmed_logs_are_writable.ensures.reached;
+      used = c.trimmed_logs_are_writable.ensures.used;
+      no_more = c.trimmed_logs_are_writable.ensures.no_more;
     } in
     let has : HasEmptyStep c.args.search c.into_log-log.result c.args.place = record {
       search_is = c.is_search.ensures;
@@ -36,5 +40,5 @@ returns c = λ q budget for_it.
       few = c.requires.few;
       empty = c.requires.empty;
     } in
-    empty_reported laws c.args.search c.into_log-log.result c.args.place c.in-Ok.trimmed q budget c.new.result for_it
+    empty_reported laws c.args.search c.into_log-log.result c.args.place c.in-Ok.trimmed q budget c.new.result for_it within
     has c.in-Ok.ensures c.new.ensures

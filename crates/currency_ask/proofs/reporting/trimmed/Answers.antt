@@ -15,6 +15,8 @@ trim-requires c =
       writable = c.trimmed_logs_are_writable.ensures.writable;
       among = c.trimmed_logs_are_writable.ensures.among;
       reached = c.trimmed_logs_are_writable.ensures.reached;
+      used = c.trimmed_logs_are_writable.ensures.used;
+      no_more = c.trimmed_logs_are_writable.ensures.no_more;
       completions = c.completions_are_writable.ensures;
       orders = c.literals_agree.ensures.orders;
       values = c.literals_agree.ensures.values;
@@ -29,7 +31,7 @@ trim-requires c =
     can_trim_units laws c.args.search c.into_log-log.result c.args.goals.now c.as_slice.result.now has
 
 pub returns : goal.returns
-returns c = λ q budget for_it one_of are listed.
+returns c = λ q budget for_it within one_of are listed.
     let laws : ClaimLaws = record {
       accepted = c.search_logs_are_accepted.ensures.accepted;
       in_place = c.search_logs_are_accepted.ensures.in_place;
@@ -40,6 +42,8 @@ returns c = λ q budget for_it one_of are listed.
       writable = c.trimmed_logs_are_writable.ensures.writable;
       among = c.trimmed_logs_are_writable.ensures.among;
       reached = c.trimmed_logs_are_writable.ensures.reached;
+      used = c.trimmed_logs_are_writable.ensures.used;
+      no_more = c.trimmed_logs_are_writable.ensures.no_more;
       completions = c.completions_are_writable.ensures;
       orders = c.literals_agree.ensures.orders;
       values = c.literals_agree.ensures.values;
@@ -53,4 +57,4 @@ returns c = λ q budget for_it one_of are listed.
     } in
     claims_reported laws c.args.search c.into_log-log.result c.args.goals.now c.as_slice.result.now has
     c.in-Ok.needed c.in-Ok.ensures c.args.verdict c.args.completions
-    c.requires.listed c.requires.few c.requires.writable q budget for_it one_of are listed
+    c.requires.listed c.requires.few c.requires.writable q budget for_it within one_of are listed

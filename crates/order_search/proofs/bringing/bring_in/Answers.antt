@@ -8,7 +8,7 @@ pub returns-in-Ok-clause-held : goal.returns-in-Ok-clause-held
 returns-in-Ok-clause-held g c =
     subst (λ (marks : List Bool). IsHeld c.args.subject.now c.add_lasts.new.progress.solver marks)
     (sym c.add_lasts.ensures.brought)
-    (c.add_lasts.ensures.keeps c.args.subject.now c.bring_axioms.new.progress.brought.items c.bring_axioms.ensures.held)
+    (c.add_lasts.ensures.keeps c.bring_axioms.new.progress.brought.items c.bring_axioms.ensures.held)
 
 pub returns-in-Ok-clause-added : goal.returns-in-Ok-clause-added
 returns-in-Ok-clause-added g c =

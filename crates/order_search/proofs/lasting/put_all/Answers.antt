@@ -23,7 +23,8 @@ loop-place-preserved g c =
     let new = c.put.new.solver in
     let were = c.loop-place.invariant in
     record {
-      keeps = keeps_then old now new were.keeps c.put.ensures.keeps;
+      keeps = keeps_then old now new c.args.steps.now c.loop-place.place (step_of c.get.result) c.get.ensures were.keeps
+          c.put.ensures.keeps;
       plain = plain_then old now new were.plain c.put.ensures.plain;
       scope = c.put.ensures.scope ∙ were.scope;
       added = added_then old now new were.added c.put.ensures.added;
@@ -35,3 +36,8 @@ loop-place-preserved g c =
 pub returns-in-Err-clause-plain : goal.returns-in-Err-clause-plain
 returns-in-Err-clause-plain g c =
     plain_then c.args.solver.now c.loop-place.solver c.put.new.solver c.loop-place.invariant.plain c.put.ensures.plain
+
+pub returns-in-Err-clause-keeps : goal.returns-in-Err-clause-keeps
+returns-in-Err-clause-keeps g c =
+    keeps_then c.args.solver.now c.loop-place.solver c.put.new.solver c.args.steps.now c.loop-place.place
+    (step_of c.get.result) c.get.ensures c.loop-place.invariant.keeps c.put.ensures.keeps

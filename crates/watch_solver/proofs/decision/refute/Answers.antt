@@ -1,7 +1,7 @@
 use Rattle.std.proofs.Common.{ℕ, List, [], refl, sym, subst}
 use Rattle.refutation_log.specs.declared.step.Step.{Step}
 use Rattle.watch_solver.specs.Decided.{IsStepOf}
-use Rattle.watch_solver.proofs.Grown.{grown_concluded, grown_none}
+use Rattle.watch_solver.proofs.Grown.{grown_none, grown_refuted}
 use Rattle.watch_solver.proofs.Shown.{answer_empty, answer_refuted}
 use Rattle.watch_solver.proofs.decision.refute.Goals as goal
 
@@ -18,10 +18,14 @@ pub returns-in-Err-clause-grown : goal.returns-in-Err-clause-grown
 returns-in-Err-clause-grown g c = grown_none _ _ _ c.in-Err.ensures.err
 
 pub returns-then-is_empty-2-clause-grown : goal.returns-then-is_empty-2-clause-grown
-returns-then-is_empty-2-clause-grown g c = grown_concluded c.args.state.now c.refute.new.self _ c.in-Ok.ensures.ok.concluded
+returns-then-is_empty-2-clause-grown g c =
+    grown_refuted c.args.state.now c.refute.new.self c.args.goal c.in-Ok.ensures.ok
+    c.requires.last
 
 pub returns-else-is_empty-2-clause-grown : goal.returns-else-is_empty-2-clause-grown
-returns-else-is_empty-2-clause-grown g c = grown_concluded c.args.state.now c.refute.new.self _ c.in-Ok.ensures.ok.concluded
+returns-else-is_empty-2-clause-grown g c =
+    grown_refuted c.args.state.now c.refute.new.self c.args.goal c.in-Ok.ensures.ok
+    c.requires.last
 
 pub returns-else-is_empty-2-clause-found : goal.returns-else-is_empty-2-clause-found
 returns-else-is_empty-2-clause-found g c = λ (left : ℕ).

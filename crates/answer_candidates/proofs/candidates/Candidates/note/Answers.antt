@@ -23,7 +23,7 @@ returns-after-push-clause-held c = λ s query are is over.
     tuples gone c.in-Ok.ensures in
     let more = candidates_more c.instances_exist.ensures.one s query old c.args.completion c.args.indexed.now are is
     over c.in-Ok.field-0.gone.items
-    c.in-Ok.field-0.more marks in
+    c.in-Ok.field-0.more marks c.if-not-more.false in
     elim c.match-push.branch [
       | in-Ok-push w ↦ rw w.result-is (candidates_as s query c.self.inside.tuples old.tuples c.push.new.self
           (old.completions ++ c.args.completion ∷ [])
