@@ -1,9 +1,11 @@
-//! Documents in memory, and a run of the program over them: what the crates of rows share.
+//! Documents in memory, specifications with their verdicts, and runs of the program over them: what rows over documents share.
 #![tactic(auto)]
 
+mod cases;
 mod spelling;
 mod transcript;
 
+pub use cases::{Case, EACH, EIGHT, FREE, HISTORY, TRIANGLE};
 use currency_base::NoMemory;
 use currency_cli::run;
 use currency_edge::{MemoryShelf, MemorySink, Shelf, Sink};
@@ -85,10 +87,21 @@ pub fn asked(
     documents: Documents<'_>,
     words: &[&str],
 ) -> Result<(u8, MemorySink), NoMemory> {
+    let mut guides = Guides::new(Vec::new(alloc));
+    guided(alloc, documents, words, &mut guides)
+}
+
+/// The status and the sink of these words over these documents, with these guides.
+pub fn guided(
+    alloc: Global,
+    documents: Documents<'_>,
+    words: &[&str],
+    guides: &mut Guides,
+) -> Result<(u8, MemorySink), NoMemory> {
     let mut shelf = shelf_of(alloc, documents)?;
     let mut sink = MemorySink::new(alloc);
     let words = words_of(alloc, words)?;
-    let status = run_with_no_guide(alloc, words.as_slice(), &mut shelf, &mut sink);
+    let status = run(alloc, words.as_slice(), &mut shelf, &mut sink, guides);
     Ok((status, sink))
 }
 

@@ -1,15 +1,12 @@
 use crate::guide_kinds::put;
 use crate::wrong_guides::{Seen, Watched};
 use currency_base::NoMemory;
-use currency_cli::run;
-use currency_edge::MemorySink;
 use solver_guides::{FirstFree, Guide, Guides};
 use std::alloc::Global;
 use std::process::Abort;
 use std::rc::Rc;
 use std::test::Fail;
-use worked_cases::FREE;
-use worked_documents::{shelf_of, words_of};
+use worked_documents::{FREE, guided};
 
 // How often a guide was called and dropped.
 #[derive(Clone, Copy, Debug, PartialEq, Eq)]
@@ -81,10 +78,8 @@ fn two(alloc: Global, leads: bool, fits: bool, seen: &Rc<Seen>) -> Result<Guides
 
 // The status of these words over three free rows, with these guides.
 fn status_with(alloc: Global, words: &[&str], guides: &mut Guides) -> Result<u8, NoMemory> {
-    let mut shelf = shelf_of(alloc, FREE.documents(b""))?;
-    let mut sink = MemorySink::new(alloc);
-    let words = words_of(alloc, words)?;
-    Ok(run(alloc, words.as_slice(), &mut shelf, &mut sink, guides))
+    let (status, _) = guided(alloc, FREE.documents(b""), words, guides)?;
+    Ok(status)
 }
 
 #[test]

@@ -1,27 +1,8 @@
 use crate::guide_kinds::{four, one_steady};
-use currency_base::NoMemory;
-use currency_cli::run;
-use currency_edge::MemorySink;
 use solver_guides::Guides;
-use std::alloc::Global;
 use std::process::Abort;
 use std::test::Fail;
-use worked_cases::{Case, EACH, FREE};
-use worked_documents::{shelf_of, words_of};
-
-// The status and the sink of these words over a case, with these guides.
-fn guided(
-    alloc: Global,
-    case: Case<'_>,
-    words: &[&str],
-    guides: &mut Guides,
-) -> Result<(u8, MemorySink), NoMemory> {
-    let mut shelf = shelf_of(alloc, case.documents(b""))?;
-    let mut sink = MemorySink::new(alloc);
-    let words = words_of(alloc, words)?;
-    let status = run(alloc, words.as_slice(), &mut shelf, &mut sink, guides);
-    Ok((status, sink))
-}
+use worked_documents::{Case, EACH, FREE, guided};
 
 // With these guides a case has its verdict.
 fn expect_verdict(
@@ -30,7 +11,7 @@ fn expect_verdict(
     words: &[&str],
     guides: &mut Guides,
 ) -> Result<(), Fail> {
-    let (status, sink) = guided(rt.alloc(), case, words, guides)?;
+    let (status, sink) = guided(rt.alloc(), case.documents(b""), words, guides)?;
     let head = format!(in rt.alloc(); "currency report 2;\nverdict {};\n", case.verdict)?;
     assert!(rt; sink.written().starts_with(head.as_bytes()), "{head}");
     assert_eq!(rt; status, 0);
@@ -74,7 +55,7 @@ fn expect_order(
     order: &str,
 ) -> Result<(), Fail> {
     let words = ["currency", "ask", "s", "q", "--brief"];
-    let (_, sink) = guided(rt.alloc(), FREE, &words, guides)?;
+    let (_, sink) = guided(rt.alloc(), FREE.documents(b""), &words, guides)?;
     let text = format!(in rt.alloc();
         "currency brief 2;\nverdict consistent;\ncompletion;\nranking R.a of x: {order};\nend;\n"
     )?;
@@ -93,7 +74,7 @@ fn expect_steady(rt: &(impl Abort + AllocGlobal), turned: bool, order: &str) -> 
 fn expect_no_second(rt: &(impl Abort + AllocGlobal)) -> Result<(), Fail> {
     let mut guides = one_steady(rt.alloc(), false)?;
     let words = ["currency", "ask", "s", "q", "--guide", "2"];
-    let (status, _) = guided(rt.alloc(), FREE, &words, &mut guides)?;
+    let (status, _) = guided(rt.alloc(), FREE.documents(b""), &words, &mut guides)?;
     assert_eq!(rt; status, 2);
     Ok(())
 }

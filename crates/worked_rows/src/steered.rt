@@ -2,14 +2,13 @@ use crate::guide_kinds::{put, put_four};
 use crate::steered_rows::{ROWS, Row};
 use crate::wrong_guides::{Always, Random, Seen, Watched};
 use currency_base::{Lit, NoMemory};
-use currency_cli::run;
 use currency_edge::MemorySink;
 use solver_guides::{Guide, Guides};
 use std::alloc::Global;
 use std::process::Abort;
 use std::rc::Rc;
 use std::test::Fail;
-use worked_documents::{Documents, shelf_of, verified, words_of};
+use worked_documents::{Documents, guided, verified};
 
 // Which guides stand in a ring.
 #[derive(Clone, Copy, Debug, PartialEq, Eq)]
@@ -102,14 +101,8 @@ fn ended(alloc: Global, row: Row<'_>, guides: &mut Guides) -> Result<(u8, Memory
         q: row.question.as_bytes(),
         ..row.case.documents(b"")
     };
-    let mut shelf = shelf_of(alloc, documents)?;
-    let mut sink = MemorySink::new(alloc);
-    let words = words_of(
-        alloc,
-        &["currency", "ask", "s", "q", "--budget", row.budget],
-    )?;
-    let status = run(alloc, words.as_slice(), &mut shelf, &mut sink, guides);
-    Ok((status, sink))
+    let words = ["currency", "ask", "s", "q", "--budget", row.budget];
+    guided(alloc, documents, &words, guides)
 }
 
 // Whoever steers, a row has its verdict, and the report is accepted.

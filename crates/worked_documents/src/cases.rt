@@ -1,6 +1,6 @@
 //! Specifications with their tables, and what is due for the question whether they are consistent.
 
-use worked_documents::{Documents, first};
+use crate::{Documents, first};
 
 /// A specification, its tables, and the verdict.
 #[derive(Clone, Copy)]
@@ -29,17 +29,8 @@ pub const FREE: Case<'static> = Case {
     verdict: "consistent",
 };
 
-/// Three rows of which the last is known.
-pub const LAST: Case<'static> = Case {
-    spec: "relation R from \"r.csv\" row id entity eid (a: int);
-order R.a: r1 < r3, r2 < r3;
-",
-    tables: &[],
-    verdict: "consistent",
-};
-
-/// A circle of known orders.
-pub const CIRCLE: Case<'static> = Case {
+// A circle of known orders.
+const CIRCLE: Case<'static> = Case {
     spec: "relation R from \"r.csv\" row id entity eid (a: int);
 order R.a: r1 < r2, r2 < r3, r3 < r1;
 ",
@@ -47,8 +38,8 @@ order R.a: r1 < r2, r2 < r3, r3 < r1;
     verdict: "inconsistent",
 };
 
-/// A rule that no row can meet, since both variables may stand for one.
-pub const NEVER: Case<'static> = Case {
+// A rule that no row can meet, since both variables may stand for one.
+const NEVER: Case<'static> = Case {
     spec: "relation R from \"r.csv\" row id entity eid (a: int);
 rule n on R (s, t): s before t in a;
 ",
@@ -56,8 +47,8 @@ rule n on R (s, t): s before t in a;
     verdict: "inconsistent",
 };
 
-/// A rule with no instance.
-pub const VOID: Case<'static> = Case {
+// A rule with no instance.
+const VOID: Case<'static> = Case {
     spec: "relation R from \"r.csv\" row id entity eid (a: int);
 rule n on R (s, t): if s before s in a then false;
 ",
@@ -65,8 +56,8 @@ rule n on R (s, t): if s before s in a then false;
     verdict: "consistent",
 };
 
-/// A relation with no row.
-pub const EMPTY: Case<'static> = Case {
+// A relation with no row.
+const EMPTY: Case<'static> = Case {
     spec: "relation E from \"e.csv\" row id entity eid (a: int);
 rule n on E (s, t): s before t in a;
 ",
@@ -92,8 +83,8 @@ rule move on Emp (s, t): if t before s in salary then t before s in address;
     verdict: "consistent",
 };
 
-/// The same, and a department whose managers were copied from it.
-pub const STAFF: Case<'static> = Case {
+// The same, and a department whose managers were copied from it.
+const STAFF: Case<'static> = Case {
     spec: "relation Emp from \"emp.csv\" row id entity eid (status: text, last: text, salary: int, address: text);
 rule pay on Emp (s, t): if s.salary > t.salary then t before s in salary;
 rule wed on Emp (s, t): if s.status = \"married\" and t.status = \"single\" then t before s in status;
@@ -110,31 +101,6 @@ copy c into Dept (mgr) from Emp (last): d1 from s1, d2 from s3;
 d1,rd,Smith,6500
 d2,rd,Dupont,6000
 ",
-        ),
-    ],
-    verdict: "consistent",
-};
-
-/// Badges whose names were printed from staff records: the example of the README.
-pub const BADGES: Case<'static> = Case {
-    spec: "relation Staff from \"staff.csv\" row record entity person (name: text, salary: int);
-rule raises on Staff (s, t): if s.salary < t.salary then s before t in salary;
-rule names on Staff (s, t): if s before t in salary then s before t in name;
-relation Badge from \"badges.csv\" row badge entity holder (name: text);
-copy printed into Badge (name) from Staff (name): b1 from s3, b2 from s1;
-",
-    tables: &[
-        (
-            "staff.csv",
-            b"record,person,name,salary\ns1,mary,Smith,50\ns2,mary,Smith,60\ns3,mary,Dupont,80\n",
-        ),
-        (
-            "badges.csv",
-            b"badge,holder,name\nb1,4711,Dupont\nb2,4711,Smith\n",
-        ),
-        (
-            "pairs.csv",
-            b"attribute,earlier,later\nname,s1,s3\nsalary,s2,s3\n",
         ),
     ],
     verdict: "consistent",
@@ -170,8 +136,8 @@ rule n4 on U (s, t): if t before s in a and s before t in b and s before t in c 
     verdict: "inconsistent",
 };
 
-/// A copy that is read backwards.
-pub const BACK: Case<'static> = Case {
+// A copy that is read backwards.
+const BACK: Case<'static> = Case {
     spec: "relation S from \"s.csv\" row id entity eid (a: int);
 relation T from \"t.csv\" row id entity eid (b: int);
 copy c into T (b) from S (a): t1 from s1, t2 from s2;
