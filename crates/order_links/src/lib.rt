@@ -3,7 +3,6 @@
 
 mod links;
 mod list;
-mod marks;
 mod ties;
 mod ways;
 

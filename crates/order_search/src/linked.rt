@@ -21,18 +21,19 @@ use std::alloc::Global;
 // goals told, and the guide that leads does not go over all that is decided before it comes to the next.
 const ENOUGH: usize = 64;
 
-// Of how many linked lists the ring is told at most.
+// How many lists a goal brings in at most, and tells the ring of. What goes round beyond them comes in when it does.
 const NEAR: usize = 64;
 
 // Where more variables than these are told, those of no further list are.
 const MANY: usize = 512;
 
-/// Brings in a list and those that it is linked with, but for those that are there, and tells the ring the variables of those
-/// that are near: about how many it told. Where the order of the list's rows is known with nothing assumed, nothing is done.
+/// Brings in a list and those that it is linked with, the nearest first and up to so many, but for those that are there, and tells
+/// the ring their variables: about how many it told. Where the order of the list's rows is known with nothing assumed, nothing is
+/// done.
 pub(crate) fn bring_linked(
     subject: &Subject<'_>,
     progress: &mut Progress,
-    links: &mut Links<'_>,
+    links: &Links<'_>,
     alloc: Global,
     list: ListId,
     when: When,
@@ -40,20 +41,15 @@ pub(crate) fn bring_linked(
 ) -> Result<usize, NoMemory>
     requires held { IsHeld subject.now progress.old.solver progress.old.brought.items }
     requires list { IsListOf subject.now.spec.relations list }
-    requires links { links.old ≡ subject.now.spec.relations }
+    requires links { links.now ≡ subject.now.spec.relations }
     ensures held { IsHeld subject.now progress.new.solver progress.new.brought.items }
     ensures added { HasAdded progress.old.solver progress.new.solver }
     ensures plain { ArePlain subject.now progress.old.solver.steps → ArePlain subject.now progress.new.solver.steps }
     ensures units { counted_steps progress.new.solver.steps ≡ counted_steps progress.old.solver.steps }
-    ensures links { links.new ≡ links.old }
 {
     if is_settled(subject, progress.solver.trail(), list, subject.rows(list)) {
         return Ok(0);
     }
-    let lists = match links.linked(list) {
-        Ok(lists) => lists,
-        Err(error) => return Err(error),
-    };
     let near = match links.near(list, NEAR) {
         Ok(near) => near,
         Err(error) => return Err(error),
@@ -62,7 +58,7 @@ pub(crate) fn bring_linked(
         When::Next => lead_to(subject, &near, guides),
         When::Later => tell_lists(subject, &near, guides),
     };
-    match bring_lists(subject, progress, alloc, &lists, guides) {
+    match bring_lists(subject, progress, alloc, &near, guides) {
         Ok(()) => Ok(told),
         Err(error) => Err(error),
     }

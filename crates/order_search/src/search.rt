@@ -184,7 +184,7 @@ impl<'a> Search<'a> {
         let outcome = bring_linked(
             &self.subject,
             &mut self.progress,
-            &mut self.links,
+            &self.links,
             alloc,
             list,
             when,

@@ -1,7 +1,7 @@
 /// How many conflicts the shortest run of a search has.
 const UNIT: u64 = 64;
-/// How many runs the leader of a ring leads, one after another; the others lead one.
-const LONG_TURN: u32 = 16;
+/// How many runs the leader of a ring leads, one after another; the others lead one, so of four it leads fifteen in sixteen.
+const LONG_TURN: u32 = 45;
 /// The place in a ring of the guide that leads most.
 pub const LEADER: usize = 1;
 

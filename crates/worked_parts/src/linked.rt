@@ -1,6 +1,6 @@
-//! Which lists are linked, and which are told.
+//! Which lists are linked.
 
-ghost use Rattle.std.specs.Prelude.{◌≡◌, true, IfOk};
+ghost use Rattle.std.specs.Prelude.{◌≡◌, true};
 ghost use Rattle.order_links.specs.Lists.{IsListOf};
 
 use crate::sources::{Source, specification};
@@ -13,8 +13,8 @@ use std::test::Fail;
 // A relation, an attribute and an entity.
 type List = (u32, u32, u32);
 
-// Lists that are told before, a list, and the lists that it is linked with which were not told.
-type Row = (&'static [List], List, &'static [List]);
+// A list, and the lists that it is linked with.
+type Row = (List, &'static [List]);
 
 // Entities x and y of S, and p and q of T. The rules link a with b, and d with e by way of f; a comparison and a conclusion
 // alone link nothing. Rows of p are copied from x, and one of q from y.
@@ -63,7 +63,6 @@ const ROWS: &[(Source, Row)] = &[
     (
         LINKED,
         (
-            &[],
             (0, 1, 0),
             &[(0, 1, 0), (0, 0, 0), (1, 0, 0), (1, 2, 0), (1, 1, 0)],
         ),
@@ -71,93 +70,38 @@ const ROWS: &[(Source, Row)] = &[
     (
         LINKED,
         (
-            &[],
             (1, 1, 1),
             &[(1, 1, 1), (1, 2, 1), (1, 0, 1), (0, 0, 1), (0, 1, 1)],
         ),
     ),
-    (LINKED, (&[], (0, 2, 0), &[(0, 2, 0)])),
-    // what was told is passed over, and not what it is linked with
-    (
-        LINKED,
-        (
-            &[(0, 0, 0), (1, 2, 0)],
-            (0, 1, 0),
-            &[(0, 1, 0), (1, 0, 0), (1, 1, 0)],
-        ),
-    ),
-    (
-        LINKED,
-        (
-            &[(0, 1, 0)],
-            (0, 1, 0),
-            &[(0, 0, 0), (1, 0, 0), (1, 2, 0), (1, 1, 0)],
-        ),
-    ),
-    (JOINED, (&[], (0, 1, 0), &[(0, 1, 0), (1, 0, 0), (0, 1, 1)])),
+    (LINKED, ((0, 2, 0), &[(0, 2, 0)])),
+    (JOINED, ((0, 1, 0), &[(0, 1, 0), (1, 0, 0), (0, 1, 1)])),
     (
         JOINED,
-        (
-            &[],
-            (0, 0, 2),
-            &[(0, 0, 2), (1, 1, 0), (0, 0, 0), (0, 0, 1)],
-        ),
+        ((0, 0, 2), &[(0, 0, 2), (1, 1, 0), (0, 0, 0), (0, 0, 1)]),
     ),
-    (JOINED, (&[], (0, 1, 2), &[(0, 1, 2)])),
-    (ALONE, (&[], (0, 0, 0), &[(0, 0, 0)])),
-    (ALONE, (&[(0, 0, 0)], (0, 0, 0), &[])),
+    (JOINED, ((0, 1, 2), &[(0, 1, 2)])),
+    (ALONE, ((0, 0, 0), &[(0, 0, 0)])),
 ];
-
-#[test]
-fn linked_lists_are_met_once(rt: HostRuntime) -> Result<(), Fail> {
-    let alloc = rt.alloc();
-    for (source, row) in ROWS {
-        let spec = specification(alloc, *source)?;
-        assert!(rt; is_answered(alloc, &spec, *row)?);
-    }
-    Ok(())
-}
-
-// Are the lists answered, and nothing but once?
-fn is_answered(
-    alloc: Global,
-    spec: &Specification,
-    (told, asked, linked): Row,
-) -> Result<bool, NoMemory> {
-    let mut links = Links::new(alloc, spec)?;
-    tell(spec, &mut links, told);
-    if !are(&ask(alloc, spec, &mut links, asked)?, linked) {
-        return Ok(false);
-    }
-    for list in linked {
-        if ask(alloc, spec, &mut links, *list)?.len() > 0 {
-            return Ok(false);
-        }
-    }
-    Ok(true)
-}
 
 #[test]
 fn near_lists_are_the_first_that_are_linked(rt: HostRuntime) -> Result<(), Fail> {
     let alloc = rt.alloc();
-    for (source, (told, asked, linked)) in ROWS {
-        if told.is_empty() {
-            let spec = specification(alloc, *source)?;
-            assert!(rt; are_near(alloc, &spec, *asked, linked)?);
-        }
+    for (source, (asked, linked)) in ROWS {
+        let spec = specification(alloc, *source)?;
+        assert!(rt; are_near(alloc, &spec, *asked, linked)?);
     }
     Ok(())
 }
 
-// Are these lists near, and the first of them where fewer are asked for, though each was told?
+// Are these lists near, and the first of them where fewer are asked for?
 fn are_near(
     alloc: Global,
     spec: &Specification,
     asked: List,
     linked: &[List],
 ) -> Result<bool, NoMemory> {
-    let mut links = Links::new(alloc, spec)?;
-    tell(spec, &mut links, linked);
+    let links = Links::new(alloc, spec)?;
     for most in [1, 2, 64] {
         let near = ask_near(alloc, spec, &links, asked, most)?;
         if !are(&near, &linked[..linked.len().min(most)]) {
@@ -204,36 +148,6 @@ fn is_list(relations: &[Relation], list: ListId) -> bool
         }
         None => false,
     }
-}
-
-// Tells those of the lists that there are.
-fn tell(spec: &Specification, links: &mut Links<'_>, lists: &[List])
-    requires { links.old ≡ spec.now.relations }
-    ensures { links.new ≡ links.old }
-{
-    for list in lists {
-        let list = list_of(*list);
-        if is_list(spec.relations(), list) {
-            links.tell(list);
-        }
-    }
-}
-
-// The lists that a list is linked with; none where there is no such list.
-fn ask(
-    alloc: Global,
-    spec: &Specification,
-    links: &mut Links<'_>,
-    list: List,
-) -> Result<ListIdList, NoMemory>
-    requires { links.old ≡ spec.now.relations }
-    ensures { links.new ≡ links.old }
-{
-    let list = list_of(list);
-    if !is_list(spec.relations(), list) {
-        return Ok(ListIdList::new(alloc));
-    }
-    links.linked(list)
 }
 
 // Are these the lists, in this order?

@@ -3,4 +3,4 @@ use Rattle.order_links.specs.Lists.{IsListOf}
 use Rattle.order_links.proofs.links.near_over.Given as goal
 
 abbrev pub invariant-loop-tie : goal.invariant-loop-tie
-invariant-loop-tie l = All (IsListOf l.marks) l.near
+invariant-loop-tie l = All (IsListOf l.relations) l.near
