@@ -4,7 +4,6 @@ ghost use Rattle.watch_propagate.specs.WatchRule.{AreReasons};
 ghost use Rattle.conflict_analysis.specs.Analyses.{AreOfAssumed, IsDerived, IsFalsified, IsLearned, IsOfLevel};
 
 use crate::conflicts::{explain, explain_place, lead};
-use crate::levels::level_start;
 use crate::reasons::{place_of, reason_at};
 use crate::resolution::{Bounds, Resolution};
 use crate::writing::{push_lit, spell_all, write_hints, write_learned};
@@ -37,8 +36,8 @@ pub(crate) fn learn_clause(
 {
     trail.are_entries();
     let bounds = Bounds {
-        base: level_start(trail, 1),
-        level: level_start(trail, trail.depth()),
+        base: trail.start(1),
+        level: trail.start(trail.depth()),
     };
     match lead(found, arena, trail, bounds, conflict) {
         Ok(()) => {}

@@ -1,4 +1,4 @@
-ghost use Rattle.std.specs.Prelude.{◌≡◌, ◌<◌, ◌≤◌, ◌^◌, ◌∷◌, ◌++◌, ℕ, [], Contains, Some, nat_le, not, length, option_map, slice_get, slice_set, slice_index_or, vec_len, vec_capacity, drop, IfOk, IfSome, OnOk, OnErr};
+ghost use Rattle.std.specs.Prelude.{◌≡◌, ◌<◌, ◌≤◌, ◌-◌, ◌^◌, ◌∷◌, ◌++◌, ℕ, [], Contains, Some, nat_le, not, length, option_map, slice_get, slice_set, slice_index_or, vec_len, vec_capacity, drop, IfOk, IfSome, OnOk, OnErr};
 ghost use Rattle.std.specs.List.{count_by};
 ghost use Rattle.std.specs.List.Sorted.{IsNonDecreasing};
 ghost use Rattle.currency_base.specs.Literals.{var_of, is_negative};
@@ -106,6 +106,15 @@ impl Trail {
         ensures { result ≡ length self.now.starts }
     {
         self.starts.len() as u32
+    }
+
+    /// The place in the order of literals at which a level begins, of those from 1 on. Takes constant time.
+    pub fn start(&self, level: u32) -> u32
+        requires above { 0 < level }
+        requires there { level ≤ length self.now.starts }
+        ensures { slice_get self.now.starts (level - 1) ≡ Some result }
+    {
+        self.starts[(level - 1) as usize]
     }
 
     /// The place in the order of literals at which a variable got its value. Takes constant time.

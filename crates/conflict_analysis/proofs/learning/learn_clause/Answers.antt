@@ -12,7 +12,7 @@ write_hints-requires c =
     let l = c.in-Ok.ensures.ok in
     subst (All (λ (q : ℕ). q < length t.entries)) (sym c.resolved.ensures)
     (all_below s.resolved (length t.entries) (resolved_inside c.args.arena.now t c.are_entries.ensures
-    c.requires.reasons c.level_start.result c.level_start-2.result _ s l.ended.ended))
+    c.requires.reasons c.start.result c.start-2.result _ s l.ended.ended))
 
 pub write_learned-requires-clause-leaves : goal.write_learned-requires-clause-leaves
 write_learned-requires-clause-leaves c =
@@ -20,9 +20,9 @@ write_learned-requires-clause-leaves c =
     let s = c.lead.new.found in
     subst (All (λ (q : ℕ). q < length t.entries)) (sym c.leaves.ensures)
     (all_below s.leaves (length t.entries)
-    (leaves_inside c.args.arena.now t c.are_entries.ensures c.requires.reasons c.level_start.result
-    c.level_start-2.result c.args.conflict.0 s c.in-Ok.ensures.ok c.requires.conflict c.requires.deep
-    (ap (λ n. slice_get t.starts (n - 1)) (sym c.depth.ensures) ∙ c.level_start-2.ensures)))
+    (leaves_inside c.args.arena.now t c.are_entries.ensures c.requires.reasons c.start.result
+    c.start-2.result c.args.conflict.0 s c.in-Ok.ensures.ok c.requires.conflict c.requires.deep
+    (ap (λ n. slice_get t.starts (n - 1)) (sym c.depth.ensures) ∙ c.start-2.ensures)))
 
 pub returns-clause-ok : goal.returns-clause-ok
 returns-clause-ok c =
@@ -37,9 +37,9 @@ returns-clause-ok c =
       back = back;
       resolved = s.resolved;
     }))
-    (λ back w. is_learned c.args.arena.now t c.are_entries.ensures c.requires.reasons c.level_start.result
-    c.level_start-2.result c.args.conflict.0 s c.in-Ok.ensures.ok c.requires.conflict c.requires.deep
-    (ap (λ n. slice_get t.starts (n - 1)) (sym c.depth.ensures) ∙ c.level_start-2.ensures) (length s.seen)
+    (λ back w. is_learned c.args.arena.now t c.are_entries.ensures c.requires.reasons c.start.result
+    c.start-2.result c.args.conflict.0 s c.in-Ok.ensures.ok c.requires.conflict c.requires.deep
+    (ap (λ n. slice_get t.starts (n - 1)) (sym c.depth.ensures) ∙ c.start-2.ensures) (length s.seen)
     c.write_learned.new.lits.items c.write_hints.new.hints.items back
     (subst (λ p. IsWritten t p s.leaves c.write_learned.new.lits.items back) c.low.ensures
     (subst (λ ps. IsWritten t c.low.result ps c.write_learned.new.lits.items back) c.leaves.ensures w))
