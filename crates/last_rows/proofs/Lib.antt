@@ -1,5 +1,6 @@
 pub mod Below
 pub mod Following
+pub mod Leaving
 pub mod Currents
 pub mod Growing
 pub mod Threes

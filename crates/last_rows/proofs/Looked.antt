@@ -2,12 +2,12 @@
 use Rattle.std.proofs.Common.{◌≡◌, ◌≢◌, ◌⊎◌, ◌<◌, ◌≤◌, ◌∙◌, ◌+◌, ℕ, List, [], ◌∷◌, Contains, Some, get_or, length, slice_get, sym, subst, inl, inr, ⊎_elim, arith}
 use Rattle.std.proofs.lemmas.Bool.{cases_eq}
 use Rattle.std.proofs.lemmas.Option.{get_or_from_slice_get, slice_get_within}
-use Rattle.std.proofs.lemmas.List.Elements.{Contains-append_cases}
+use Rattle.std.proofs.lemmas.List.Elements.{Contains-append_cases, Contains-append_left, Contains-push}
 use Rattle.currency_base.specs.Literals.{negation}
 use Rattle.currency_base.specs.declared.lit.Lit.{Lit}
 use Rattle.refutation_log.specs.Follows.{clause_at}
-use Rattle.last_rows.specs.Looks.{AreAlike, AreAmong, AreLasts, AreTops, IsShaped, ThreesAt, ThreesBelow, ThreesOf}
-use Rattle.last_rows.specs.Rows.{IsClause, IsLast, IsPlaced, IsThree, StandsAt, clause_lits, lit_of, literals_of, three_of}
+use Rattle.last_rows.specs.Looks.{AreAlike, AreAmong, AreLasts, AreTops, AreUnits, IsShaped, ThreesAt, ThreesBelow, ThreesOf}
+use Rattle.last_rows.specs.Rows.{IsClause, IsLast, IsPlaced, IsThree, IsUnit, StandsAt, clause_lits, later_of, later_place_of, lit_of, literals_of, three_of}
 use Rattle.last_rows.specs.declared.rows.RowList.{RowList}
 use Rattle.last_rows.proofs.Below.{each_in, in_each, in_one}
 
@@ -26,17 +26,32 @@ in_three x a b c h = ⊎_elim
 
 pub three_seen : (l : RowList) (clauses : List (List Lit)) (first second third place : ℕ) (a b c : Lit)
     → a ≡ (literals_of l).before second first → b ≡ (literals_of l).before third second → c ≡ (literals_of l).before first third
-    → place ≡ three_of l first second third → AreAmong clauses place (a ∷ b ∷ c ∷ []) c
+    → place ≡ three_of l first second third → AreAlike clauses place (a ∷ b ∷ c ∷ [])
     → StandsAt (IsThree (literals_of l) first second third) clauses (three_of l first second third)
-three_seen l clauses first second third place a b c is_a is_b is_c at among =
+three_seen l clauses first second third place a b c is_a is_b is_c at alike =
     subst (λ (n : ℕ). StandsAt (IsThree (literals_of l) first second third) clauses n) at (record {
-      known = among.known;
+      known = alike.known;
       is = record {
         each = λ lit h. ⊎_elim
             (λ (p : lit ≡ a). inl (p ∙ is_a))
             (λ (p : (lit ≡ b) ⊎ (lit ≡ c)). inr (⊎_elim (λ (q : lit ≡ b). inl (q ∙ is_b)) (λ (q : lit ≡ c). inr (q ∙ is_c)) p))
-            (in_three lit a b c (among.each lit h));
-        has = subst (λ (x : Lit). Contains (clause_at clauses place) x) is_c among.has;
+            (in_three lit a b c (alike.each lit h));
+        has = subst (λ (x : Lit). Contains (clause_at clauses place) x) is_c
+            (alike.all c (Contains-push (a ∷ b ∷ []) c));
+        has_next = subst (λ (x : Lit). Contains (clause_at clauses place) x) is_b
+            (alike.all b (Contains-append_left (a ∷ b ∷ []) (c ∷ []) b (Contains-push (a ∷ []) b)));
+      };
+    })
+
+pub unit_seen : (l : RowList) (clauses : List (List Lit)) (row place : ℕ) (a : Lit)
+    → a ≡ (literals_of l).before row (later_of l row) → place ≡ later_place_of l row → AreAlike clauses place (a ∷ [])
+    → StandsAt (IsUnit (literals_of l) row (later_of l row)) clauses (later_place_of l row)
+unit_seen l clauses row place a is_a at alike =
+    subst (λ (n : ℕ). StandsAt (IsUnit (literals_of l) row (later_of l row)) clauses n) at (record {
+      known = alike.known;
+      is = record {
+        each = λ lit h. sym (in_one a lit (alike.each lit h)) ∙ is_a;
+        has = subst (λ (x : Lit). Contains (clause_at clauses place) x) is_a (alike.all a (Contains-push [] a));
       };
     })
 
@@ -93,6 +108,13 @@ lasts_more l clauses n were is row below = ⊎_elim
     (λ (ne : row ≡ n → ⊥). were row (let w : row < n = grind (arith, below, ne) in w))
     (cases_eq row n)
 
+pub units_more : (l : RowList) (clauses : List (List Lit)) (n : ℕ) → AreUnits l clauses n
+    → StandsAt (IsUnit (literals_of l) n (later_of l n)) clauses (later_place_of l n) → AreUnits l clauses (n + 1)
+units_more l clauses n were is row high below = ⊎_elim
+    (λ (e : row ≡ n). subst (λ (k : ℕ). StandsAt (IsUnit (literals_of l) k (later_of l k)) clauses (later_place_of l k)) (sym e) is)
+    (λ (ne : row ≡ n → ⊥). were row high (let w : row < n = grind (arith, below, ne) in w))
+    (cases_eq row n)
+
 pub threes_below_more : (l : RowList) (clauses : List (List Lit)) (n : ℕ) → ThreesBelow l clauses n → ThreesOf l clauses n n
     → ThreesBelow l clauses (n + 1)
 threes_below_more l clauses n were is first second third a b below differ = ⊎_elim
@@ -122,9 +144,10 @@ threes_at_more l clauses second third n were is first below differ = ⊎_elim
 
 pub placed : (l : RowList) (clauses : List (List Lit)) → IsShaped l → length clauses ≤ 4294967296
     → AreTops l clauses (length l.tops.items) → AreLasts l clauses (length l.tops.items)
-    → ThreesBelow l clauses (length l.tops.items) → IsPlaced l clauses
-placed l clauses shaped few tops lasts threes = record {
+    → AreUnits l clauses (length l.tops.items) → ThreesBelow l clauses (length l.tops.items) → IsPlaced l clauses
+placed l clauses shaped few tops lasts units threes = record {
   square = shaped.square;
+  laters = shaped.laters;
   few_rows = shaped.few;
   few = few;
   there = record {
@@ -133,5 +156,6 @@ placed l clauses shaped few tops lasts threes = record {
     tops = tops;
     lasts = lasts;
     threes = threes;
+    units = units;
   };
 }

@@ -4,8 +4,8 @@ use Rattle.std.proofs.lemmas.Bool.{cases_eq}
 use Rattle.std.proofs.lemmas.List.{append-nil, append_assoc}
 use Rattle.std.proofs.lemmas.List.Elements.{Contains-append_left, Contains-push, Contains-push_cases}
 use Rattle.currency_base.specs.declared.lit.Lit.{Lit}
-use Rattle.last_rows.specs.Hints.{three_hint, three_hints}
-use Rattle.last_rows.specs.Rows.{Literals}
+use Rattle.last_rows.specs.Hints.{known_hints, three_hint, three_hints}
+use Rattle.last_rows.specs.Rows.{Literals, later_of, later_place_of}
 use Rattle.last_rows.specs.Underway.{AreNames}
 use Rattle.last_rows.specs.declared.rows.RowList.{RowList}
 use Rattle.last_rows.proofs.Below.{in_none, once_none, once_push}
@@ -27,6 +27,31 @@ three_push l own later n old now new before is =
 
 pub three_start : (l : RowList) (own later : ℕ) (old : List ℕ) → old ≡ old ++ three_hints l own later 0
 three_start l own later old = sym (ap (λ (hs : List ℕ). old ++ hs) (three_none l own later) ∙ append-nil old)
+
+-- ---- those of the rows behind the kept ones
+
+pub known_none : (l : RowList) (own : ℕ) → known_hints l own 0 ≡ []
+unfolding known_hints
+known_none l own = refl
+
+pub known_next : (l : RowList) (own n : ℕ) → known_hints l own (n + 1)
+    ≡ (known_hints l own n ++ later_place_of l (l.kept + n) ∷ []) ++ three_hint l own (l.kept + n) (later_of l (l.kept + n))
+unfolding known_hints
+known_next l own n = let next : n + 1 ≡ suc n = omega arith in rw next refl
+
+pub known_push : (l : RowList) (own n : ℕ) (old now new : List ℕ) → now ≡ old ++ known_hints l own n
+    → new ≡ (now ++ later_place_of l (l.kept + n) ∷ []) ++ three_hint l own (l.kept + n) (later_of l (l.kept + n))
+    → new ≡ old ++ known_hints l own (n + 1)
+known_push l own n old now new before is =
+    let place = later_place_of l (l.kept + n) in
+    let three = three_hint l own (l.kept + n) (later_of l (l.kept + n)) in
+    is ∙ ap (λ (hs : List ℕ). (hs ++ place ∷ []) ++ three) before
+    ∙ ap (λ (hs : List ℕ). hs ++ three) (append_assoc old (known_hints l own n) (place ∷ []))
+    ∙ append_assoc old (known_hints l own n ++ place ∷ []) three
+    ∙ ap (λ (hs : List ℕ). old ++ hs) (sym (known_next l own n))
+
+pub known_start : (l : RowList) (own : ℕ) (old : List ℕ) → old ≡ old ++ known_hints l own 0
+known_start l own old = sym (ap (λ (hs : List ℕ). old ++ hs) (known_none l own) ∙ append-nil old)
 
 -- ---- names
 

@@ -81,6 +81,12 @@ pub record IsThree (l : Literals) (first second third : ℕ) (lits : List Lit) :
   pub each : (lit : Lit) → Contains lits lit → (lit ≡ l.before second first) ⊎ ((lit ≡ l.before third second) ⊎ (lit ≡
       l.before first third))
   pub has : Contains lits (l.before first third)
+  pub has_next : Contains lits (l.before third second)
+
+-- the clause that a row stands before another
+pub record IsUnit (l : Literals) (row other : ℕ) (lits : List Lit) : Type 0 where
+  pub each : (lit : Lit) → Contains lits lit → lit ≡ l.before row other
+  pub has : Contains lits (l.before row other)
 
 -- the clause that the value of a row is current where the row stands last
 pub record IsLast (l : Literals) (row : ℕ) (lits : List Lit) : Type 0 where
@@ -99,12 +105,35 @@ pub record StandsAt (P : List Lit → Type 0) (clauses : List (List Lit)) (place
   pub known : place < length clauses
   pub is : P (clause_at clauses place)
 
--- the place of the axiom on three rows, of which the third has the greatest number
-abbrev pub three_of : RowList → ℕ → ℕ → ℕ → ℕ
-three_of l first second third =
+-- the number of a row in the order in which the axioms on three rows stand
+abbrev pub number_of : RowList → ℕ → ℕ
+number_of l row = slice_index_or l.numbers.items row 0
+
+-- the place of the axiom on three rows that have these numbers, of which the third is the greatest
+abbrev pub three_at : RowList → ℕ → ℕ → ℕ → ℕ
+three_at l first second third =
     if nat_lt first second then
     slice_index_or l.thirds.items third 0 + slice_index_or l.seconds.items second 0 + 2 * first
     else slice_index_or l.thirds.items third 0 + slice_index_or l.seconds.items first 0 + 2 * second + 1
+
+-- the place of the axiom on three rows, which is the same from whichever of them on they are named: they are taken from that on
+-- from which the one with the greatest number comes third
+abbrev pub three_of : RowList → ℕ → ℕ → ℕ → ℕ
+three_of l first second third =
+    if nat_lt (number_of l first) (number_of l third) then
+    (if nat_lt (number_of l second) (number_of l third) then
+    three_at l (number_of l first) (number_of l second) (number_of l third)
+    else three_at l (number_of l third) (number_of l first) (number_of l second))
+    else (if nat_lt (number_of l second) (number_of l first) then
+    three_at l (number_of l second) (number_of l third) (number_of l first)
+    else three_at l (number_of l third) (number_of l first) (number_of l second))
+
+-- a row that is known to stand after this, and the place of the step that says so
+abbrev pub later_of : RowList → ℕ → ℕ
+later_of l row = slice_index_or l.laters.items row 0
+
+abbrev pub later_place_of : RowList → ℕ → ℕ
+later_place_of l row = slice_index_or l.later_places.items row 0
 
 -- the axioms on the rows stand among these clauses at the places that are said
 pub record AreThere (l : RowList) (clauses : List (List Lit)) : Type 0 where
@@ -116,18 +145,31 @@ pub record AreThere (l : RowList) (clauses : List (List Lit)) : Type 0 where
       (slice_index_or l.last_places.items row 0)
   pub threes : (first second third : ℕ) → first < third → second < third → third < length l.tops.items → first ≢ second
       → StandsAt (IsThree (literals_of l) first second third) clauses (three_of l first second third)
+  pub units : (row : ℕ) → l.kept ≤ row → row < length l.tops.items
+      → StandsAt (IsUnit (literals_of l) row (later_of l row)) clauses (later_place_of l row)
 
--- there are as many literals of each kind as rows
+-- there are as many literals of each kind as rows, and each row has a number
 pub record IsSquare (l : RowList) : Type 0 where
   pub names : length l.names.items ≡ length l.tops.items
   pub befores : length l.befores ≡ length l.tops.items
   pub each : (row : ℕ) → row < length l.tops.items → length (slice_index_or l.befores row []) ≡ length l.tops.items
   pub thirds : length l.thirds.items ≡ length l.tops.items
   pub seconds : length l.seconds.items ≡ length l.tops.items
+  pub numbers : length l.numbers.items ≡ length l.tops.items
+  pub each_number : (row : ℕ) → row < length l.tops.items → number_of l row < length l.tops.items
+
+-- some rows are kept, and of each other one a row with a smaller place is named, as known to stand after it
+pub record AreLaters (l : RowList) : Type 0 where
+  pub some : 0 < l.kept
+  pub kept : l.kept ≤ length l.tops.items
+  pub laters : length l.laters.items ≡ length l.tops.items
+  pub places : length l.later_places.items ≡ length l.tops.items
+  pub low : (row : ℕ) → l.kept ≤ row → row < length l.tops.items → later_of l row < row
 
 -- all this of a list of rows, over clauses that are not too many to be numbered
 pub record IsPlaced (l : RowList) (clauses : List (List Lit)) : Type 0 where
   pub square : IsSquare l
+  pub laters : AreLaters l
   pub few_rows : length l.tops.items ≤ 65536
   pub few : length clauses ≤ 4294967296
   pub there : AreThere l clauses

@@ -1,6 +1,6 @@
-ghost use Rattle.std.specs.Prelude.{Contains, false, true, ◌≡◌, ◌<◌, ◌≤◌, ◌+◌, ◌∷◌, ◌++◌, [], length, IfOk, OnOk, slice_index_or};
-ghost use Rattle.last_rows.specs.Hints.{current_hints, row_hints, three_hint, three_hints};
-ghost use Rattle.last_rows.specs.Rows.{AreThere, IsSquare, clause_lits, each_below, lit_of, literals_of};
+ghost use Rattle.std.specs.Prelude.{Contains, false, true, ◌≡◌, ◌<◌, ◌≤◌, ◌+◌, ◌-◌, ◌∷◌, ◌++◌, [], length, IfOk, OnOk, slice_index_or};
+ghost use Rattle.last_rows.specs.Hints.{current_hints, known_hints, left_hints, row_hints, three_hint, three_hints};
+ghost use Rattle.last_rows.specs.Rows.{AreThere, IsPlaced, IsSquare, clause_lits, each_below, later_of, later_place_of, lit_of, literals_of};
 ghost use Rattle.last_rows.specs.Underway.{AreNames};
 ghost use Rattle.refutation_log.specs.Steps.{clauses_of};
 
@@ -104,6 +104,62 @@ fn put_three(
         return Ok(());
     }
     put(hints, list.three(row, own, later) as u32)
+}
+
+/// Writes the hints by which the clause of a row follows without the rows of which a later one is known, where the clause with
+/// them stands at this row's place.
+pub(crate) fn write_left(
+    list: &RowList,
+    earlier: &Steps,
+    places: &[u32],
+    own: usize,
+    hints: &mut Vec<u32>,
+) -> Result<(), NoMemory>
+    requires placed { IsPlaced list.now (clauses_of earlier.now) }
+    requires places { length places.now ≡ length list.now.tops.items }
+    requires own { own < list.now.kept }
+    ensures { OnOk result (hints.new.items ≡ left_hints list.now places.now own) }
+{
+    hints.clear();
+    put_known(list, earlier, own, hints)?;
+    put(hints, places[own])
+}
+
+// Puts the hints of the rows of which a later one is known after the others.
+fn put_known(
+    list: &RowList,
+    earlier: &Steps,
+    own: usize,
+    hints: &mut Vec<u32>,
+) -> Result<(), NoMemory>
+    requires placed { IsPlaced list.now (clauses_of earlier.now) }
+    requires own { own < list.now.kept }
+    ensures { OnOk result (hints.new.items ≡ hints.old.items
+        ++ known_hints list.now own (length list.now.tops.items - list.now.kept)) }
+{
+    for more in 0..list.count() - list.kept {
+        put_known_of(list, earlier, own, list.kept + more, hints)?;
+    }
+    Ok(())
+}
+
+// Puts those of one of these rows after the others.
+fn put_known_of(
+    list: &RowList,
+    earlier: &Steps,
+    own: usize,
+    later: usize,
+    hints: &mut Vec<u32>,
+) -> Result<(), NoMemory>
+    requires placed { IsPlaced list.now (clauses_of earlier.now) }
+    requires own { own < list.now.kept }
+    requires kept { list.now.kept ≤ later }
+    requires later { later < length list.now.tops.items }
+    ensures { OnOk result (hints.new.items ≡ (hints.old.items ++ later_place_of list.now later ∷ [])
+        ++ three_hint list.now own later (later_of list.now later)) }
+{
+    put(hints, list.later_place(later))?;
+    put_three(list, earlier, own, later, list.later(later), hints)
 }
 
 /// Writes the names of the rows, each once.

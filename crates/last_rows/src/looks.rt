@@ -1,7 +1,7 @@
 ghost use Rattle.std.specs.Prelude.{◌≡◌, ◌≢◌, ◌<◌, ◌≤◌, true, Contains, length, slice_index_or, IfOk};
 ghost use Rattle.currency_base.specs.declared.lit.Lit.{Lit};
-ghost use Rattle.last_rows.specs.Looks.{AreAlike, AreAmong, AreLasts, AreTops, IsShaped, ThreesAt, ThreesBelow, ThreesOf};
-ghost use Rattle.last_rows.specs.Rows.{IsPlaced, IsThree, StandsAt, literals_of, three_of};
+ghost use Rattle.last_rows.specs.Looks.{AreAlike, AreAmong, AreLasts, AreTops, AreUnits, IsShaped, ThreesAt, ThreesBelow, ThreesOf};
+ghost use Rattle.last_rows.specs.Rows.{AreLaters, IsPlaced, IsThree, IsUnit, StandsAt, later_of, later_place_of, literals_of, three_of};
 ghost use Rattle.refutation_log.specs.Steps.{clauses_of};
 
 use crate::RowList;
@@ -25,7 +25,7 @@ pub fn are_there(alloc: Global, list: &RowList, earlier: &Steps) -> Result<bool,
         return Ok(false);
     }
     let tops = are_tops(alloc, list, earlier)?;
-    Ok(tops && are_lasts(list, earlier) && are_threes(list, earlier))
+    Ok(tops && are_lasts(list, earlier) && are_units(list, earlier) && are_threes(list, earlier))
 }
 
 // Is there as much said of each row?
@@ -40,11 +40,32 @@ fn is_shaped(list: &RowList) -> bool
         || list.last_places.len() != count
         || list.thirds.len() != count
         || list.seconds.len() != count
+        || list.numbers.len() != count
     {
         return false;
     }
     for row in 0..count {
-        if list.befores.get(row).len() != count {
+        if list.befores.get(row).len() != count || list.numbers[row] as usize >= count {
+            return false;
+        }
+    }
+    are_laters(list)
+}
+
+// Are some rows kept, and is of each other one a row before it named?
+fn are_laters(list: &RowList) -> bool
+    ensures { result ≡ true → AreLaters list.now }
+{
+    let count = list.tops.len();
+    if list.kept == 0
+        || list.kept > count
+        || list.laters.len() != count
+        || list.later_places.len() != count
+    {
+        return false;
+    }
+    for row in list.kept..count {
+        if list.later(row) >= row {
             return false;
         }
     }
@@ -79,6 +100,31 @@ fn are_lasts(list: &RowList, earlier: &Steps) -> bool
         }
     }
     true
+}
+
+// Do the steps that say of a row that one is after it stand at their places?
+fn are_units(list: &RowList, earlier: &Steps) -> bool
+    requires { IsShaped list.now }
+    ensures { result ≡ true → AreUnits list.now (clauses_of earlier.now) (length list.now.tops.items) }
+{
+    for row in list.kept..list.tops.len() {
+        if !is_unit(list, earlier, row) {
+            return false;
+        }
+    }
+    true
+}
+
+// Does the step that says of this row that one is after it stand at its place?
+fn is_unit(list: &RowList, earlier: &Steps, row: usize) -> bool
+    requires shaped { IsShaped list.now }
+    requires kept { list.now.kept ≤ row }
+    requires row { row < length list.now.tops.items }
+    ensures { result ≡ true → StandsAt (IsUnit (literals_of list.now) row (later_of list.now row)) (clauses_of earlier.now)
+        (later_place_of list.now row) }
+{
+    let lits = [list.before(row, list.later(row))];
+    are_alike(earlier, list.later_place(row) as usize, &lits)
 }
 
 // Do the axioms on three rows stand at their places?
@@ -153,13 +199,12 @@ fn is_three(list: &RowList, earlier: &Steps, first: usize, second: usize, third:
     ensures { result ≡ true → StandsAt (IsThree (literals_of list.now) first second third) (clauses_of earlier.now)
         (three_of list.now first second third) }
 {
-    let outer = list.before(first, third);
     let lits = [
         list.before(second, first),
         list.before(third, second),
-        outer,
+        list.before(first, third),
     ];
-    are_among(earlier, list.three(first, second, third), &lits, outer)
+    are_alike(earlier, list.three(first, second, third), &lits)
 }
 
 // Are the literals of the step at a place among these, and this one of them?

@@ -12,8 +12,6 @@ use Rattle.currency_base.specs.declared.ids.AttrId.{AttrId}
 use Rattle.currency_base.specs.declared.ids.RelId.{RelId}
 use Rattle.currency_base.specs.declared.ids.RowId.{RowId}
 use Rattle.currency_base.specs.declared.lit.Lit.{Lit}
-use Rattle.entity_lists.specs.Lists.{entities_of, rows_of}
-use Rattle.entity_lists.proofs.Facts.{member_of, rows_once}
 use Rattle.partial_orders.specs.Pairs.{entity_of}
 use Rattle.value_names.specs.Names.{name_of}
 use Rattle.refutation_log.specs.Counted.{IsNew, counted_steps}
@@ -23,8 +21,8 @@ use Rattle.refutation_log.specs.declared.statement.Statement.{Statement}
 use Rattle.refutation_log.specs.declared.statement.Statement.TheVariants as says
 use Rattle.refutation_log.specs.declared.step.Step.{Step}
 use Rattle.refutation_log.specs.declared.step.Step.TheVariants.{Learn}
+use Rattle.order_literals.specs.Numbers.{numbers_of}
 use Rattle.order_literals.specs.Laws.{NegationSays, OneLiteral, OneSaid, SaysWithin}
-use Rattle.order_literals.specs.Numbers.{is_wanted, numbers_of}
 use Rattle.order_literals.specs.Said.{Said, Says, before, last, not_before, not_top, top, turned}
 use Rattle.order_links.specs.declared.list.ListId.{ListId}
 use Rattle.search_logs.specs.Free.{IsFreeClause, IsLastRowClause, IsSomeCurrentClause, SaysCurrent, SaysLastOrAfter}
@@ -34,11 +32,10 @@ use Rattle.watch_solver.specs.Decided.{Solver}
 use Rattle.last_rows.specs.Rows.{AreApart, AreDerived, AreWithin, IsOfRows, IsRowClause, IsSomeCurrent, Literals, lit_of, literals_of}
 use Rattle.last_rows.specs.declared.rows.RowList.{RowList}
 use Rattle.last_rows.proofs.Below.{IsPairOf, IsTopOf, lit_how}
-use Rattle.order_search.specs.Kept.{ArePlain, AreRowsOf, IsPlain, posed_of, vars_of}
-use Rattle.order_search.specs.Lasting.{AreFree, AreSaid, EachIs, IsDerivation, IsNextStep, KeepsHeldBy, KeepsPlain, SaysBefore}
-use Rattle.order_search.specs.Searches.{IsWantedRow, Subject}
+use Rattle.order_search.specs.Kept.{ArePlain, IsPlain, posed_of, vars_of}
+use Rattle.order_search.specs.Lasting.{AreAllRowsOf, AreFree, AreSaid, EachIs, IsDerivation, IsNextStep, KeepsHeldBy, KeepsPlain, SaysBefore}
+use Rattle.order_search.specs.Searches.{Subject}
 use Rattle.order_search.proofs.Growing.{has_none, held_axioms, held_next, one_next}
-use Rattle.order_search.proofs.Rows.{found_row, of_entity}
 
 -- ---- lists that are made item by item
 
@@ -85,26 +82,6 @@ rows_read s list rows i j d lit says differ row other at_i at_j =
 pub none_read : (s : Subject) (list : ListId) (rows : List RowId) (i j : ℕ) (lit : Lit) → j ≡ i → SaysBefore s list rows i j lit
 none_read s list rows i j lit same differ row other at_i at_j = absurd (differ (sym same))
 
--- a row of a list of a relation whose current values are wanted
-pub row_wanted : (s : Subject) (list : ListId) (rows : List RowId) → AreRowsOf s list rows
-    → is_wanted s.wanted.currents list.rel.0 ≡ true → (i : ℕ) (d : RowId) → i < length rows
-    → IsWantedRow s.spec s.wanted list.rel list.attr (get_or rows i d)
-row_wanted s list rows are wanted i d within =
-    let table = are.is_list.relation.rows in
-    let at : slice_get (rows_of (entities_of table) list.ent.0) i ≡ Some (get_or rows i d) =
-    ap (λ (xs : List RowId). slice_get xs i) (sym (are.rows_are are.is_list.relation are.is_list.is_relation))
-    ∙ slice_get-get_or rows i d within in
-    let many : length (entities_of table) ≡ length table = length-map table (λ row. row.entity.0) in
-    let low = slice_get_within (entities_of table) (get_or rows i d).0 list.ent.0
-    (member_of (entities_of table) list.ent.0 i (get_or rows i d) at) in
-    record {
-      relation = are.is_list.relation;
-      is_relation = are.is_list.is_relation;
-      attr_within = are.is_list.attr_within;
-      row_within = omega (arith, low, many);
-      is_wanted = wanted;
-    }
-
 -- ---- what is said once
 
 before_parts : (rel : RelId) (attr : AttrId) (a b c d : RowId) → before rel attr a b ≡ before rel attr c d → (a ≡ c) × (b ≡ d)
@@ -136,7 +113,7 @@ top_no_last rel attr a b n m e =
     let same : says.Last rel attr a ≡ says.Top rel attr b = ap (λ (s : Said). s.statement) e in
     let no : ⊥ = cc in no
 
-module _ (s : Subject) (list : ListId) (rows : List RowId) (l : RowList) (are : AreRowsOf s list rows)
+module _ (s : Subject) (list : ListId) (rows : List RowId) (l : RowList) (are : AreAllRowsOf s list rows)
     (said : AreSaid s list rows l) (one : OneLiteral) (one_said : OneSaid) (negated : NegationSays)
     (twice : (lit : Lit) → negation (negation lit) ≡ lit) where
   abbrev lits : Literals
@@ -152,10 +129,7 @@ module _ (s : Subject) (list : ListId) (rows : List RowId) (l : RowList) (are : 
   in_rows i within = let many = said.tops.0 in omega (arith, within, many)
 
   rows_apart : (i j : ℕ) → i < lits.count → j < lits.count → row i ≡ row j → i ≡ j
-  rows_apart i j at_i at_j e =
-      let once : OnlyOnce rows = subst OnlyOnce (sym (are.rows_are are.is_list.relation are.is_list.is_relation))
-      (rows_once (entities_of are.is_list.relation.rows) list.ent.0) in
-      once i j (row j) (row_at i at_i ∙ ap Some e) (row_at j at_j)
+  rows_apart i j at_i at_j e = are.once i j (row j) (row_at i at_i ∙ ap Some e) (row_at j at_j)
 
   says_top : (i : ℕ) → i < lits.count → Says (vars_of s) (lits.top i) (top list.rel list.attr (row i))
   says_top i within = said.tops.1 i (in_rows i within) (row i) (row_at i within)
@@ -263,12 +237,12 @@ module _ (s : Subject) (list : ListId) (rows : List RowId) (l : RowList) (are : 
   -- ---- clauses that are not counted
 
   row_of : (i : ℕ) → i < lits.count → entity_of are.is_list.relation.rows (row i).0 ≡ Some list.ent.0
-  row_of i within = of_entity s list rows are i (row i) (row_at i within)
+  row_of i within = are.each i (row i) (row_at i within)
 
   -- the number of a row of the entity
   number_of : (r : RowId) → entity_of are.is_list.relation.rows r.0 ≡ Some list.ent.0 → (i : ℕ) × (i < lits.count) × (row i ≡ r)
   number_of r of =
-      let found = found_row s list rows are r of in
+      let found = are.all r of in
       let low = slice_get_within rows found.0 r found.1 in
       let many = said.tops.0 in
       (found.0, omega (arith, low, many), get_or_from_slice_get rows found.0 r (record { 0 = 0 }) found.1)

@@ -11,4 +11,5 @@ mod PartCycles
 mod PartMade
 mod PartTold
 mod PartNumbers
+mod AnyOrder
 mod Lasts

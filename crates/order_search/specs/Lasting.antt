@@ -11,13 +11,22 @@ use Rattle.refutation_log.specs.declared.step.Step.{Step}
 use Rattle.refutation_log.specs.declared.step.Step.TheVariants.{Learn}
 use Rattle.search_state.specs.States.{IsFit}
 use Rattle.order_literals.specs.Said.{Says, before, last, top}
+use Rattle.order_links.specs.Lists.{IsListOf}
 use Rattle.order_links.specs.declared.list.ListId.{ListId}
+use Rattle.partial_orders.specs.Pairs.{entity_of}
 use Rattle.watch_solver.specs.Decided.{Solver}
 use Rattle.search_logs.specs.Free.{IsFreeClause}
 use Rattle.last_rows.specs.Rows.{AreDerived, AreWithin, EndsCurrent, Literals, no_lit}
 use Rattle.last_rows.specs.declared.rows.RowList.{RowList}
 use Rattle.order_search.specs.Kept.{ArePlain, IsHeld, vars_of}
 use Rattle.order_search.specs.Searches.{Subject}
+
+-- the rows of a list of the specification, each once, in any order
+pub record AreAllRowsOf (s : Subject) (list : ListId) (rows : List RowId) : Type 0 where
+  pub is_list : IsListOf s.spec.relations list
+  pub once : OnlyOnce rows
+  pub each : (i : ℕ) (row : RowId) → slice_get rows i ≡ Some row → entity_of is_list.relation.rows row.0 ≡ Some list.ent.0
+  pub all : (row : RowId) → entity_of is_list.relation.rows row.0 ≡ Some list.ent.0 → (i : ℕ) × (slice_get rows i ≡ Some row)
 
 -- there are so many items, and each is such as its number says
 abbrev pub EachIs : {A : Type 0} → A → (ℕ → A → Type 0) → ℕ → List A → Type 0

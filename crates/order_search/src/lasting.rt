@@ -7,9 +7,10 @@ ghost use Rattle.last_rows.specs.Rows.{no_lit};
 ghost use Rattle.refutation_log.specs.Counted.{counted_steps};
 ghost use Rattle.refutation_log.specs.Steps.{clauses_of, step_of};
 ghost use Rattle.order_search.specs.Kept.{AreRowsOf, HasAdded, IsOfList, vars_of};
-ghost use Rattle.order_search.specs.Lasting.{AreFree, AreSaid, EachIs, IsDerivation, IsNextStep, KeepsHeld, KeepsHeldBy, KeepsPlain, SaysBefore, SaysName, SaysTop, next_place};
+ghost use Rattle.order_search.specs.Lasting.{AreAllRowsOf, AreFree, AreSaid, EachIs, IsDerivation, IsNextStep, KeepsHeld, KeepsHeldBy, KeepsPlain, SaysBefore, SaysName, SaysTop, next_place};
 
 use crate::linked::pair_at;
+use crate::ordering::{Known, Ordered, order_rows};
 use crate::progress::{Progress, root_value};
 use crate::subject::Subject;
 use completion_build::Cycle;
@@ -67,6 +68,7 @@ pub(crate) fn add_lasts(
     let steps = match derivation(
         subject,
         alloc,
+        progress.solver.trail(),
         &progress.solver.log().steps,
         progress.tops.as_slice(),
         list,
@@ -156,6 +158,7 @@ fn note_top(step: StepRef<'_>, place: usize, tops: &mut Vec<u32>)
 fn derivation(
     subject: &Subject<'_>,
     alloc: Global,
+    trail: &Trail,
     earlier: &Steps,
     tops: &[u32],
     list: ListId,
@@ -166,11 +169,22 @@ fn derivation(
     ensures derived { IfOk result (λ found. IfSome found (IsDerivation (length (vars_of subject.now)) (clauses_of earlier.now))) }
     ensures free { IfOk result (λ found. IfSome found (AreFree subject.now)) }
 {
-    let rows = subject.rows(list);
+    let Ordered { rows, known } = match order_rows(
+        subject,
+        alloc,
+        trail,
+        earlier,
+        list,
+        subject.rows(list),
+    ) {
+        Ok(Some(found)) => found,
+        Ok(None) => return Ok(None),
+        Err(error) => return Err(error),
+    };
     if rows.is_empty() {
         return Ok(None);
     }
-    let said = match said_of(subject, alloc, tops, list, rows, first) {
+    let said = match said_of(subject, alloc, tops, list, rows.as_slice(), known, first) {
         Ok(said) => said,
         Err(error) => return Err(error),
     };
@@ -194,9 +208,10 @@ fn said_of(
     tops: &[u32],
     list: ListId,
     rows: &[RowId],
+    known: Known,
     first: usize,
 ) -> Result<RowList, NoMemory>
-    requires rows { AreRowsOf subject.now list rows.now }
+    requires rows { AreAllRowsOf subject.now list rows.now }
     requires wanted { is_wanted subject.now.wanted.currents list.rel.0 ≡ true }
     ensures { IfOk result (AreSaid subject.now list rows.now) }
 {
@@ -229,6 +244,10 @@ fn said_of(
         last_places,
         thirds,
         seconds,
+        numbers: known.numbers,
+        kept: known.kept,
+        laters: known.laters,
+        later_places: known.later_places,
     })
 }
 
@@ -239,7 +258,7 @@ fn tops_of(
     list: ListId,
     rows: &[RowId],
 ) -> Result<Vec<Lit>, NoMemory>
-    requires rows { AreRowsOf subject.now list rows.now }
+    requires rows { AreAllRowsOf subject.now list rows.now }
     requires wanted { is_wanted subject.now.wanted.currents list.rel.0 ≡ true }
     ensures { IfOk result (λ lits. EachIs no_lit (SaysTop subject.now list rows.now) (length rows.now) lits.items) }
 {
@@ -261,7 +280,7 @@ fn names_of(
     list: ListId,
     rows: &[RowId],
 ) -> Result<Vec<Lit>, NoMemory>
-    requires rows { AreRowsOf subject.now list rows.now }
+    requires rows { AreAllRowsOf subject.now list rows.now }
     requires wanted { is_wanted subject.now.wanted.currents list.rel.0 ≡ true }
     ensures { IfOk result (λ lits. EachIs no_lit (SaysName subject.now list rows.now) (length rows.now) lits.items) }
 {
@@ -283,7 +302,7 @@ fn befores_of(
     list: ListId,
     rows: &[RowId],
 ) -> Result<FlatLists<Lit>, NoMemory>
-    requires rows { AreRowsOf subject.now list rows.now }
+    requires rows { AreAllRowsOf subject.now list rows.now }
     ensures { IfOk result (EachIs [] (λ i lits. EachIs no_lit (SaysBefore subject.now list rows.now i) (length rows.now) lits)
         (length rows.now)) }
 {
@@ -310,7 +329,7 @@ fn write_befores(
     place: usize,
     lits: &mut Vec<Lit>,
 ) -> Result<(), NoMemory>
-    requires rows { AreRowsOf subject.now list rows.now }
+    requires rows { AreAllRowsOf subject.now list rows.now }
     requires place { place < length rows.now }
     ensures { OnOk result (EachIs no_lit (SaysBefore subject.now list rows.now place) (length rows.now) lits.new.items) }
 {

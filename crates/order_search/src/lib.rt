@@ -8,6 +8,7 @@ mod lasting;
 mod linked;
 mod matching;
 mod opening;
+mod ordering;
 mod outcome;
 mod parting;
 mod partwise;

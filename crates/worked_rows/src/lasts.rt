@@ -112,6 +112,120 @@ current R e ("x");
 ...
 >> verify s q p => 0 accepted same
 
+== six, of which four are known to stand below others: these are left out by one step for each of the two that are left
+-- s
+relation R from "r.csv" row id entity eid (a: text);
+order R.a: r1 < r3, r3 < r5, r2 < r5, r4 < r6;
+-- r.csv
+id,eid,a
+r1,e,w
+r2,e,v
+r3,e,u
+r4,e,w
+r5,e,x
+r6,e,x
+-- q: same R;
+>> ask s q --budget 1
+0 currency report 2;
+verdict same;
+current R e ("x");
+completion;
+ranking R.a of e: r4 < r6 < r2 < r1 < r3 < r5;
+log;
+statement before 1 1 1 3;
+statement before 1 1 1 5;
+statement before 1 1 1 6;
+statement before 1 1 2 5;
+statement before 1 1 2 6;
+statement before 1 1 3 5;
+statement before 1 1 3 6;
+statement before 1 1 4 5;
+statement before 1 1 4 6;
+statement before 1 1 5 6;
+statement top 1 1 1;
+statement top 1 1 2;
+statement top 1 1 3;
+statement top 1 1 4;
+statement top 1 1 5;
+statement top 1 1 6;
+statement last 1 1 1;
+statement last 1 1 2;
+statement last 1 1 3;
+statement last 1 1 5;
+axiom given 1 1 1 3: 1;
+axiom given 1 1 2 5: 4;
+axiom given 1 1 3 5: 6;
+axiom given 1 1 4 6: 9;
+axiom above 1 1 1 3: -11 -1;
+axiom last 1 1 1: -11 17;
+axiom value 1 1 1: -17 11 14;
+axiom above 1 1 2 5: -12 -4;
+axiom last 1 1 2: -12 18;
+axiom value 1 1 2: -18 12;
+axiom above 1 1 3 5: -13 -6;
+axiom last 1 1 3: -13 19;
+axiom value 1 1 3: -19 13;
+axiom above 1 1 4 6: -14 -9;
+axiom last 1 1 4: -14 17;
+axiom top 1 1 5: 15 -2 -4 -6 -8 10;
+axiom last 1 1 5: -15 20;
+axiom top 1 1 6: 16 -3 -5 -7 -9 -10;
+axiom last 1 1 6: -16 20;
+axiom transitive 1 1 1 3 5: -1 -6 2;
+axiom transitive 1 1 1 3 6: -1 -7 3;
+axiom transitive 1 1 2 5 6: -4 -10 5;
+axiom transitive 1 1 3 5 6: -6 -10 7;
+axiom transitive 1 1 6 5 4: 10 8 -9;
+derive 15 10 14 13 12 11 by 4 24 3 2 1 20 16;
+derive -10 16 14 13 12 11 by 4 3 23 2 22 1 21 18;
+derive 15 16 14 13 12 11 by 25 26;
+derive 20 17 19 18 by 17 19 15 12 9 6 27;
+derive 20 by 1 2 3 4 5 8 10 11 13 14 7 28;
+end;
+>> verify s q p => 0 accepted same
+
+== five, of which a rule sets two below the others
+-- s
+relation R from "r.csv" row id entity eid (a: text, b: int);
+rule later on R (s, t): if s.b < t.b then s before t in a;
+-- r.csv
+id,eid,a,b
+r1,e,w,1
+r2,e,x,3
+r3,e,v,2
+r4,e,x,3
+r5,e,x,3
+-- q: answers (v) where R(_, v, _);
+>> ask s q --budget 1
+0 currency report 2;
+verdict answers;
+answer ("x");
+...
+>> verify s q p => 0 accepted answers
+
+== three, of which one stands below another as it was copied
+-- s
+relation S from "s.csv" row id entity eid (b: text);
+relation R from "r.csv" row id entity eid (a: text);
+order S.b: s1 < s2;
+copy c into R (a) from S (b): r1 from s1, r2 from s2;
+-- s.csv
+id,eid,b
+s1,p,w
+s2,p,x
+-- r.csv
+id,eid,a
+r1,e,w
+r2,e,x
+r3,e,x
+-- q: same R;
+>> ask s q --budget 1
+0 currency report 2;
+verdict same;
+current R e ("x");
+...
+>> verify s q p => 0 accepted same
+
 == of two values neither is certain, and one of the two is
 -- s: relation R from "r.csv" row id entity eid (a: text);
 -- r.csv

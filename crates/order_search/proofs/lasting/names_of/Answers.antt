@@ -6,12 +6,13 @@ use Rattle.spec_model.specs.declared.relation.Relation.{Relation}
 use Rattle.value_names.specs.Names.{name_of}
 use Rattle.order_search.specs.Kept.{vars_of}
 use Rattle.order_search.specs.Lasting.{SaysName}
-use Rattle.order_search.proofs.Lasts.{each_put, row_read, row_wanted}
+use Rattle.order_search.proofs.AnyOrder.{any_wanted}
+use Rattle.order_search.proofs.Lasts.{each_put, row_read}
 use Rattle.order_search.proofs.lasting.names_of.Goals as goal
 
 pub current-lit-requires : goal.current-lit-requires
 current-lit-requires c =
-    row_wanted c.args.subject.now c.args.list c.args.rows.now c.requires.rows c.requires.wanted c.loop-place.place
+    any_wanted c.args.subject.now c.args.list c.args.rows.now c.requires.rows c.requires.wanted c.loop-place.place
     (record { 0 = 0 }) (omega (arith, c.loop-place-test.true))
 
 pub loop-place-preserved : goal.loop-place-preserved

@@ -4,12 +4,13 @@ use Rattle.last_rows.specs.Rows.{no_lit}
 use Rattle.order_literals.specs.Said.{Says, top}
 use Rattle.order_search.specs.Kept.{vars_of}
 use Rattle.order_search.specs.Lasting.{SaysTop}
-use Rattle.order_search.proofs.Lasts.{each_put, row_read, row_wanted}
+use Rattle.order_search.proofs.AnyOrder.{any_wanted}
+use Rattle.order_search.proofs.Lasts.{each_put, row_read}
 use Rattle.order_search.proofs.lasting.tops_of.Goals as goal
 
 pub top-lit-requires : goal.top-lit-requires
 top-lit-requires c =
-    row_wanted c.args.subject.now c.args.list c.args.rows.now c.requires.rows c.requires.wanted c.loop-place.place
+    any_wanted c.args.subject.now c.args.list c.args.rows.now c.requires.rows c.requires.wanted c.loop-place.place
     (record { 0 = 0 }) (omega (arith, c.loop-place-test.true))
 
 pub loop-place-preserved : goal.loop-place-preserved

@@ -3,13 +3,13 @@ use Rattle.currency_base.specs.declared.lit.Lit.{Lit}
 use Rattle.last_rows.specs.Rows.{no_lit}
 use Rattle.order_search.specs.Lasting.{SaysBefore}
 use Rattle.order_search.proofs.Lasts.{each_all, each_put, none_read, rows_read}
-use Rattle.order_search.proofs.Rows.{pair_read}
+use Rattle.order_search.proofs.AnyOrder.{any_pair}
 use Rattle.order_search.proofs.lasting.write_befores.Goals as goal
 use Rattle.order_search.proofs.lasting.write_befores.Goals.{then-other-place, else-other-place}
 
 pub before-lit-requires : goal.before-lit-requires
 before-lit-requires c =
-    pair_read c.args.subject.now c.args.list c.args.rows.now c.requires.rows c.args.place c.loop-other.other (record { 0 = 0 })
+    any_pair c.args.subject.now c.args.list c.args.rows.now c.requires.rows c.args.place c.loop-other.other (record { 0 = 0 })
     c.requires.place (omega (arith, c.loop-other-test.true)) (λ e. c.if-other-place.false (sym e))
 
 pub loop-other-preserved : goal.loop-other-preserved
