@@ -1,4 +1,4 @@
-ghost use Rattle.std.specs.Prelude.{◌≡◌, ◌<◌, ◌≤◌, ◌+◌, ◌*◌, ◌^◌, ◌∷◌, ◌++◌, [], List, Some, length, map, replicate, option_map, slice_get, IsOk, IfOk, IfSome, OnOk, OnErr};
+ghost use Rattle.std.specs.Prelude.{◌≡◌, ◌<◌, ◌≤◌, ◌+◌, ◌*◌, ◌^◌, ◌∷◌, ◌++◌, [], List, Some, true, length, map, replicate, option_map, slice_get, IsOk, IfOk, IfSome, OnOk, OnErr};
 ghost use Rattle.std.specs.List.{filter};
 ghost use Rattle.currency_base.specs.Lists.{OnlyOnce};
 ghost use Rattle.currency_base.specs.declared.lit.Lit.{Lit};
@@ -69,8 +69,16 @@ impl Arena {
         })
     }
 
-    /// Makes room for so many more clauses, and for so many more literals in them. It is refused where memory
-    /// runs out or they would have no numbers; a refusal changes nothing else.
+    /// Was room promised for so many more clauses, and for so many more literals in them?
+    pub fn has_room(&self, clauses: usize, lits: usize) -> bool
+        ensures clauses { result ≡ true → clauses ≤ self.now.clauses_left }
+        ensures lits { result ≡ true → lits ≤ self.now.lits_left }
+    {
+        clauses <= self.clauses_left && lits <= self.lits_left
+    }
+
+    /// Makes room for so many more clauses, and for so many more literals in them, unless it was promised. It is refused where
+    /// memory runs out or they would have no numbers; a refusal changes nothing else.
     pub fn reserve(&mut self, clauses: usize, lits: usize) -> Result<(), NoMemory>
         ensures clauses { self.new.clauses ≡ self.old.clauses }
         ensures watchers { self.new.watchers ≡ self.old.watchers }
@@ -79,6 +87,9 @@ impl Arena {
         ensures stays_clauses { self.old.clauses_left ≤ self.new.clauses_left }
         ensures stays_lits { self.old.lits_left ≤ self.new.lits_left }
     {
+        if self.has_room(clauses, lits) {
+            return Ok(());
+        }
         let Ok(()) = self.clauses.reserve(clauses, lits) else {
             return Err(NoMemory);
         };

@@ -1,6 +1,7 @@
-ghost use Rattle.std.specs.Prelude.{◌≡◌, ◌<◌, ◌++◌, ℕ, All, length, map, IfOk, OnOk};
+ghost use Rattle.std.specs.Prelude.{◌≡◌, ◌<◌, ◌++◌, ◌∷◌, ℕ, [], All, Some, length, map, slice_get, IfOk, OnOk};
 ghost use Rattle.currency_base.specs.Literals.{var_of};
 ghost use Rattle.refutation_log.specs.Steps.{step_of, clause_of};
+ghost use Rattle.refutation_log.specs.declared.step.Step.{Step};
 ghost use Rattle.log_trim.specs.Trimmed.{hints_of, hints_at, lits_at, kept_of, rank, renumbered_lit, renumbered_step, renumbered_statement};
 ghost use Rattle.log_trim.specs.Marked.{is_marked, one_where, answers_of, answers_at};
 
@@ -109,35 +110,47 @@ pub fn kept_steps(
 {
     let mut list = Steps::new(alloc);
     for place in 0..steps.len() {
-        push_step(
-            alloc,
-            &mut list,
-            steps.get(place),
-            kept,
-            vars,
-            kept.is_kept(place),
-        )?;
+        let told = kept.is_kept(place);
+        push_kept(alloc, &mut list, steps, place, kept, vars, told)?;
     }
     Ok(list)
 }
 
-// Puts a step, renumbered, at the end, where so told.
+// Puts the step at a place, renumbered, at the end, where so told; else it is not looked at.
+fn push_kept(
+    alloc: Global,
+    list: &mut Steps,
+    from: &Steps,
+    place: usize,
+    steps: &Numbering,
+    vars: &Numbering,
+    told: bool,
+) -> Result<(), NoMemory>
+    requires place { place < length from.now }
+    requires lits { All (λ lit. var_of lit < length vars.now) (lits_at from.now place) }
+    requires hints { All (λ hint. hint < length steps.now) (hints_at from.now place) }
+    ensures { (step : Step) → slice_get from.now place ≡ Some step → OnOk result (list.new ≡ list.old ++ one_where told
+        (renumbered_step (is_marked steps.now) (is_marked vars.now) step)) }
+{
+    if !told {
+        return Ok(());
+    }
+    push_step(alloc, list, from.get(place), steps, vars)
+}
+
+// Puts a step, renumbered, at the end.
 fn push_step(
     alloc: Global,
     list: &mut Steps,
     step: StepRef<'_>,
     steps: &Numbering,
     vars: &Numbering,
-    told: bool,
 ) -> Result<(), NoMemory>
     requires lits { All (λ lit. var_of lit < length vars.now) (clause_of (step_of step)) }
     requires hints { All (λ hint. hint < length steps.now) (hints_of (step_of step)) }
-    ensures { OnOk result (list.new ≡ list.old ++ one_where told
-        (renumbered_step (is_marked steps.now) (is_marked vars.now) (step_of step.entry))) }
+    ensures { OnOk result (list.new ≡ list.old
+        ++ renumbered_step (is_marked steps.now) (is_marked vars.now) (step_of step.entry) ∷ []) }
 {
-    if !told {
-        return Ok(());
-    }
     match step {
         StepRef::Axiom { label, lits } => {
             let lits = renumber_lits(alloc, lits, vars)?;

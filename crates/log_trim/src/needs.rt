@@ -1,7 +1,7 @@
 ghost use Rattle.std.specs.Prelude.{◌≡◌, ◌<◌, ℕ, All, length, map, IfOk};
 ghost use Rattle.currency_base.specs.Literals.{var_of};
 ghost use Rattle.log_trim.specs.Trimmed.{hints_at, lits_at, Reaches};
-ghost use Rattle.log_trim.specs.Marked.{is_marked, with_all_where, swept, vars_at, answers_of, answers_at, IsMarkedWhere, IsOfMarked};
+ghost use Rattle.log_trim.specs.Marked.{is_marked, with_all, with_all_where, swept, vars_at, answers_of, answers_at, IsMarkedWhere, IsOfMarked};
 
 use crate::marks::Marks;
 use currency_base::{Lit, NoMemory};
@@ -61,20 +61,30 @@ pub fn used_statements(alloc: Global, log: &Log, kept: &Marks) -> Result<Marks, 
 {
     let mut marks = Marks::new(alloc, log.statements.len())?;
     for place in 0..log.steps.len() {
-        mark_vars(&mut marks, kept.is_marked(place), log.steps.lits(place));
+        let told = kept.is_marked(place);
+        mark_vars_at(&mut marks, told, &log.steps, place);
     }
     Ok(marks)
 }
 
-// Marks the variables of literals, where so told.
-fn mark_vars(marks: &mut Marks, told: bool, lits: &[Lit])
-    requires { All (λ lit. var_of lit < length marks.old) lits.now }
-    ensures value { marks.new ≡ with_all_where told marks.old (map var_of lits.now) }
+// Marks the variables of the step at a place, where so told; else it is not looked at.
+fn mark_vars_at(marks: &mut Marks, told: bool, steps: &Steps, place: usize)
+    requires place { place < length steps.now }
+    requires vars { All (λ lit. var_of lit < length marks.old) (lits_at steps.now place) }
+    ensures value { marks.new ≡ with_all_where told marks.old (vars_at steps.now place) }
     ensures count { length marks.new ≡ length marks.old }
 {
-    if !told {
-        return;
+    if told {
+        mark_vars(marks, steps.lits(place));
     }
+}
+
+// Marks the variables of literals.
+fn mark_vars(marks: &mut Marks, lits: &[Lit])
+    requires { All (λ lit. var_of lit < length marks.old) lits.now }
+    ensures value { marks.new ≡ with_all marks.old (map var_of lits.now) }
+    ensures count { length marks.new ≡ length marks.old }
+{
     for lit in lits {
         marks.mark(lit.var() as usize);
     }

@@ -15,6 +15,9 @@ use search_trail::Trail;
 use solver_guides::Guides;
 use std::alloc::Global;
 
+// How many literals a clause mostly has.
+const USUAL: usize = 3;
+
 /// Clauses in an arena, and a trail over them.
 #[derive(Drop)]
 pub(crate) struct Search {
@@ -50,7 +53,8 @@ impl Search {
         })
     }
 
-    /// Makes room for a clause of so many literals. Nothing else changes.
+    /// Makes room for a clause of so many literals: where none was promised, for as many clauses as there are, as far as memory
+    /// allows. Nothing else changes.
     pub(crate) fn reserve(&mut self, lits: usize) -> Result<(), NoMemory>
         ensures held { (clauses : List (List Lit)) → AreHeld clauses self.old.arena self.old.trail self.old.refuted
             → AreHeld clauses self.new.arena self.new.trail self.new.refuted }
@@ -61,6 +65,7 @@ impl Search {
         ensures room { OnOk result (1 ≤ self.new.arena.clauses_left) }
         ensures lits_room { OnOk result (lits ≤ self.new.arena.lits_left) }
     {
+        make_room(&mut self.arena, lits);
         self.arena.reserve(1, lits)
     }
 
@@ -189,4 +194,15 @@ fn enter(arena: &mut Arena, lits: &[Lit]) -> ClauseNo
         unreachable!();
     };
     number
+}
+
+// Makes room for as many clauses as there are, as far as memory allows, where none was promised for one of so many literals.
+fn make_room(arena: &mut Arena, lits: usize)
+    ensures clauses { arena.new.clauses ≡ arena.old.clauses }
+    ensures watchers { arena.new.watchers ≡ arena.old.watchers }
+{
+    if !arena.has_room(1, lits) {
+        let many = arena.count() as usize;
+        let _ = arena.reserve(many, many.saturating_mul(USUAL));
+    }
 }

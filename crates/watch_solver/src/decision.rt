@@ -9,7 +9,7 @@ use crate::goal::goal_level;
 use crate::search::{Stop, search};
 use crate::{Budget, Found};
 use currency_base::{Lit, NoMemory};
-use refutation_log::{Log, StepRef};
+use refutation_log::Log;
 use search_restarts::Restarts;
 use search_state::State;
 use solver_guides::Guides;
@@ -77,7 +77,7 @@ fn found_model(state: &State, goal: Option<Lit>) -> Found
     Found::Model
 }
 
-// The goal is true where nothing is assumed: its clause is derived, unless it was before.
+// The goal is true where nothing is assumed: a step says it alone, or its clause is derived.
 fn prove(state: &mut State, goal: Option<Lit>, lit: Lit) -> Result<Found, NoMemory>
     requires within { IsGoalWithin (vars_of state.old) goal }
     requires holds { IsGoalTrue state.old.trail goal lit }
@@ -87,7 +87,7 @@ fn prove(state: &mut State, goal: Option<Lit>, lit: Lit) -> Result<Found, NoMemo
     ensures units { counted_steps state.new.steps ≡ counted_steps state.old.steps }
     ensures found { (left : ℕ) → IfOk result (IsAnswer state.new goal left) }
 {
-    if let Some(place) = derived_before(state, lit) {
+    if let Some(place) = unit_of(state, lit) {
         return Ok(Found::Proved(place));
     }
     match state.derive(lit) {
@@ -96,29 +96,25 @@ fn prove(state: &mut State, goal: Option<Lit>, lit: Lit) -> Result<Found, NoMemo
     }
 }
 
-// The step by which a literal alone was derived, where that is the reason of its variable.
-fn derived_before(state: &State, lit: Lit) -> Option<u32>
+// The step whose clause is a literal alone, an axiom or one that was derived, where it is the reason of its variable.
+fn unit_of(state: &State, lit: Lit) -> Option<u32>
     requires { var_of lit < vars_of state.now }
     ensures { IfSome result (λ place. IsStepOf state.now.steps place (lit ∷ [])) }
 {
     state.is_state();
     let place = state.trail().reason(lit.var())?.0;
-    if is_derived(state.log(), place) && is_alone(state.log(), place, lit) {
+    if is_step(state.log(), place) && is_alone(state.log(), place, lit) {
         Some(place)
     } else {
         None
     }
 }
 
-// Is a step a clause that was derived? An axiom is none.
-fn is_derived(log: &Log, place: u32) -> bool
+// Is there a step at this place?
+fn is_step(log: &Log, place: u32) -> bool
     ensures { result ≡ true → place < length log.now.steps }
 {
-    let place = place as usize;
-    if place >= log.steps.len() {
-        return false;
-    }
-    matches!(log.steps.get(place), StepRef::Learn { .. })
+    (place as usize) < log.steps.len()
 }
 
 // Is the clause of a step this literal alone?

@@ -101,7 +101,6 @@ ranking R.a of x: r2 < r1 < r3;
 log;
 statement before 1 1 1 3;
 axiom given 1 1 1 3: 1;
-derive 1 by 1;
 end;
 end;
 :: Of whether there is a consistent completion nothing else is told.

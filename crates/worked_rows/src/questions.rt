@@ -134,7 +134,7 @@ current T x (2);
 ...
 >> verify s q p => 0 accepted same
 
-== a pair that is asked twice is derived once
+== a pair that a rule gives is its axiom, asked once or twice
 -- s
 relation R from "r.csv" row id entity eid (a: int);
 rule up on R (s, t): if s.a < t.a then s before t in a;
@@ -151,7 +151,32 @@ ranking R.a of e: r1 < r2;
 log;
 statement before 1 1 1 2;
 axiom rule 1 1 2: 1;
-derive 1 by 1;
+end;
+>> verify s q p => 0 accepted certain
+
+== a pair that is asked twice is derived once
+-- s
+relation R from "r.csv" row id entity eid (a: int);
+order R.a: r1 < r2, r2 < r3;
+-- r.csv
+id,eid,a
+r1,e,1
+r2,e,2
+r3,e,3
+-- q: certain R.a: r1 < r3, r1 < r3;
+>> ask s q
+0 currency report 2;
+verdict certain;
+completion;
+ranking R.a of e: r1 < r2 < r3;
+log;
+statement before 1 1 1 2;
+statement before 1 1 1 3;
+statement before 1 1 2 3;
+axiom given 1 1 1 2: 1;
+axiom given 1 1 2 3: 3;
+axiom transitive 1 1 1 2 3: -1 -3 2;
+derive 2 by 1 2 3;
 end;
 >> verify s q p => 0 accepted certain
 

@@ -1,8 +1,8 @@
 //! Sessions: what is told of edits and questions one after another, and which reports are kept.
 
 use crate::documents::expect_played;
+use crate::runs::{asked, with};
 use std::test::Fail;
-use worked_documents::{asked, with};
 
 const ROWS: &str = r#"
 == a pair that is added, and its opposite, which is withdrawn again
@@ -38,7 +38,6 @@ ranking R.a of x: r3 < r1 < r2;
 log;
 statement before 1 1 1 2;
 axiom given 1 1 1 2: 1;
-derive 1 by 1;
 end;
 edit 4 accepted;
 reply 5;
@@ -60,7 +59,6 @@ ranking R.a of x: r3 < r1 < r2;
 log;
 statement before 1 1 1 2;
 axiom given 1 1 1 2: 1;
-derive 1 by 1;
 end;
 end;
 >> session s script --brief

@@ -34,7 +34,7 @@ fn runs_grow_by_the_sequence(rt: HostRuntime) -> Result<(), Fail> {
 fn the_second_guide_leads_longer(rt: HostRuntime) -> Result<(), Fail> {
     let mut restarts = Restarts::new();
     assert!(rt; runs_of_turn(&mut restarts, 0, 100) == 1);
-    assert!(rt; runs_of_turn(&mut restarts, 1, 100) == 16);
+    assert!(rt; runs_of_turn(&mut restarts, 1, 100) == 45);
     assert!(rt; runs_of_turn(&mut restarts, 2, 100) == 1);
     Ok(())
 }
