@@ -2,7 +2,7 @@
 use Rattle.std.proofs.Common.{◌≡◌, ◌∙◌, ◌<◌, ℕ, List, All, Contains, Some, ap, subst, sym, length, get_or, option_map, slice_get, arith}
 use Rattle.std.proofs.lemmas.List.Elements.{All-contains_itself, All-get_or}
 use Rattle.std.proofs.lemmas.Option.{get_or_from_slice_get, slice_get-get_or, slice_get-map, slice_get_within}
-use Rattle.core_explain.specs.Explained.{ExplainsInconsistency}
+use Rattle.part_conflicts.specs.Conflicts.{ExplainsInconsistency}
 use Rattle.entity_ties.specs.Labels.{Labelling}
 use Rattle.minimal_items.specs.Explanations.{AreInOrder, needed_items}
 use Rattle.minimal_items.specs.declared.needed.Needed.{Needed}

@@ -1,7 +1,6 @@
 -- What the kind of a verdict tells of the report that answers a question.
 use Rattle.std.proofs.Common.{◌≡◌, ◌≢◌, ℕ, true, List, refl, ap, subst}
-use Rattle.currency_ask.specs.Answered.{IsAnswerWithin}
-use Rattle.fact_trials.specs.Trials.{IsSpent}
+use Rattle.minimal_items.specs.Trials.{IsAnswerWithin, IsSpent}
 use Rattle.refutation_log.specs.declared.log.Log.{Log}
 use Rattle.report_model.specs.Verdicts.{is_decided, kind_of}
 use Rattle.report_model.specs.declared.report.Report.{Report}

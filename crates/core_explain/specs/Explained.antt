@@ -1,7 +1,6 @@
 -- What an explanation is asked of, and what it may be.
 use Rattle.std.specs.Prelude.{◌≡◌, ◌≢◌, ◌⊎◌, ℕ, List, None, Some, slice_get}
-use Rattle.currency_ask.specs.Answered.{HasTooMany}
-use Rattle.fact_trials.specs.Trials.{IsSpent}
+pub use Rattle.minimal_items.specs.Trials.{HasTooMany, IsSpent}
 use Rattle.minimal_items.specs.Explanations.{IsExplanation}
 use Rattle.minimal_items.specs.Reduced.{IsSpentOn}
 use Rattle.minimal_items.specs.declared.reducing.Spent.{Spent}

@@ -1,6 +1,6 @@
 -- What is known on the way to an explanation.
 use Rattle.std.specs.Prelude.{◌≡◌, ◌≢◌, ℕ, true}
-use Rattle.currency_ask.specs.Answered.{IsAnswerWithin}
+use Rattle.minimal_items.specs.Trials.{IsAnswerWithin}
 use Rattle.report_model.specs.Verdicts.{is_decided, kind_of}
 use Rattle.report_model.specs.declared.report.Report.{Report}
 use Rattle.report_model.specs.declared.verdict.Verdict.TheVariants.{Inconsistent}

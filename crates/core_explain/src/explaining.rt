@@ -6,9 +6,8 @@ ghost use Rattle.unit_questions.specs.Facts.{IsFactQuestion};
 ghost use Rattle.core_explain.specs.Explained.{IsExplained};
 ghost use Rattle.core_explain.specs.Steps.{IsAnswer, IsDecidedAnswer, IsForUnit};
 
-use currency_ask::{AskFault, answer};
 use currency_base::NoMemory;
-use minimal_items::{NeededList, Spent};
+use minimal_items::{AskFault, NeededList, Spent, answer};
 use near_items::{Sought, seek};
 use refutation_log::Log;
 use report_model::{Report, VerdictKind};

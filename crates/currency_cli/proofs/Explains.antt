@@ -5,10 +5,9 @@ use Rattle.command_stages.specs.Outcomes.{status_of}
 use Rattle.command_stages.specs.Stages.{Then, IsSpecRead, IsQuestionRead}
 use Rattle.command_stages.specs.declared.done.Done.{Done}
 use Rattle.command_stages.specs.declared.trouble.Trouble.{Trouble}
-use Rattle.core_explain.specs.Explained.{IsExplained}
-use Rattle.core_explain.specs.declared.explaining.Explained.{Explained}
-use Rattle.core_explain.specs.declared.explaining.Explained.TheVariants as explained
 use Rattle.explain_command.specs.Explained.{IsExplanationOf, IsExplainDue}
+use Rattle.explain_command.specs.Found.{Explained, IsExplained}
+use Rattle.explain_command.specs.Found.{Inconsistent, Unit, NoUnit, TooMany, Undecided, Open}
 use Rattle.explain_command.specs.Text.{explained_done}
 use Rattle.program_words.specs.Words.{ExplainSaid}
 use Rattle.spec_model.specs.Spec.{Spec}
@@ -46,12 +45,12 @@ explanation_due one_spec one_question told e s q got spec question h =
 
 comes_at : (s : Spec) (q : Question) (unit budget n status : ℕ) (x : Explained) → IsExplained s q unit budget x
     → status ≡ status_of (explained_done s n x) → ComesToAnswer s q status
-comes_at s q unit budget n status (explained.Inconsistent needed) is same = inl same
-comes_at s q unit budget n status (explained.Unit needed) is same = inl same
-comes_at s q unit budget n status (explained.NoUnit report) is same = inl same
-comes_at s q unit budget n status (explained.TooMany c) is same = inr (inr (inl (same, c, is)))
-comes_at s q unit budget n status (explained.Undecided report) is same = inr (inl same)
-comes_at s q unit budget n status (explained.Open spent) is same = inr (inl same)
+comes_at s q unit budget n status (Inconsistent needed) is same = inl same
+comes_at s q unit budget n status (Unit needed) is same = inl same
+comes_at s q unit budget n status (NoUnit report) is same = inl same
+comes_at s q unit budget n status (TooMany c) is same = inr (inr (inl (same, c, is)))
+comes_at s q unit budget n status (Undecided report) is same = inr (inl same)
+comes_at s q unit budget n status (Open spent) is same = inr (inl same)
 
 pub explanation_comes : (s : Spec) (e : ExplainSaid) (q : Question) (got : Result Done Trouble) (status : ℕ)
     → IsExplanationOf s e q got → status ≡ status_of got → ComesToAnswer s q status

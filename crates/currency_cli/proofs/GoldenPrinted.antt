@@ -8,16 +8,15 @@ use Rattle.command_stages.specs.declared.done.Ending.TheVariants as ending
 use Rattle.golden_command.specs.Asked.{column_in}
 use Rattle.golden_command.specs.Golden.{IsGoldenPrinted}
 use Rattle.golden_command.specs.Text.{golden_done}
-use Rattle.golden_values.specs.declared.field.Golden.{Golden}
-use Rattle.golden_values.specs.declared.field.Golden.TheVariants as golden
+use Rattle.golden_command.specs.Found.{Golden, Records, Inconsistent, Undecided}
 use Rattle.program_words.specs.Words.{GoldenSaid}
 use Rattle.spec_model.specs.Spec.{Spec}
 use Rattle.spec_model.specs.declared.relation.Relation.{Relation}
 
 ends_as_table : (s : Spec) (column : List ℕ) (r : Relation) (found : Golden) → IsOfTable (golden_done s column r found).ending
-ends_as_table s column r (golden.Records table) = tt
-ends_as_table s column r golden.Inconsistent = tt
-ends_as_table s column r (golden.Undecided p report) = tt
+ends_as_table s column r (Records table) = tt
+ends_as_table s column r Inconsistent = tt
+ends_as_table s column r (Undecided p report) = tt
 
 pub of_table : (told : List (List ℕ × List ℕ)) (g : GoldenSaid) (text : List ℕ) (e : Ending) → IsGoldenPrinted told g text e
     → IsOfTable e

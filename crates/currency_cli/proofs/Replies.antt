@@ -19,7 +19,7 @@ use Rattle.possible_command.proofs.Replies.{ComesToPossible, possible_comes, pos
 use Rattle.possible_command.specs.Possible.{IsPossibleDue}
 use Rattle.possible_table.proofs.Replies.{possible_table_comes}
 use Rattle.possible_table.specs.Table.{ComesToPossibleTable, IsPossibleTableDue, IsPossibleTableOf}
-use Rattle.possible_values.specs.Candidates.{HasTooManyCandidates}
+use Rattle.possible_table.specs.Table.{HasTooManyCandidates}
 use Rattle.query_model.specs.declared.query.Query.{Query}
 use Rattle.currency_cli.proofs.Exact.{own_status}
 use Rattle.currency_cli.specs.Due.{IsDue, IsDueFor}

@@ -14,7 +14,7 @@ use Rattle.currency_edge.specs.Fault.{Rose}
 use Rattle.currency_report.specs.declared.report.ReadReport.{ReadReport}
 use Rattle.golden_command.specs.Asked.{relation_named}
 use Rattle.possible_table.specs.Table.{ComesToPossibleTable}
-use Rattle.possible_values.specs.Candidates.{HasTooManyCandidates}
+use Rattle.possible_table.specs.Table.{HasTooManyCandidates}
 use Rattle.program_words.specs.Words.{AskFor, CertainTableFor, CommandSaid, ConflictsIn, ExplainFor, ForcedOf, GoldenIn}
 use Rattle.program_words.specs.Words.{PossibleFor, PossibleTableFor, SessionOver, TrialOf, VerifyOf}
 use Rattle.program_words.specs.Words.{AskSaid, ConflictsSaid, ExplainSaid, GoldenSaid, PossibleSaid, SessionSaid, TableSaid, VerifySaid}

@@ -1,6 +1,6 @@
 -- What is found of facts: in which listed completion each fails, or that it holds in every consistent one.
 use Rattle.std.specs.Prelude.{◌≡◌, ◌<◌, ℕ, List, All, Some, length, slice_get}
-use Rattle.fact_trials.specs.Trials.{IsSpent}
+pub use Rattle.fact_trials.specs.Trials.{HasTooMany, IsAnswerWithin, IsSpent, TooMany}
 use Rattle.posed_facts.specs.Facts.{FactIn}
 use Rattle.posed_facts.specs.Questions.{fact_question}
 use Rattle.posed_facts.specs.declared.fact.Fact.{Fact}

@@ -17,4 +17,5 @@ mod task;
 mod trying;
 
 pub use deciding::decide_facts;
+pub use fact_trials::{AskFault, answer};
 pub use shown::{FactOutcome, Shown, ShownList};

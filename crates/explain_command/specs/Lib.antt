@@ -1,3 +1,4 @@
 pub mod Text
 pub mod Explained
+pub mod Found
 pub mod Writable

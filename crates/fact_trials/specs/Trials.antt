@@ -1,6 +1,7 @@
 -- What is told of the fact that a question asks for.
 use Rattle.std.specs.Prelude.{◌≡◌, ℕ}
-use Rattle.currency_ask.specs.Answered.{IsAnswerWithin}
+pub use Rattle.currency_ask.specs.Answered.{HasTooMany, IsAnswerWithin}
+pub use Rattle.currency_ask.specs.declared.fault.AskFault.TheVariants.{TooMany}
 use Rattle.report_model.specs.declared.report.Report.{Report}
 use Rattle.report_model.specs.declared.verdict.Verdict.TheVariants as verdict
 use Rattle.report_write.specs.Writable.{IsWritableReport}

@@ -4,5 +4,6 @@
 mod failing;
 mod trial;
 
+pub use currency_ask::{AskFault, answer};
 pub use failing::has_answer;
 pub use trial::{Trial, try_fact};

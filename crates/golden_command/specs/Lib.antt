@@ -1,4 +1,5 @@
 pub mod Asked
 pub mod Golden
+pub mod Found
 pub mod Text
 pub mod Writable

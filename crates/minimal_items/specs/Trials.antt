@@ -1,7 +1,8 @@
 -- Trials of a fact with some items, and what is known so far of those that are marked.
 use Rattle.std.specs.Prelude.{◌≡◌, ℕ, Bool, List, Option, None, Some, length, take, All}
 use Rattle.std.specs.List.Sorted.{IsStrictlySortedBy}
-use Rattle.fact_trials.specs.Trials.{IsSpent, IsWithout}
+pub use Rattle.fact_trials.specs.Trials.{HasTooMany, IsAnswerWithin, IsSpent}
+use Rattle.fact_trials.specs.Trials.{IsWithout}
 use Rattle.kept_items.specs.Alike.{AreAlike}
 use Rattle.partial_orders.specs.Pairs.{pair_cmp}
 use Rattle.report_model.specs.declared.report.Report.{Report}

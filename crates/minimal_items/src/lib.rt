@@ -7,5 +7,6 @@ mod needed;
 mod reducing;
 mod trying;
 
+pub use fact_trials::{AskFault, Trial, answer, has_answer, try_fact};
 pub use needed::{Needed, NeededList};
 pub use reducing::{Reduced, Spent, reduce};

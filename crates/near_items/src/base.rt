@@ -11,10 +11,9 @@ ghost use Rattle.spec_model.specs.Consistent.{IsConsistent};
 
 use crate::laws::is_specification;
 use currency_base::NoMemory;
-use fact_trials::{Trial, try_fact};
 use item_limits::fewer_are_within;
 use kept_items::{alike_are_one, with_marked};
-use minimal_items::{Needed, NeededList};
+use minimal_items::{Needed, NeededList, Trial, try_fact};
 use solver_guides::Guides;
 use spec_items::{Item, items};
 use spec_model::{Completion, Question, Specification};

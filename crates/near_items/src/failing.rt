@@ -10,7 +10,7 @@ ghost use Rattle.near_items.specs.Sites.{IsSite, SeesFail};
 
 use crate::site::Site;
 use currency_base::NoMemory;
-use fact_trials::has_answer;
+use minimal_items::has_answer;
 use part_join::{completions_fit, joined};
 use query_model::Query;
 use spec_model::{Completion, Question, Specification};

@@ -7,9 +7,8 @@ ghost use Rattle.near_items.specs.Sites.{IsSite};
 
 use crate::named::named;
 use crate::site::Site;
-use currency_ask::{AskFault, answer};
 use currency_base::NoMemory;
-use minimal_items::{NeededList, Reduced, reduce};
+use minimal_items::{AskFault, NeededList, Reduced, answer, reduce};
 use refutation_log::Log;
 use solver_guides::Guides;
 use spec_items::items;

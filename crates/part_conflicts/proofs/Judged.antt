@@ -4,7 +4,7 @@ use Rattle.std.proofs.lemmas.Option.{none-some}
 use Rattle.core_explain.specs.Explained.{ExplainsUnit, HasNoUnit, IsExplained, IsSpentTrying, IsTried, IsUnit}
 use Rattle.core_explain.specs.declared.explaining.Explained.{Explained}
 use Rattle.core_explain.specs.declared.explaining.Explained.TheVariants as explained
-use Rattle.currency_ask.specs.Answered.{HasTooMany}
+use Rattle.core_explain.specs.Explained.{HasTooMany}
 use Rattle.minimal_items.specs.Reduced.{IsSpentOn}
 use Rattle.minimal_items.specs.declared.needed.Needed.{Needed}
 use Rattle.minimal_items.specs.declared.reducing.Spent.{Spent}

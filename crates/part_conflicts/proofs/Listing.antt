@@ -6,7 +6,7 @@ use Rattle.std.proofs.lemmas.List.Elements.{All-head, All-nil, All-push, All-tai
 use Rattle.std.proofs.lemmas.Option.{none-some, same_Some, slice_get_within}
 use Rattle.entity_ties.specs.Labels.{Labelling, scope_of}
 use Rattle.core_explain.specs.Explained.{ExplainsInconsistency}
-use Rattle.fact_trials.specs.Trials.{IsSpent}
+use Rattle.core_explain.specs.Explained.{IsSpent}
 use Rattle.minimal_items.specs.Reduced.{IsSpentOn}
 use Rattle.minimal_items.specs.declared.needed.Needed.{Needed}
 use Rattle.part_laws.specs.Parts.{ArePlacesOf, IsClosed, Places}

@@ -1,8 +1,8 @@
 -- The smallest parts of a specification that are inconsistent, each with what explains that it is.
 use Rattle.std.specs.Prelude.{◌≡◌, ◌⊎◌, ◌<◌, ℕ, List, [], ◌∷◌, All, Contains, Some, length, slice_get}
-use Rattle.core_explain.specs.Explained.{ExplainsInconsistency}
+pub use Rattle.core_explain.specs.Explained.{ExplainsInconsistency}
 use Rattle.entity_ties.specs.Labels.{AreTies, Labelling, scope_of}
-use Rattle.fact_trials.specs.Trials.{IsSpent}
+use Rattle.core_explain.specs.Explained.{IsSpent}
 use Rattle.minimal_items.specs.Reduced.{IsSpentOn}
 use Rattle.minimal_items.specs.declared.reducing.Spent.{Spent}
 use Rattle.part_laws.specs.Parts.{IsPartOf, Places}

@@ -2,7 +2,7 @@
 use Rattle.std.specs.Prelude.{◌≡◌, ◌⊎◌, ◌++◌, ◌∷◌, ℕ, List, [], Option, None, Some}
 use Rattle.core_explain.specs.Explained.{ExplainsInconsistency}
 use Rattle.entity_ties.specs.Labels.{Labelling}
-use Rattle.fact_trials.specs.Trials.{IsSpent}
+use Rattle.core_explain.specs.Explained.{IsSpent}
 use Rattle.minimal_items.specs.Reduced.{IsSpentOn}
 use Rattle.minimal_items.specs.declared.needed.Needed.{Needed}
 use Rattle.spec_model.specs.Consistent.{IsSatisfiable}

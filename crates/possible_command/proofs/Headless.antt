@@ -2,7 +2,7 @@
 use Rattle.std.proofs.Common.{◌≡◌, ◌∙◌, ◌<◌, ℕ, List, [], ◌∷◌, All, Some, get_or, length, slice_get, refl, ap, subst, arith}
 use Rattle.std.proofs.lemmas.List.Elements.{All-contains, All-get_or}
 use Rattle.std.proofs.lemmas.Option.{same_Some, slice_get-get_or, none-some}
-use Rattle.currency_ask.specs.Answered.{HasTooMany}
+use Rattle.decided_facts.specs.Decided.{HasTooMany}
 use Rattle.currency_base.specs.declared.value.Value.{Value}
 use Rattle.query_model.specs.Answers.{HasMore, IsAnswer, IsHead}
 use Rattle.query_model.specs.declared.query.Disjunct.{Disjunct}

@@ -10,7 +10,7 @@ use Rattle.command_stages.specs.Stages.{IsSpecRead, IsQuestionRead}
 use Rattle.command_stages.specs.declared.done.Done.{Done}
 use Rattle.command_stages.specs.declared.trouble.Trouble.{Trouble}
 use Rattle.currency_base.specs.declared.memory.NoMemory.{NoMemory}
-use Rattle.fact_trials.specs.Trials.{IsSpent}
+use Rattle.decided_facts.specs.Decided.{IsSpent}
 use Rattle.match_premises.specs.declared.premise.Premise.{Premise}
 use Rattle.posed_facts.specs.Facts.{IsPlaced}
 use Rattle.posed_facts.specs.Questions.{fact_question}

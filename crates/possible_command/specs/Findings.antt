@@ -1,6 +1,6 @@
 -- What can be told of what is found, and how it is told, finding by finding.
 use Rattle.std.specs.Prelude.{◌≡◌, ◌++◌, ℕ, List, All, Some, length, slice_get}
-use Rattle.fact_trials.specs.Trials.{IsSpent}
+use Rattle.decided_facts.specs.Decided.{IsSpent}
 use Rattle.posed_facts.specs.Facts.{IsPlaced, IsPosable}
 use Rattle.posed_facts.specs.Questions.{fact_question}
 use Rattle.posed_facts.specs.declared.fact.Fact.{Fact}

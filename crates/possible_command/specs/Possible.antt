@@ -6,7 +6,7 @@ use Rattle.command_stages.specs.declared.done.Done.{Done}
 use Rattle.command_stages.specs.declared.done.Ending.{Ending}
 use Rattle.command_stages.specs.declared.trouble.Trouble.{Trouble}
 use Rattle.command_stages.specs.declared.trouble.Trouble.TheVariants as trouble
-use Rattle.fact_trials.specs.Trials.{IsSpent}
+use Rattle.decided_facts.specs.Decided.{IsSpent}
 use Rattle.posed_facts.specs.Questions.{fact_question}
 use Rattle.posed_facts.specs.declared.fact.Fact.{Fact}
 use Rattle.possible_values.specs.Possible.{IsPossible}

@@ -2,7 +2,7 @@
 
 ghost use Rattle.std.specs.Prelude.{◌≡◌, ◌<◌, ◌++◌, false, IfErr, IfNone, IfOk, IfSome, Ok, OnOk, length};
 ghost use Rattle.bound_spec.specs.Growth.{IsWithinLimits};
-ghost use Rattle.fact_trials.specs.Trials.{IsSpent};
+ghost use Rattle.decided_facts.specs.Decided.{IsSpent};
 ghost use Rattle.posed_facts.specs.Facts.{IsPosable};
 ghost use Rattle.posed_facts.specs.Questions.{fact_question};
 ghost use Rattle.report_write.specs.Writable.{IsWritableReport};

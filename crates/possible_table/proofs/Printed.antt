@@ -7,9 +7,9 @@ use Rattle.command_stages.specs.declared.done.Done.{Done}
 use Rattle.command_stages.specs.declared.done.Ending.TheVariants as ending
 use Rattle.command_stages.specs.declared.trouble.Trouble.{Trouble}
 use Rattle.command_stages.specs.declared.trouble.Trouble.TheVariants as trouble
-use Rattle.currency_ask.specs.Answered.{HasTooMany}
+use Rattle.possible_values.specs.Possible.{HasTooMany}
 use Rattle.currency_base.specs.declared.value.Value.{Value}
-use Rattle.fact_trials.specs.Trials.{IsSpent}
+use Rattle.possible_values.specs.Possible.{IsSpent}
 use Rattle.possible_answers.specs.Answers.{ArePossibleAnswers}
 use Rattle.possible_values.specs.Possible.{AreFindings, HasFewCandidates, IsPosed, IsShownInconsistent, posed_question}
 use Rattle.possible_values.specs.declared.found.Found.{Found}

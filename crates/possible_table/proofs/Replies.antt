@@ -10,7 +10,7 @@ use Rattle.command_stages.specs.declared.done.Ending.{Ending}
 use Rattle.command_stages.specs.declared.done.Ending.TheVariants as ending
 use Rattle.command_stages.specs.declared.trouble.Trouble.{Trouble}
 use Rattle.command_stages.specs.declared.trouble.Trouble.TheVariants as trouble
-use Rattle.currency_ask.specs.Answered.{HasTooMany}
+use Rattle.possible_values.specs.Possible.{HasTooMany}
 use Rattle.possible_values.proofs.Few.{few_or_many}
 use Rattle.possible_values.specs.Candidates.{HasTooManyCandidates}
 use Rattle.possible_values.specs.Possible.{HasFewCandidates}

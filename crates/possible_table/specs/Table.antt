@@ -6,11 +6,11 @@ use Rattle.command_stages.specs.declared.done.Ending.{Ending}
 use Rattle.command_stages.specs.declared.done.Ending.TheVariants as ending
 use Rattle.command_stages.specs.declared.trouble.Trouble.{Trouble}
 use Rattle.command_stages.specs.declared.trouble.Trouble.TheVariants as trouble
-use Rattle.currency_ask.specs.Answered.{HasTooMany}
+use Rattle.possible_values.specs.Possible.{HasTooMany}
 use Rattle.currency_base.specs.declared.value.Value.{Value}
-use Rattle.fact_trials.specs.Trials.{IsSpent}
+use Rattle.possible_values.specs.Possible.{IsSpent}
 use Rattle.possible_answers.specs.Answers.{ArePossibleAnswers}
-use Rattle.possible_values.specs.Candidates.{HasTooManyCandidates}
+pub use Rattle.possible_values.specs.Candidates.{HasTooManyCandidates}
 use Rattle.possible_values.specs.Possible.{HasFewCandidates, IsPosed, posed_question}
 use Rattle.possible_values.specs.declared.found.Posed.{Posed}
 use Rattle.program_words.specs.Words.{TableSaid}

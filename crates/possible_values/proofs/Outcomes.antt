@@ -1,7 +1,7 @@
 -- What is decided of the facts that candidates do not hold.
 use Rattle.std.proofs.Common.{◌≡◌, ◌∙◌, ◌<◌, ℕ, All, List, get_or, length, sym, subst}
 use Rattle.std.proofs.lemmas.Option.{get_or_from_slice_get, slice_get_within}
-use Rattle.fact_trials.specs.Trials.{IsSpent}
+use Rattle.decided_facts.specs.Decided.{IsSpent}
 use Rattle.posed_facts.specs.Facts.{IsPosable}
 use Rattle.posed_facts.specs.Questions.{fact_question}
 use Rattle.posed_facts.specs.declared.fact.Fact.{Fact}

@@ -1,7 +1,7 @@
 -- What reports make known.
 use Rattle.std.proofs.Common.{◌≡◌, ◌∙◌, ◌⊎◌, inl, inr, ℕ, None, sym}
 use Rattle.std.proofs.lemmas.Option.{none-some}
-use Rattle.currency_ask.specs.Answered.{HasTooMany}
+use Rattle.decided_facts.specs.Decided.{HasTooMany}
 use Rattle.report_verify.specs.Asked.{query_of}
 use Rattle.spec_model.specs.Completion.{Rankings}
 use Rattle.spec_model.specs.Spec.{Spec}

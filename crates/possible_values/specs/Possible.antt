@@ -1,6 +1,6 @@
 -- What is found of the candidates of a question.
 use Rattle.std.specs.Prelude.{◌≡◌, ◌⊎◌, ◌<◌, ℕ, List, All, Some, length, slice_get}
-use Rattle.fact_trials.specs.Trials.{IsSpent}
+pub use Rattle.decided_facts.specs.Decided.{HasTooMany, IsSpent}
 use Rattle.posed_facts.specs.Facts.{IsPosable}
 use Rattle.posed_facts.specs.Questions.{fact_question}
 use Rattle.posed_facts.specs.declared.fact.Fact.{Fact}

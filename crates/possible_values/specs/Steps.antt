@@ -1,7 +1,6 @@
 -- What is known on the way to what is found.
 use Rattle.std.specs.Prelude.{◌≡◌, ◌<◌, ◌≤◌, ℕ, true, List, All, Some, length, slice_get}
-use Rattle.currency_ask.specs.Answered.{IsAnswerWithin}
-use Rattle.fact_trials.specs.Trials.{IsSpent}
+use Rattle.decided_facts.specs.Decided.{IsAnswerWithin, IsSpent}
 use Rattle.match_candidates.specs.Matches.{IsMatch}
 use Rattle.posed_facts.specs.Facts.{IsPlaced, IsPosable}
 use Rattle.posed_facts.specs.declared.fact.Fact.{Fact}

@@ -1,7 +1,7 @@
 //! Consistent completions that are known at first.
 
 ghost use Rattle.std.specs.Prelude.{◌≡◌, ℕ, IfOk};
-ghost use Rattle.currency_ask.specs.declared.fault.AskFault.TheVariants.{TooMany};
+ghost use Rattle.decided_facts.specs.Decided.{TooMany};
 ghost use Rattle.possible_values.specs.Steps.{IsAnswerReport, IsKnown};
 ghost use Rattle.search_logs.specs.SearchLogs.{IsWithin};
 ghost use Rattle.spec_model.specs.Completion.{Rankings};
@@ -10,8 +10,8 @@ ghost use Rattle.spec_model.specs.Spec.{Spec};
 ghost use Rattle.spec_model.specs.declared.question.Question.{Question as Questions};
 ghost use Rattle.spec_model.specs.declared.question.Question.TheVariants as asked;
 
-use currency_ask::{AskFault, answer};
 use currency_base::NoMemory;
+use decided_facts::{AskFault, answer};
 use report_model::{CompletionList, Report, Verdict};
 use solver_guides::Guides;
 use spec_model::{Question, Specification};

@@ -1,7 +1,7 @@
 //! Budgets that are spent, and a text of which only some lines are due.
 
+use crate::runs::{Documents, EIGHT, TRIANGLE, asked};
 use std::test::Fail;
-use worked_documents::{Documents, EIGHT, TRIANGLE, asked};
 
 // How often a piece stands in a text.
 fn count(text: &[u8], piece: &[u8]) -> u32 {

@@ -1,8 +1,8 @@
 //! Documents by their bytes: marks and line ends, and bytes that are no text.
 
 use crate::documents::expect;
+use crate::runs::{ACCEPTED, Documents, with};
 use std::test::Fail;
-use worked_documents::{ACCEPTED, Documents, with};
 
 // What stands in the place of a document, and the text that is written: `s`, `r.csv` or `q`.
 const REFUSED: [(usize, &[u8], &str); 9] = [

@@ -1,6 +1,6 @@
+use crate::runs::{Documents, played, verified};
 use std::process::Abort;
 use std::test::Fail;
-use worked_documents::{Documents, played, verified};
 
 /// The documents end with this status and text.
 pub fn expect(

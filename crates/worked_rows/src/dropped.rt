@@ -1,4 +1,5 @@
 use crate::guide_kinds::put;
+use crate::runs::{FREE, guided};
 use crate::wrong_guides::{Seen, Watched};
 use currency_base::NoMemory;
 use solver_guides::{FirstFree, Guide, Guides};
@@ -6,7 +7,6 @@ use std::alloc::Global;
 use std::process::Abort;
 use std::rc::Rc;
 use std::test::Fail;
-use worked_documents::{FREE, guided};
 
 // How often a guide was called and dropped.
 #[derive(Clone, Copy, Debug, PartialEq, Eq)]

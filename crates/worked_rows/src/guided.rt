@@ -1,8 +1,8 @@
 use crate::guide_kinds::{four, one_steady};
+use crate::runs::{Case, EACH, FREE, guided};
 use solver_guides::Guides;
 use std::process::Abort;
 use std::test::Fail;
-use worked_documents::{Case, EACH, FREE, guided};
 
 // With these guides a case has its verdict.
 fn expect_verdict(

@@ -1,6 +1,6 @@
+use crate::runs::{Documents, P, Q, R, S, verified, with};
 use std::process::Abort;
 use std::test::Fail;
-use worked_documents::{Documents, P, Q, R, S, verified, with};
 
 // A specification with a rule of every form of predicate and operand.
 const RULED: &str = "relation R from \"r.csv\" row id entity eid (a: int);

@@ -1,12 +1,12 @@
 //! What a system's files and writers do to a run: files of any length, writers that take some bytes and then fail.
 
+use crate::runs::{ACCEPTED, first, run_with_no_guide, shelf_of, words_of};
 use currency_base::NoMemory;
 use currency_edge::{FileShelf, Shelf, ShelfFault, Sink, SinkFault, StdSink, SteadySink};
 use std::alloc::Global;
 use std::io::{ErrorKind, Write};
 use std::test::Fail;
 use std::{env, fs, io, process};
-use worked_documents::{ACCEPTED, first, run_with_no_guide, shelf_of, words_of};
 
 /// A writer that takes some bytes at a time, and after so many writes none, or an error.
 #[derive(Drop)]

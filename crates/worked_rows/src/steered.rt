@@ -1,4 +1,5 @@
 use crate::guide_kinds::{put, put_four};
+use crate::runs::{Documents, guided, verified};
 use crate::steered_rows::{ROWS, Row};
 use crate::wrong_guides::{Always, Random, Seen, Watched};
 use currency_base::{Lit, NoMemory};
@@ -8,7 +9,6 @@ use std::alloc::Global;
 use std::process::Abort;
 use std::rc::Rc;
 use std::test::Fail;
-use worked_documents::{Documents, guided, verified};
 
 // Which guides stand in a ring.
 #[derive(Clone, Copy, Debug, PartialEq, Eq)]

@@ -1,6 +1,6 @@
 //! Specifications and questions whose verdict does not hang on who steers the search.
 
-use worked_documents::{Case, EIGHT, HISTORY};
+use crate::runs::{Case, EIGHT, HISTORY};
 
 /// A specification, a question, a budget, and what they end with.
 #[derive(Clone, Copy)]

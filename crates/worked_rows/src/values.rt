@@ -1,9 +1,9 @@
 //! Values as rules compare them.
 
 use crate::documents::expect;
+use crate::runs::{ACCEPTED, Documents, first};
 use std::process::Abort;
 use std::test::Fail;
-use worked_documents::{ACCEPTED, Documents, first};
 
 const IN_ORDER: &str =
     "currency report 1;\nverdict consistent;\ncompletion;\nranking R.a of x: r1 < r2;\nend;\n";

@@ -1,7 +1,7 @@
 //! Transcripts of which a run ends otherwise, and such as differ from them in little.
 
+use crate::runs::played;
 use std::test::Fail;
-use worked_documents::played;
 
 // Each is followed by one that tells the same run rightly.
 const OTHERWISE: [(&str, &str); 9] = [

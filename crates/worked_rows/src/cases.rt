@@ -1,6 +1,6 @@
 //! Specifications with their tables, and what is due for the question whether they are consistent.
 
-use crate::{Documents, first};
+use crate::runs::{Documents, first};
 
 /// A specification, its tables, and the verdict.
 #[derive(Clone, Copy)]

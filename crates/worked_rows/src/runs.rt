@@ -1,17 +1,12 @@
 //! Documents in memory, specifications with their verdicts, and runs of the program over them: what rows over documents share.
-#![tactic(auto)]
 
-mod cases;
-mod spelling;
-mod transcript;
-
-pub use cases::{Case, EACH, EIGHT, FREE, HISTORY, TRIANGLE};
+pub use crate::cases::{Case, EACH, EIGHT, FREE, HISTORY, TRIANGLE};
+pub use crate::transcript::played;
 use currency_base::NoMemory;
 use currency_cli::run;
 use currency_edge::{MemoryShelf, MemorySink, Shelf, Sink};
 use solver_guides::Guides;
 use std::alloc::Global;
-pub use transcript::played;
 
 /// A specification of one relation.
 pub const S: &str = "relation R from \"r.csv\" row id entity eid (a: int);\n";

@@ -15,6 +15,8 @@ mod budgets;
 #[cfg(test)]
 mod bytes;
 #[cfg(test)]
+mod cases;
+#[cfg(test)]
 mod claims;
 #[cfg(test)]
 mod conflicts;
@@ -69,13 +71,19 @@ mod rings;
 #[cfg(test)]
 mod rules;
 #[cfg(test)]
+mod runs;
+#[cfg(test)]
 mod sessions;
+#[cfg(test)]
+mod spelling;
 #[cfg(test)]
 mod steered;
 #[cfg(test)]
 mod steered_rows;
 #[cfg(test)]
 mod tables;
+#[cfg(test)]
+mod transcript;
 #[cfg(test)]
 mod trials;
 #[cfg(test)]
@@ -90,3 +98,6 @@ mod verify;
 mod wrong_ends;
 #[cfg(test)]
 mod wrong_guides;
+
+// The crate is a program, since the gate takes longer for a library the more ways lead down from it; all of it is tests.
+fn main() {}

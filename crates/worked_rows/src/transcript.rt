@@ -16,8 +16,8 @@
 //!
 //! A line of a document may stand for many (`spelling`).
 
+use crate::runs::{run_with_no_guide, words_of_line};
 use crate::spelling::{number, put_line};
-use crate::{run_with_no_guide, words_of_line};
 use currency_base::NoMemory;
 use currency_edge::{MemoryShelf, MemorySink};
 use std::alloc::Global;
