@@ -38,12 +38,15 @@ pub(crate) fn note_learned(
     })
 }
 
-/// Tells the guides the variables that an analysis met: those of resolved literals, and those of the clause.
+/// Tells the guides the variables that an analysis met: those of resolved literals that are not true anyway, and those of the clause.
 pub(crate) fn tell_seen(analysis: &Analysis, trail: &Trail, guides: &mut Guides)
     requires { All (λ place. place < length trail.now.entries) analysis.now.resolved }
 {
+    let base = if trail.depth() > 0 { trail.start(1) } else { 0 };
     for place in analysis.resolved() {
-        guides.saw(trail.assigned()[*place as usize].var());
+        if *place >= base {
+            guides.saw(trail.assigned()[*place as usize].var());
+        }
     }
     for lit in analysis.lits() {
         guides.saw(lit.var());
