@@ -8,8 +8,8 @@ use crate::RowList;
 use currency_base::{Lit, NoMemory};
 use refutation_log::Steps;
 
-/// What is derived so far: the steps; for each row the place of the clause of it that came last; and room for the literals and the
-/// hints of a step.
+/// What is derived so far: the steps; for each row the place of the clause of it that came last; and room for the literals and
+/// the hints of a step.
 #[derive(Drop)]
 pub(crate) struct Derivation {
     pub steps: Steps,

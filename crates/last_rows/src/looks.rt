@@ -16,8 +16,8 @@ const MANY_ROWS: usize = 65536;
 // How many steps have numbers.
 const MANY_STEPS: usize = 4294967296;
 
-/// Do the axioms on a list of rows stand at the places that are said, among these steps? Takes time as the axioms on three rows are
-/// many.
+/// Do the axioms on a list of rows stand at the places that are said, among these steps? Takes time as the axioms on three rows
+/// are many.
 pub fn are_there(alloc: Global, list: &RowList, earlier: &Steps) -> Result<bool, NoMemory>
     ensures { IfOk result (λ there. there ≡ true → IsPlaced list.now (clauses_of earlier.now)) }
 {

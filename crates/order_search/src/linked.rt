@@ -27,9 +27,9 @@ const NEAR: usize = 64;
 // Where more variables than these are told, those of no further list are.
 const MANY: usize = 512;
 
-/// Brings in a list and those that it is linked with, the nearest first and up to so many, but for those that are there, and tells
-/// the ring their variables: about how many it told. Where the order of the list's rows is known with nothing assumed, nothing is
-/// done.
+/// Brings in a list and those that it is linked with, the nearest first and up to so many, but for those that are there, and
+/// tells the ring their variables: about how many it told. Where the order of the list's rows is known with nothing assumed,
+/// nothing is done.
 pub(crate) fn bring_linked(
     subject: &Subject<'_>,
     progress: &mut Progress,
