@@ -39,8 +39,8 @@ abbrev pub AreUnits : RowList → List (List Lit) → ℕ → Type 0
 AreUnits l clauses n = (row : ℕ) → l.kept ≤ row → row < n → StandsAt (IsUnit (literals_of l) row (later_of l row)) clauses
     (later_place_of l row)
 
--- those on three rows: where the last is below a bound; where it is this, and the second below one; where these are both this, and
--- the first is below one
+-- those on three rows: where the last is below a bound; where it is this, and the second below one; where these are both this,
+-- and the first is below one
 abbrev pub ThreesBelow : RowList → List (List Lit) → ℕ → Type 0
 ThreesBelow l clauses n = (first second third : ℕ) → first < third → second < third → third < n → first ≢ second
     → StandsAt (IsThree (literals_of l) first second third) clauses (three_of l first second third)

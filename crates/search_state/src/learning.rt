@@ -38,7 +38,8 @@ pub(crate) fn note_learned(
     })
 }
 
-/// Tells the guides the variables that an analysis met: those of resolved literals that are not true anyway, and those of the clause.
+/// Tells the guides the variables that an analysis met: those of resolved literals that are not true anyway, and those of the
+/// clause. None of the others can be picked.
 pub(crate) fn tell_seen(analysis: &Analysis, trail: &Trail, guides: &mut Guides)
     requires { All (λ place. place < length trail.now.entries) analysis.now.resolved }
 {
