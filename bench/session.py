@@ -5,6 +5,8 @@ The specification is that of the first family of `bench/ask.py`: rows in entitie
 a value rule, two order rules and a copy. Over it go scripts whose time without their last entries is taken off:
 - edits alone, of each kind, an addition and its withdrawal by turns: the time of an edit beside that of `ask` of `consistent`, and how
   it grows from some edits to ten times as many;
+- a rule that is added and withdrawn again and again, after a question whose completion satisfies it, so that its instances are looked at
+  each time: the time of an addition beside that of `ask` of `consistent`;
 - edits after each of which `consistent` is asked again, with `--brief`, where none of the kept reports shows its verdict any more (this
   is looked at): the time of an edit and its question beside that of `ask --brief` over the documents;
 - one question again and again, whose reply is kept: the time of a reply beside that of `verify` of the report over the documents;
@@ -20,9 +22,9 @@ import tempfile
 from ask import ENTITY, given_of, write_documents
 from runs import build, end, timed
 
-# what may be beside `ask` an edit, and a question after an edit; beside `verify` a kept reply; beside a tenth as many the time of an
-# edit; and the memory of 1,000 edits beside that of ten
-EDIT, QUESTION, KEPT, GROWTH, MEMORY = 1 / 20, 0.6, 1, 1.5, 1.1
+# what may be beside `ask` an edit, a rule that a completion satisfies, and a question after an edit; beside `verify` a kept reply;
+# beside a tenth as many the time of an edit; and the memory of 1,000 edits beside that of ten
+EDIT, RULE, QUESTION, KEPT, GROWTH, MEMORY = 1 / 20, 1 / 10, 0.6, 1, 1.5, 1.1
 RUNS, ASKED, AGAIN, LEAST = 3, 8, 8, 0.02
 # an addition and its withdrawal, of each kind, and how many are run
 EDITS = {
@@ -30,6 +32,9 @@ EDITS = {
     "copied rows": ("withdraw copy mirror: v{e}_0 from r{e}_0;\nadd copy mirror: v{e}_0 from r{e}_0;\n", 10_000),
     "rules": ("add rule more on item (s, t): if s.d < t.d then s before t in d;\nwithdraw rule more;\n", 1_000),
 }
+
+# a rule that each consistent completion satisfies, and its withdrawal
+SATISFIED = "add rule more on item (s, t): if s.a < t.a then s before t in a;\nwithdraw rule more;\n"
 
 
 def broken_links(rows):
@@ -109,6 +114,19 @@ def measure_questions(folder, links, asked_brief, above):
         above.append(f"a question after an edit: {beside:.2f} times ask --brief")
 
 
+def measure_rules(folder, asked, above):
+    """A rule that the known completion satisfies, again and again: the time of one addition and its withdrawal beside `ask`."""
+    first = "ask consistent;\n"
+    alone, _, _ = session(folder, first, "--brief")
+    spent, _, said = session(folder, first + SATISFIED * AGAIN, "--brief")
+    if said.count(" accepted;\n") != 2 * AGAIN:
+        above.append("satisfied rules: an edit is refused")
+    each = max(spent - alone, 0.0) / AGAIN
+    print(f"a rule that the known completion satisfies: {each * 1e3:.1f} ms, {each / asked:.3f} times ask (mark {RULE:.2f})")
+    if each > RULE * asked:
+        above.append(f"satisfied rules: {each / asked:.3f} times ask")
+
+
 def measure_kept(folder, verified, above):
     """One question again and again."""
     first = "ask consistent;\n"
@@ -139,6 +157,7 @@ def main():
         verified, _, _ = best(folder, ["verify", "s", "q", "p"])
         print(f"{rows} rows: ask {asked:.2f} s, ask --brief {asked_brief:.2f} s, verify {verified:.2f} s")
         measure_edits(folder, links, asked, above)
+        measure_rules(folder, asked, above)
         measure_questions(folder, links, asked_brief, above)
         measure_kept(folder, verified, above)
     end(above)

@@ -17,6 +17,8 @@ use Rattle.refutation_log.specs.declared.step.Step.{Step}
 use Rattle.spec_model.specs.Completion.{Rankings}
 use Rattle.spec_model.specs.Spec.{Spec}
 use Rattle.certain_answers.specs.Deciding.{AreDecidedUpTo, IsDecided, IsProved, IsRefuted, IsSearchFor, StaysGone}
+use Rattle.certain_answers.specs.declared.decisions.Decision.{Decision}
+use Rattle.certain_answers.specs.declared.decisions.Decision.TheVariants.{Gone, Proved}
 use Rattle.certain_answers.proofs.Fronts.{at_push}
 
 -- what stands in a list stands there with more behind
@@ -101,33 +103,34 @@ refuted_at s query old new tuples place c tuple gone is are at refuted answer =
     (answers_later old new tuples gone are) ∙ at)
     (subst (λ (x : Spec). IsAnswerIn x.relations query tuple c) (sym later.spec) answer)
 
-decided_later : (old new : Search) (before after : Standing) (place step : ℕ) → HasGone old new
-    → StaysGone before after → IsDecided old before place step
-    → IsDecided new after place step
-decided_later old new before after place step gone stays (inl was) = inl (stays place was)
-decided_later old new before after place step gone stays (inr unit) = inr (proved_later old new place step gone unit)
+decided_later : (old new : Search) (before after : Standing) (place : ℕ) (decision : Decision) → HasGone old new
+    → StaysGone before after → IsDecided old before place decision
+    → IsDecided new after place decision
+decided_later old new before after place Gone gone stays was = stays place was
+decided_later old new before after place (Proved step) gone stays unit = proved_later old new place step gone unit
 
 -- one candidate more is decided
-pub decided_more : (old new : Search) (before after : Standing) (count : ℕ) (steps more : List ℕ) (step : ℕ)
-    → HasGone old new → StaysGone before after
-    → AreDecidedUpTo old before count steps → IsDecided new after count step → more ≡ steps ++ step ∷ []
+pub decided_more : (old new : Search) (before after : Standing) (count : ℕ) (decisions more : List Decision)
+    (decision : Decision) → HasGone old new → StaysGone before after
+    → AreDecidedUpTo old before count decisions → IsDecided new after count decision → more ≡ decisions ++ decision ∷ []
     → AreDecidedUpTo new after (count + 1) more
-decided_more old new before after count steps more step gone stays are is push = record {
-  as_many = ap length push ∙ length-append steps (step ∷ []) ∙ ap (λ n. n + 1) are.as_many;
-  each = λ place unit here. pick place unit (at_push steps step place unit (ap (λ us. slice_get us place) (sym push) ∙ here));
+decided_more old new before after count decisions more decision gone stays are is push = record {
+  as_many = ap length push ∙ length-append decisions (decision ∷ []) ∙ ap (λ n. n + 1) are.as_many;
+  each = λ place one here. pick place one
+      (at_push decisions decision place one (ap (λ ds. slice_get ds place) (sym push) ∙ here));
 }
   where
-    pick : (place unit : ℕ) → (slice_get steps place ≡ Some unit) ⊎ ((place ≡ length steps) × (step ≡ unit))
-        → IsDecided new after place unit
-    pick place unit (inl earlier) = decided_later old new before after place unit gone stays (are.each place unit earlier)
-    pick place unit (inr last) =
-        subst (λ k. IsDecided new after k unit) (sym (last.0 ∙ are.as_many)) (subst (IsDecided new after count) last.1 is)
+    pick : (place : ℕ) (one : Decision) → (slice_get decisions place ≡ Some one) ⊎
+        ((place ≡ length decisions) × (decision ≡ one)) → IsDecided new after place one
+    pick place one (inl earlier) = decided_later old new before after place one gone stays (are.each place one earlier)
+    pick place one (inr last) =
+        subst (λ k. IsDecided new after k one) (sym (last.0 ∙ are.as_many)) (subst (IsDecided new after count) last.1 is)
 
 -- what the loop keeps that decides each candidate
 pub record AreKept (s : Spec) (query : Query) (old new : Search) (before after : Standing) (from left : ℕ)
-    (count : ℕ) (steps : List ℕ) : Type 0 where
+    (count : ℕ) (decisions : List Decision) : Type 0 where
   pub gone : HasGone old new
   pub units : counted_steps new.log.steps + left ≡ counted_steps old.log.steps + from
   pub tuples : after.tuples ≡ before.tuples
   pub candidates : AreCandidates s query after
-  pub decided : AreDecidedUpTo new after count steps
+  pub decided : AreDecidedUpTo new after count decisions

@@ -1,4 +1,5 @@
 mod Fronts
 mod Going
 mod Matching
+mod Sameness
 mod Wanting

@@ -1,10 +1,11 @@
 -- Matches over a completion are those over its current instance.
-use Rattle.std.proofs.Common.{◌≡◌, ◌⊎◌, ◌+◌, ◌∷◌, ◌++◌, ◌∙◌, ℕ, List, [], All, inl, inr, Option, Some, None, Result, Ok, Err, IfOk, IfNone, length, slice_get, sym, ap, subst}
+use Rattle.std.proofs.Common.{◌≡◌, ◌⊎◌, ◌+◌, ◌∷◌, ◌++◌, ◌∙◌, ℕ, List, [], All, inl, inr, Option, Some, None, Result, Ok, Err, IfOk, IfNone, IfSome, length, slice_get, sym, ap, subst}
 use Rattle.std.proofs.lemmas.List.{length-append}
 use Rattle.answer_candidates.specs.Candidates.{AreAnswersIn}
 use Rattle.answer_laws.specs.Answered.{IsAnswerIn}
 use Rattle.answer_laws.specs.Laws.{InstancesAreOne}
 use Rattle.currency_base.specs.declared.value.Value.{Value}
+use Rattle.match_clauses.specs.Matched.{IsMatchIn}
 use Rattle.query_model.specs.Answers.{IsAnswer, IsMatch}
 use Rattle.query_model.specs.declared.query.Match.{Match}
 use Rattle.query_model.specs.declared.query.Query.{Query}
@@ -12,8 +13,10 @@ use Rattle.spec_model.specs.Completion.{Rankings}
 use Rattle.spec_model.specs.Current.{IsCurrentInstance}
 use Rattle.spec_model.specs.declared.relation.Relation.{Relation}
 use Rattle.ucq_answers.specs.Planned.{IndexedQuery}
-use Rattle.certain_answers.specs.Deciding.{AreMatches, AreMatchesOver, IsMatchOver}
+use Rattle.certain_answers.specs.Deciding.{AreMatches, AreMatchesOver, EachMatch, IsMatchOver}
+use Rattle.certain_answers.specs.declared.matched.Matched.{Matched}
 use Rattle.certain_answers.proofs.Fronts.{at_push}
+use Rattle.certain_answers.proofs.Wanting.{each_then}
 
 abbrev pub indexed_of : Query → List (List (List Value)) → IndexedQuery
 indexed_of query instance = record { query = query; instance = instance }
@@ -28,11 +31,17 @@ none_in one relations c query instance indexed tuple current is never answer =
     let here : IsAnswer query instance tuple = subst (λ i. IsAnswer query i tuple) same answer.is_answer in
     never (subst (λ (x : IndexedQuery). IsAnswer x.query x.instance tuple) (sym is) here)
 
-pub none_found : {P Q E : Type 0} (r : Result (Option Match) E) → (P → Q) → IfOk r (λ found. IfNone found P)
+pub none_found : {A P Q E : Type 0} (r : Result (Option A) E) → (P → Q) → IfOk r (λ found. IfNone found P)
     → IfOk r (λ found. IfNone found Q)
 none_found (Ok None) f p = f p
-none_found (Ok (Some m)) f p = tt
+none_found (Ok (Some x)) f p = tt
 none_found (Err e) f p = tt
+
+pub some_found : {A E : Type 0} {P Q : A → Type 0} (r : Result (Option A) E) → ((x : A) → P x → Q x)
+    → IfOk r (λ found. IfSome found P) → IfOk r (λ found. IfSome found Q)
+some_found (Ok None) f p = tt
+some_found (Ok (Some x)) f p = f x p
+some_found (Err e) f p = tt
 
 -- and what is an answer over it is one over the completion
 pub is_in : (relations : List Relation) (c : Rankings) (query : Query) (instance : List (List (List Value)))
@@ -86,6 +95,21 @@ matches_in relations c query instance indexed tuples matches current is are = re
     is_match = subst (λ (x : IndexedQuery). IsMatch x.query x.instance tuple m) is (are.each place m here tuple at);
   };
 }
+
+-- how a tuple is an answer over the instance is how it is one over the completion
+pub each_in : (relations : List Relation) (c : Rankings) (query : Query) (instance : List (List (List Value)))
+    (indexed : IndexedQuery) (tuple : List Value) (matched : Matched)
+    → IsCurrentInstance relations c instance → indexed ≡ indexed_of query instance
+    → EachMatch (IsMatch indexed.query indexed.instance tuple) matched
+    → EachMatch (IsMatchIn relations c query tuple) matched
+each_in relations c query instance indexed tuple matched current is each =
+    each_then (IsMatch indexed.query indexed.instance tuple) (IsMatchIn relations c query tuple) matched
+    (λ m found. record {
+      instance = instance;
+      is_current = current;
+      is_match = subst (λ (x : IndexedQuery). IsMatch x.query x.instance tuple m) is found;
+    })
+    each
 
 pub matches_found : {P Q : List Match → Type 0} {E : Type 0} (r : Result (List Match) E) →
     ((ms : List Match) → P ms → Q ms) → IfOk r P → IfOk r Q

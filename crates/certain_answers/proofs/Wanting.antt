@@ -1,5 +1,5 @@
 -- Matches of the query that a search poses.
-use Rattle.std.proofs.Common.{eq-eqb, ◌≡◌, ◌==◌, ◌∙◌, ◌<◌, ℕ, zero, suc, true, List, [], ◌∷◌, Option, Some, IfSome, length, map, get_or, slice_get, refl, sym, ap, subst, arith}
+use Rattle.std.proofs.Common.{eq-eqb, ◌≡◌, ◌==◌, ◌∙◌, ◌<◌, ℕ, zero, suc, true, List, [], ◌∷◌, All, Option, Some, IfSome, length, map, get_or, slice_get, refl, sym, ap, subst, arith}
 use Rattle.std.specs.List.{flat_map}
 use Rattle.std.proofs.lemmas.Bool.{or_left, or_right}
 use Rattle.std.proofs.lemmas.List.Folds.{list_any-append}
@@ -7,8 +7,10 @@ use Rattle.std.proofs.lemmas.Option.{same_Some, slice_get-get_or, slice_get_with
 use Rattle.currency_base.specs.declared.ids.RelId.{RelId}
 use Rattle.currency_base.specs.declared.value.Value.{Value}
 use Rattle.answer_candidates.specs.Candidates.{IsOver}
+use Rattle.log_axioms.specs.Posed.{Posed}
 use Rattle.match_clauses.specs.Matched.{IsMatchIn, IsOfWanted}
 use Rattle.order_literals.specs.Numbers.{is_wanted}
+use Rattle.order_literals.specs.declared.wanted.Wanted.{Wanted}
 use Rattle.order_search.specs.Searches.{HasGone, IsSearch, Search}
 use Rattle.query_model.specs.Answers.{IsMatch}
 use Rattle.query_model.specs.declared.query.Atom.{Atom}
@@ -19,8 +21,9 @@ use Rattle.refutation_log.specs.declared.log.Log.{Log}
 use Rattle.spec_model.specs.Completion.{IsCompletion, Rankings}
 use Rattle.spec_model.specs.Spec.{Spec}
 use Rattle.ucq_answers.specs.Planned.{IndexedQuery}
-use Rattle.certain_answers.specs.Deciding.{AreMatches, IsMatchAt, IsSearchFor, relations_in, relations_of}
-use Rattle.certain_answers.proofs.Fronts.{item_at}
+use Rattle.certain_answers.specs.Deciding.{AreMatches, EachMatch, IsMatchAt, IsSearchFor, relations_in, relations_of}
+use Rattle.certain_answers.specs.declared.matched.Matched.{Matched}
+use Rattle.certain_answers.proofs.Fronts.{all_at, item_at}
 use Rattle.certain_answers.proofs.Going.{answers_later, for_later}
 
 -- ---- the relations of a query's atoms are wanted
@@ -70,6 +73,53 @@ match_at s query search c m place tuple is completion at found = record {
   is_match = subst (λ (x : Spec). IsMatchIn x.relations c query tuple m) (sym is.spec) found;
   of_wanted = subst (λ (rels : List RelId). IsOfWanted rels query m) (sym is.currents) (of_wanted query m);
 }
+
+-- where the search has gone on since, it is one still
+pub match_later : (old new : Search) (c : Rankings) (m : Match) (place : ℕ) → HasGone old new → IsMatchAt old c m place
+    → IsMatchAt new c m place
+match_later old new c m place gone is = record {
+  query = is.query;
+  is_query = ap (λ (p : Posed). p.query) gone.posed ∙ is.is_query;
+  tuple = is.tuple;
+  is_tuple = ap (λ (p : Posed). slice_get p.answers place) gone.posed ∙ is.is_tuple;
+  completion = subst (λ (x : Spec). IsCompletion x.relations c) (sym gone.spec) is.completion;
+  is_match = subst (λ (x : Spec). IsMatchIn x.relations c is.query is.tuple m) (sym gone.spec) is.is_match;
+  of_wanted = subst (λ (w : Wanted). IsOfWanted w.currents is.query m) (sym gone.wanted) is.of_wanted;
+}
+
+-- ---- all matches of a tuple
+
+-- what holds of each, if something else does
+pub each_then : (P Q : Match → Type 0) (matched : Matched) → ((m : Match) → P m → Q m) → EachMatch P matched
+    → EachMatch Q matched
+each_then P Q matched then each = record {
+  first = then matched.first each.first;
+  others = λ at d below. then (get_or matched.others at d) (each.others at d below);
+}
+
+-- each match over a completion of the tuple at a place
+pub each_at : (s : Spec) (query : Query) (search : Search) (c : Rankings) (matched : Matched) (place : ℕ)
+    (tuple : List Value) → IsSearchFor s query search
+    → IsCompletion s.relations c → slice_get search.posed.answers place ≡ Some tuple
+    → EachMatch (IsMatchIn s.relations c query tuple) matched
+    → EachMatch (λ m. IsMatchAt search c m place) matched
+each_at s query search c matched place tuple is completion at each =
+    each_then (IsMatchIn s.relations c query tuple) (λ m. IsMatchAt search c m place) matched
+    (λ m found. match_at s query search c m place tuple is completion at found) each
+
+-- the others of them, where the search has gone on since
+pub others_later : (old new : Search) (c : Rankings) (others : List Match) (place : ℕ) → HasGone old new
+    → All (λ m. IsMatchAt old c m place) others → All (λ m. IsMatchAt new c m place) others
+others_later old new c others place gone are =
+    λ at d below. match_later old new c (get_or others at d) place gone (are at d below)
+
+-- and one of these
+pub other_at : (old new : Search) (c : Rankings) (others : List Match) (place at : ℕ) (m : Match) → HasGone old new
+    → All (λ m. IsMatchAt old c m place) others → slice_get others at ≡ Some m → IsMatchAt new c m place
+other_at old new c others place at m gone are here =
+    match_later old new c m place gone (all_at (λ x. IsMatchAt old c x place) others at m are here)
+
+-- ---- one match of each tuple
 
 -- the match at a place, where the search has gone on since
 pub match_of : (s : Spec) (query : Query) (old search : Search) (c : Rankings) (matches : List Match) (place : ℕ)

@@ -1,5 +1,5 @@
 -- What is decided of candidates for certain answers, and what comes of it.
-use Rattle.std.specs.Prelude.{◌≡◌, ◌⊎◌, ℕ, true, List, [], ◌∷◌, Some, length, map, slice_get}
+use Rattle.std.specs.Prelude.{◌≡◌, ℕ, true, List, [], ◌∷◌, All, Some, length, map, slice_get}
 use Rattle.std.specs.List.{flat_map}
 use Rattle.currency_base.specs.declared.ids.RelId.{RelId}
 use Rattle.currency_base.specs.declared.lit.Lit.{Lit}
@@ -23,10 +23,13 @@ use Rattle.order_search.specs.Searches.{Search}
 use Rattle.order_search.specs.declared.outcome.Outcome.{Outcome}
 use Rattle.order_search.specs.declared.outcome.Outcome.TheVariants.{Model, Proved, Empty, Spent}
 use Rattle.ucq_answers.specs.Planned.{IndexedQuery}
+use Rattle.certain_answers.specs.declared.decisions.Decision.{Decision}
+use Rattle.certain_answers.specs.declared.decisions.Decision.TheVariants as decision
 use Rattle.certain_answers.specs.declared.decisions.Decisions.{Decisions}
 use Rattle.certain_answers.specs.declared.decisions.Decisions.TheVariants as decisions
 use Rattle.certain_answers.specs.declared.decisions.Step.{Step}
 use Rattle.certain_answers.specs.declared.decisions.Step.TheVariants as step
+use Rattle.certain_answers.specs.declared.matched.Matched.{Matched}
 
 -- the relations of a disjunct's atoms
 abbrev pub relations_in : Disjunct → List RelId
@@ -75,6 +78,11 @@ pub record IsMatchAt (search : Search) (c : Rankings) (m : Match) (answer : ℕ)
   pub is_match : IsMatchIn search.spec.relations c query tuple m
   pub of_wanted : IsOfWanted search.wanted.currents query m
 
+-- something holds of each match by which a tuple is an answer
+pub record EachMatch (holds : Match → Type 0) (matched : Matched) : Type 0 where
+  pub first : holds matched.first
+  pub others : All holds matched.others
+
 -- ---- all candidates
 
 -- the search came to an end: a step is the empty clause, or no unit is left, and the log is open
@@ -84,18 +92,19 @@ IsEnd search left (Proved step) = ⊥
 IsEnd search left (Empty step) = slice_get (clauses_of search.log.steps) step ≡ Some []
 IsEnd search left Spent = (left ≡ 0) × IsOpenLog search.log.steps
 
--- a candidate is gone, or the step is its unit
-abbrev pub IsDecided : Search → Standing → ℕ → ℕ → Type 0
-IsDecided search standing place step = (slice_get standing.gone place ≡ Some true) ⊎ IsProved search place step
+-- what became of the candidate at a place: it is gone, or a step is its unit
+abbrev pub IsDecided : Search → Standing → ℕ → Decision → Type 0
+IsDecided search standing place decision.Gone = slice_get standing.gone place ≡ Some true
+IsDecided search standing place (decision.Proved step) = IsProved search place step
 
--- so many first candidates are decided, each by the step at its place
-pub record AreDecidedUpTo (search : Search) (standing : Standing) (count : ℕ) (steps : List ℕ) : Type 0 where
-  pub as_many : length steps ≡ count
-  pub each : (place step : ℕ) → slice_get steps place ≡ Some step → IsDecided search standing place step
+-- so many first candidates are decided, each as the list says at its place
+pub record AreDecidedUpTo (search : Search) (standing : Standing) (count : ℕ) (decisions : List Decision) : Type 0 where
+  pub as_many : length decisions ≡ count
+  pub each : (place : ℕ) (decision : Decision) → slice_get decisions place ≡ Some decision → IsDecided search standing place decision
 
 -- what deciding all candidates came to, with so many units left
 abbrev pub TellsDecisions : Search → Standing → ℕ → Decisions → Type 0
-TellsDecisions search standing left (decisions.All steps) = AreDecidedUpTo search standing (length standing.tuples) steps
+TellsDecisions search standing left (decisions.All all) = AreDecidedUpTo search standing (length standing.tuples) all
 TellsDecisions search standing left (decisions.Ended outcome) = IsEnd search left outcome
 
 -- what is gone stays gone
@@ -104,7 +113,7 @@ StaysGone old new = (place : ℕ) → slice_get old.gone place ≡ Some true →
 
 -- what deciding the candidate at a place came to, with so many units left
 abbrev pub TellsStep : Search → Standing → ℕ → ℕ → Step → Type 0
-TellsStep search standing place left (step.Taken unit) = IsDecided search standing place unit
+TellsStep search standing place left (step.Decided decision) = IsDecided search standing place decision
 TellsStep search standing place left (step.Ended outcome) = IsEnd search left outcome
 
 -- ---- matches

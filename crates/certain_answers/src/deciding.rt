@@ -6,26 +6,24 @@ ghost use Rattle.order_search.specs.Searches.{HasGone, IsAnswerCounter};
 ghost use Rattle.match_clauses.specs.Matched.{IsMatchIn};
 ghost use Rattle.answer_laws.specs.Answered.{IsAnswerIn};
 ghost use Rattle.currency_base.specs.declared.value.Value.{Value};
-ghost use Rattle.certain_answers.specs.Deciding.{IsMatchAt, IsSearchFor, TellsAnswer};
+ghost use Rattle.certain_answers.specs.Deciding.{EachMatch, IsMatchAt, IsSearchFor, TellsAnswer};
 
+use crate::matched::{Matched, bring_others, matched_over};
 use crate::violated::bring_violated;
 use crate::writable::is_writable;
 use answer_candidates::Candidates;
-use answer_laws::instances_exist;
-use currency_base::{Assignment, NoMemory, Tuple};
-use current_tuples::current;
+use currency_base::{Assignment, NoMemory};
 use order_search::{Outcome, Search};
-use query_model::{Match, Query};
+use query_model::Query;
 use solver_guides::Guides;
 use spec_model::{Completion, Specification};
 use std::alloc::Global;
-use ucq_answers::IndexedInstance;
 use watch_solver::Budget;
 
 /// Decides whether the tuple at a place of the posed answers is an answer in every consistent completion. Where a model
-/// makes its statement false though it is an answer there, the axiom of a match of it is brought in, which takes a
+/// makes its statement false though it is an answer there, the axioms of its matches are brought in, of which the first takes a
 /// unit; so a model that is answered is one over which it is no answer. Those of other candidates that the model violates
-/// come in beside it. More than 4,294,967,294 values or entities of a match count as want of memory.
+/// come in beside them. More than 4,294,967,294 values or entities of the first match count as want of memory.
 pub fn decide_answer(
     alloc: Global,
     spec: &Specification,
@@ -53,7 +51,7 @@ pub fn decide_answer(
     }
 }
 
-// One decision; nothing, where the axiom of a match was brought in.
+// One decision; nothing, where axioms of matches were brought in.
 fn decided_once(
     alloc: Global,
     spec: &Specification,
@@ -87,7 +85,7 @@ fn decided_once(
 }
 
 // What a model tells in which the statement of a tuple is false: that the tuple is no answer there, or that no unit is left for
-// the axiom of its match, which is else brought in.
+// the axioms of its matches, which are else brought in.
 fn checked_model(
     alloc: Global,
     spec: &Specification,
@@ -111,7 +109,7 @@ fn checked_model(
     ensures taken { IfOk result (λ found. IfNone found (units.new < units.old)) }
 {
     search.is_search();
-    match match_over(
+    match matched_over(
         alloc,
         spec,
         query,
@@ -119,7 +117,7 @@ fn checked_model(
         &completion,
     ) {
         Ok(None) => Ok(Some(Outcome::Model { truths, completion })),
-        Ok(Some(found)) => demanded(
+        Ok(Some(matched)) => demanded(
             alloc,
             spec,
             query,
@@ -128,7 +126,7 @@ fn checked_model(
             place,
             &truths,
             &completion,
-            &found,
+            &matched,
             units,
             guides,
         ),
@@ -136,7 +134,8 @@ fn checked_model(
     }
 }
 
-// Brings in the axiom of a match that a model violates, if a unit is left, and beside it those of other candidates.
+// Brings in the axioms of the matches of a tuple that a model violates, if a unit is left: the first takes one. Beside them come
+// those of other candidates.
 fn demanded(
     alloc: Global,
     spec: &Specification,
@@ -146,7 +145,7 @@ fn demanded(
     place: u32,
     truths: &Assignment,
     completion: &Completion,
-    found: &Match,
+    matched: &Matched,
     units: &mut Budget,
     guides: &mut Guides,
 ) -> Result<Option<Outcome>, NoMemory>
@@ -156,20 +155,32 @@ fn demanded(
     requires place { place < length search.old.posed.answers }
     requires consistent { IsConsistent spec.now completion.now }
     requires counter { IsAnswerCounter search.old place truths.now completion.now }
-    requires found { IsMatchAt search.old completion.now found.now place }
+    requires matched { EachMatch (λ m. IsMatchAt search.old completion.now m place) matched.now }
     ensures gone { HasGone search.old search.new }
     ensures units { counted_steps search.new.log.steps + units.new ≡ counted_steps search.old.log.steps + units.old }
     ensures outcome { IfOk result (λ found. IfSome found (TellsAnswer search.new place units.new)) }
     ensures taken { IfOk result (λ found. IfNone found (units.new < units.old)) }
 {
-    if !is_writable(found) {
+    if !is_writable(&matched.first) {
         return Err(NoMemory);
     }
     if units.left() == 0 {
         search.is_open(truths);
         return Ok(Some(Outcome::Spent));
     }
-    match search.demand_match(alloc, completion, found, place, truths, units, guides) {
+    match search.demand_match(
+        alloc,
+        completion,
+        &matched.first,
+        place,
+        truths,
+        units,
+        guides,
+    ) {
+        Ok(()) => {}
+        Err(error) => return Err(error),
+    }
+    match bring_others(alloc, completion, matched, place, search, guides) {
         Ok(()) => {}
         Err(error) => return Err(error),
     }
@@ -179,29 +190,4 @@ fn demanded(
         Ok(()) => Ok(None),
         Err(error) => Err(error),
     }
-}
-
-// How a tuple is an answer over a completion, if it is one.
-fn match_over(
-    alloc: Global,
-    spec: &Specification,
-    query: &Query,
-    tuple: &Tuple,
-    completion: &Completion,
-) -> Result<Option<Match>, NoMemory>
-    requires query { IsQuery query.now }
-    requires consistent { IsConsistent spec.now completion.now }
-    ensures some { IfOk result (λ found. IfSome found (IsMatchIn spec.now.relations completion.now query.now tuple.now)) }
-    ensures none { IfOk result (λ found. IfNone found (IsAnswerIn spec.now.relations query.now tuple.now completion.now → ⊥)) }
-{
-    instances_exist();
-    let instance = match current(alloc, spec, completion) {
-        Ok(instance) => instance,
-        Err(error) => return Err(error),
-    };
-    let indexed = match IndexedInstance::new(alloc, query, &instance) {
-        Ok(indexed) => indexed,
-        Err(error) => return Err(error),
-    };
-    indexed.match_of(alloc, tuple)
 }

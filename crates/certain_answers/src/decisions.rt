@@ -12,22 +12,33 @@ use crate::aiming::aim;
 use crate::deciding::decide_answer;
 use crate::lists::bring_near;
 use answer_candidates::Candidates;
-use currency_base::NoMemory;
+use currency_base::{ItemList, NoMemory};
 use current_tuples::current;
 use order_search::{Outcome, Search, When};
 use query_model::Query;
-use refutation_log::HintList;
 use solver_guides::Guides;
 use spec_model::{Completion, Specification};
 use std::alloc::Global;
 use ucq_answers::IndexedInstance;
 use watch_solver::Budget;
 
+/// What became of a candidate.
+#[derive(Clone, Copy)]
+pub enum Decision {
+    /// It is no answer over a listed completion.
+    Gone,
+    /// It is an answer in every consistent completion: the step that is its unit.
+    Proved(u32),
+}
+
+/// What became of one candidate after another.
+pub type DecisionList = ItemList<Decision>;
+
 /// What deciding candidates came to.
 #[derive(Drop)]
 pub enum Decisions {
-    /// One step for each candidate: its unit, unless the candidate is gone.
-    All(HintList),
+    /// Each is decided.
+    All(DecisionList),
     /// The search came to an end.
     Ended(Outcome),
 }
@@ -94,12 +105,12 @@ fn decide_each(
     ensures units { counted_steps search.new.log.steps + units.new ≡ counted_steps search.old.log.steps + units.old }
     ensures outcome { IfOk result (TellsDecisions search.new candidates.new units.new) }
 {
-    let mut steps = HintList::new(alloc);
+    let mut decisions = DecisionList::new(alloc);
     for place in 0..candidates.tuples().len() {
         match step_for(
             alloc, spec, query, indexed, candidates, place, search, units, guides,
         ) {
-            Ok(Step::Taken(step)) => match steps.push(step) {
+            Ok(Step::Decided(decision)) => match decisions.push(decision) {
                 Ok(()) => {}
                 Err(error) => return Err(error),
             },
@@ -107,14 +118,14 @@ fn decide_each(
             Err(error) => return Err(error),
         }
     }
-    Ok(Decisions::All(steps))
+    Ok(Decisions::All(decisions))
 }
 
 // What deciding a candidate came to.
 #[derive(Drop)]
 pub(crate) enum Step {
-    // its unit; any step, where the candidate is gone
-    Taken(u32),
+    // what became of the candidate
+    Decided(Decision),
     // the search came to an end
     Ended(Outcome),
 }
@@ -145,7 +156,7 @@ fn step_for(
     ensures outcome { IfOk result (TellsStep search.new candidates.new place units.new) }
 {
     if candidates.is_gone(place) {
-        return Ok(Step::Taken(0));
+        return Ok(Step::Decided(Decision::Gone));
     }
     match bring_near(
         alloc,
@@ -170,7 +181,7 @@ fn step_for(
         units,
         guides,
     ) {
-        Ok(Outcome::Proved(step)) => Ok(Step::Taken(step)),
+        Ok(Outcome::Proved(step)) => Ok(Step::Decided(Decision::Proved(step))),
         Ok(Outcome::Model { completion, .. }) => refuted(
             alloc, spec, query, indexed, candidates, place, search, completion, guides,
         ),
@@ -220,7 +231,7 @@ fn refuted(
         search,
         guides,
     ) {
-        Ok(()) => Ok(Step::Taken(0)),
+        Ok(()) => Ok(Step::Decided(Decision::Gone)),
         Err(error) => Err(error),
     }
 }

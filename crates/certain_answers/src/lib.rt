@@ -5,12 +5,13 @@ mod aiming;
 mod deciding;
 mod decisions;
 mod lists;
+mod matched;
 mod matches;
 mod starting;
 mod violated;
 mod writable;
 
 pub use deciding::decide_answer;
-pub use decisions::{Decisions, decide_left, note};
+pub use decisions::{Decision, DecisionList, Decisions, decide_left, note};
 pub use matches::{MatchList, bring_matches, first_matches};
 pub use starting::{discard, relations_of, search_for};

@@ -9,6 +9,7 @@ mod Lifted
 mod Meaning
 mod OneCopy
 mod OneFlaw
+mod OneRule
 mod Places
 mod Ranked
 mod Rooms

@@ -6,3 +6,4 @@ pub mod Breaks
 pub mod CopyTests
 pub mod CopyBreaks
 pub mod Flaws
+pub mod OneRule

@@ -52,8 +52,8 @@ fn all_places(alloc: Global, relations: &[Relation]) -> Result<Vec<RelationPlace
     Ok(all)
 }
 
-// A place for each row in each attribute of a relation.
-fn places_of(alloc: Global, relation: &Relation) -> Result<RelationPlaces, NoMemory>
+/// A place for each row in each attribute of a relation.
+pub(crate) fn places_of(alloc: Global, relation: &Relation) -> Result<RelationPlaces, NoMemory>
     ensures { IfOk result (HasPlaces relation.now) }
 {
     let rows = relation.rows.len();

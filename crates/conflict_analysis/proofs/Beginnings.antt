@@ -30,6 +30,7 @@ met_empty a es base level at n few =
       kept = λ q h. absurd (in_none q h);
       resolved = λ q h. absurd (in_none q h);
       leaves = λ q h. absurd (in_none q h);
+      apart = λ q h leaf. in_none q h;
       kept_once = λ i j x a b. absurd (cc);
       resolved_once = λ i j x a b. absurd (cc);
       leaves_once = λ i j x a b. absurd (cc);

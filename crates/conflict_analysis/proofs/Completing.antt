@@ -28,6 +28,7 @@ module _ (a : Arena) (es : List Entry) (base level at : ℕ) where
           left = k.left;
         };
         leaves_once = subst OnlyOnce (sym x.leaves) m.leaves_once;
+        apart = λ q h leaf. m.apart q (x.none_new q h) (subst (λ ps. Contains ps q) x.leaves leaf);
         rises = x.rises m.resolved_once;
         closed = λ q h. subst (λ bs. HasSeen a es bs 0 q) (sym x.seen) (closed q (x.none_new q h));
         away = λ q h. elim (m.resolved q (x.none_new q h)).away [ inl g ↦ inl g | inr g ↦ inr g.0 ];

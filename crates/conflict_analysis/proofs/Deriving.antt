@@ -1,19 +1,22 @@
--- The clause follows with its hints, none of which stands twice.
+-- The clause follows with its hints, of which none stands twice, and each but the last adds a literal.
 use Rattle.std.proofs.Common.{◌≡◌, ◌≢◌, ◌⊎◌, ◌<◌, ◌≤◌, ◌∙◌, ◌++◌, All, get_or, unwrap_or, ℕ, Bool, List, [], ◌∷◌, Contains, Some, length, map, slice_get, sym, ap, subst, inl, inr, arith}
 use Rattle.std.proofs.lemmas.Bool.{cases_lt}
 use Rattle.std.proofs.lemmas.List.Elements.{All-push, Contains-get_or}
 use Rattle.std.proofs.lemmas.Option.{same_Some, slice_get_within, get_or_from_slice_get}
+use Rattle.std.proofs.lemmas.Simd.{map-map}
 use Rattle.currency_base.specs.Lists.{OnlyOnce}
 use Rattle.currency_base.specs.Literals.{var_of, negation}
 use Rattle.currency_base.specs.declared.lit.Lit.{Lit}
 use Rattle.search_trail.specs.Trails.{AreEntries, Entry, Trail, lits_of}
 use Rattle.clause_arena.specs.Arenas.{Arena}
 use Rattle.refutation_log.specs.Follows.{Follows, clause_at, clauses_at}
+use Rattle.lean_hints.specs.Lean.{AreLean, EachAdds}
+use Rattle.lean_hints.proofs.Fronts.{lean_of}
 use Rattle.watch_propagate.specs.WatchRule.{AreReasons}
 use Rattle.conflict_analysis.specs.Analyses.{IsDerived, IsFalsified}
 use Rattle.conflict_analysis.specs.Steps.{HasSeen, IsCovered, IsLaw, IsSeen, Rises, lit_at, negated, number_of}
 use Rattle.conflict_analysis.proofs.Entries.{before, map_at, negation_differs, negation_twice, negation_var, reason_here, same_place}
-use Rattle.conflict_analysis.proofs.Following.{law_follows}
+use Rattle.conflict_analysis.proofs.Following.{law_adds, law_follows}
 use Rattle.conflict_analysis.proofs.Members.{contains_at, snoc_at}
 use Rattle.conflict_analysis.proofs.Sorting.{rises_once}
 use Rattle.conflict_analysis.proofs.Spelled.{consistent, in_map, lit_there, map_once, same_lits}
@@ -26,6 +29,7 @@ pub record Derives (a : Arena) (t : Trail) (seen : List Bool) (resolved : List �
   pub covered : (p q : ℕ) → Contains resolved p → q < p → IsSeen seen q → Contains learned (negated t.entries q) ⊎
       Contains resolved q
   pub fresh : (p : ℕ) → Contains resolved p → Contains learned (lit_at t.entries p) → ⊥
+  pub new : (p : ℕ) → Contains resolved p → Contains learned (negated t.entries p) → ⊥
   pub is_last : slice_get a.clauses last ≡ Some last_lits
   pub last_closed : (o : Lit) → Contains last_lits o → Contains learned o ⊎
       ((q : ℕ) × Contains resolved q × (o ≡ negated t.entries q))
@@ -96,7 +100,9 @@ module _ (a : Arena) (t : Trail) (are : AreEntries t) (reasons : AreReasons a t.
               (subst (λ ls. Contains ls h.entry.lit) (sym (clause_is seen 0 p h)) (has_lit seen 0 p h));
           others = λ p o there in_clause differs. others p o there in_clause differs;
           fresh = d.fresh;
+          new = d.new;
           apart = λ p q in_p in_q is. apart p q in_p in_q is;
+          once = λ p q in_p in_q is. same_there p q in_p in_q (ap var_of is);
           closed = d.last_closed;
         }
       where
@@ -116,10 +122,14 @@ module _ (a : Arena) (t : Trail) (are : AreEntries t) (reasons : AreReasons a t.
                   (b.0, g, b.1, sym is)
             ]
 
+        same_there : (p q : ℕ) → Contains resolved p → Contains resolved q → var_of (lit_at t.entries p) ≡ var_of
+            (lit_at t.entries q) → p ≡ q
+        same_there p q in_p in_q same =
+            same_lits t are p q (inside seen 0 p (d.closed p in_p)) (inside seen 0 q (d.closed q in_q)) same
+
         apart : (p q : ℕ) → Contains resolved p → Contains resolved q → lit_at t.entries p ≡ negation (lit_at t.entries q) → ⊥
         apart p q in_p in_q is =
-            let same = same_lits t are p q (inside seen 0 p (d.closed p in_p)) (inside seen 0 q (d.closed q in_q))
-            (ap var_of is ∙ negation_var (lit_at t.entries q)) in
+            let same = same_there p q in_p in_q (ap var_of is ∙ negation_var (lit_at t.entries q)) in
             negation_differs (lit_at t.entries q) (sym is ∙ ap (lit_at t.entries) same)
 
     hints : List ℕ
@@ -145,6 +155,12 @@ module _ (a : Arena) (t : Trail) (are : AreEntries t) (reasons : AreReasons a t.
         by (inr p) (inl q) = absurd (not_last j q p.1)
         by (inr p) (inr q) = p.0 ∙ sym q.0
 
+    lean : AreLean a.clauses learned (map (number_of t.entries) resolved ++ last ∷ [])
+    lean =
+        lean_of a.clauses learned (map (number_of t.entries) resolved) last hints_once
+        (subst (EachAdds learned) (sym (map-map (clause_at a.clauses) (number_of t.entries) resolved))
+        (law_adds (lit_at t.entries) (λ p. clause_at a.clauses (number_of t.entries p)) learned resolved last_lits law d.rises))
+
     pub derived : IsDerived a t learned (map (number_of t.entries) resolved ++ last ∷ [])
     derived =
         record {
@@ -160,7 +176,7 @@ module _ (a : Arena) (t : Trail) (are : AreEntries t) (reasons : AreReasons a t.
               (get_or_from_slice_get a.clauses last last_lits [] d.is_last))
               (law_follows (lit_at t.entries) (λ p. clause_at a.clauses (number_of t.entries p)) learned resolved
               last_lits law d.rises);
-          hints_once = hints_once;
+          lean = lean;
           lits_once = d.once;
           within = d.within;
         }

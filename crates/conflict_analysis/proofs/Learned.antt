@@ -18,7 +18,7 @@ use Rattle.conflict_analysis.proofs.Deriving.{Derives, derived, inside, no_reaso
 use Rattle.conflict_analysis.proofs.Entries.{before, entry_there, negation_twice, negation_var, reason_here, same_place}
 use Rattle.conflict_analysis.proofs.Literals.{var_inside}
 use Rattle.conflict_analysis.proofs.Members.{cons_cases, contains_at, in_none}
-use Rattle.conflict_analysis.proofs.Spelled.{consistent, filter_once, get_lit, here_in, in_filter, later_in, lit_there, not_out, once_cons, says_false, says_from, says_has, says_once, says_within}
+use Rattle.conflict_analysis.proofs.Spelled.{consistent, filter_once, get_lit, here_in, in_filter, later_in, lit_there, negated_var, not_out, once_cons, same_lits, says_false, says_from, says_has, says_once, says_within}
 
 -- places of lists are those of entries
 pub all_below : (xs : List ℕ) (n : ℕ) → ((q : ℕ) → Contains xs q → q < n) → All (λ q. q < n) xs
@@ -47,8 +47,10 @@ module _ (a : Arena) (t : Trail) (are : AreEntries t) (reasons : AreReasons a t.
       (f : IsFalsified a t clause)
       (lits : List Lit) (places : List ℕ) (is : lits ≡ map (negated t.entries) places) →
       ((q : ℕ) → Contains places q → q < length t.entries) → OnlyOnce places
-      → ((q : ℕ) → IsSeen s.seen q → Contains places q ⊎ Contains s.resolved q) → Derives a t s.seen s.resolved lits clause e.lits
-  derives_conflict base level at clause s e f lits places is within once cover =
+      → ((q : ℕ) → IsSeen s.seen q → Contains places q ⊎ Contains s.resolved q)
+      → ((q : ℕ) → Contains places q → Contains s.resolved q → ⊥)
+      → Derives a t s.seen s.resolved lits clause e.lits
+  derives_conflict base level at clause s e f lits places is within once cover apart =
       record {
         rises = e.ended.rises;
         closed = e.ended.closed;
@@ -56,6 +58,7 @@ module _ (a : Arena) (t : Trail) (are : AreEntries t) (reasons : AreReasons a t.
         fresh = λ p there in_lits. consistent t are (lit_at t.entries p)
             (contains_at (lits_of t) p (lit_at t.entries p) (get_lit t are p (resolved_inside base level at s e.ended p there)))
             (says_false t are lits places is within (lit_at t.entries p) in_lits);
+        new = λ p there in_lits. new p there (says_from t are lits places is within (negated t.entries p) in_lits);
         is_last = e.is_clause;
         last_closed = λ o there. closed o there;
         last_new = λ p there same. no_reason a t are reasons clause f s.seen p (e.ended.closed p there) same;
@@ -63,6 +66,12 @@ module _ (a : Arena) (t : Trail) (are : AreEntries t) (reasons : AreReasons a t.
         within = says_within t are lits places is within;
       }
     where
+      new : (p : ℕ) → Contains s.resolved p → ((q : ℕ) × Contains places q × (negated t.entries q ≡ negated t.entries p)) → ⊥
+      new p there q =
+          let same : q.0 ≡ p = same_lits t are q.0 p (within q.0 q.1) (resolved_inside base level at s e.ended p there)
+          (sym (negated_var t are q.0) ∙ ap var_of q.2 ∙ negated_var t are p) in
+          apart p (subst (λ r. Contains places r) same q.1) there
+
       covered : (q : ℕ) → IsSeen s.seen q → Contains lits (negated t.entries q) ⊎ Contains s.resolved q
       covered q seen = elim (cover q seen) [ inl h ↦ inl (says_has t are lits places is within q h) | inr h ↦ inr h ]
 
@@ -112,6 +121,19 @@ module _ (a : Arena) (t : Trail) (are : AreEntries t) (reasons : AreReasons a t.
         by (inl same) = omega (arith, same, led.there)
         by (inr h) = leaves_inside q (from q h)
 
+    -- and none is both
+    learned_apart : (others : List ℕ) → ((q : ℕ) → Contains others q → Contains s.leaves q) → (q : ℕ)
+        → Contains (s.low ∷ others) q → Contains s.resolved q → ⊥
+    learned_apart others from q there resolved = by (cons_cases s.low others q there)
+      where
+        away : (q < level) ⊎ (s.low + 1 ≤ q) → s.low ≡ q → ⊥
+        away (inl h) same = omega (arith, h, same, led.above)
+        away (inr h) same = omega (arith, h, same)
+
+        by : (s.low ≡ q) ⊎ Contains others q → ⊥
+        by (inl same) = away (led.ended.ended.away q resolved) same
+        by (inr h) = led.ended.ended.apart q resolved (from q h)
+
     learned_derived : (lits : List Lit) (back : ℕ) → IsWritten t s.low s.leaves lits back → IsDerived a t lits
         (map (number_of t.entries) s.resolved ++ conflict ∷ [])
     learned_derived lits back w =
@@ -121,7 +143,7 @@ module _ (a : Arena) (t : Trail) (are : AreEntries t) (reasons : AreReasons a t.
         (learned_inside x.others x.from)
         (once_cons s.low x.others (x.once led.ended.ended.leaves_once)
         (λ there. let h = leaves_below s.low (x.from s.low there) in omega (arith, h, led.above)))
-        (learned_cover x.others x.has))
+        (learned_cover x.others x.has) (learned_apart x.others x.from))
 
     pub is_learned : (vars : ℕ) (lits : List Lit) (hints : List ℕ) (back : ℕ) → IsWritten t s.low s.leaves lits back
         → hints ≡ map (number_of t.entries) s.resolved ++ conflict ∷ []
@@ -154,7 +176,8 @@ module _ (a : Arena) (t : Trail) (are : AreEntries t) (reasons : AreReasons a t.
         (derived a t are reasons s.seen s.resolved lits conflict end.lits
         (derives_conflict base level level conflict s end f lits (without except s.leaves) is
         (λ q there. leaf_inside q (in_filter _ s.leaves q there).0)
-        (filter_once _ s.leaves end.ended.leaves_once) cover))
+        (filter_once _ s.leaves end.ended.leaves_once) cover
+        (λ q there resolved. end.ended.apart q resolved (in_filter _ s.leaves q there).0)))
       where
         cover : (q : ℕ) → IsSeen s.seen q → Contains (without except s.leaves) q ⊎ Contains s.resolved q
         cover q seen = by (end.ended.fate q seen)
@@ -239,6 +262,7 @@ module _ (a : Arena) (t : Trail) (are : AreEntries t) (reasons : AreReasons a t.
           closed = end.ended.closed;
           covered = λ p q there less seen. inr (all_resolved q (let h = before_it p there in omega (arith, less, h)) seen);
           fresh = λ p there in_unit. fresh p there (cons_cases lit [] (lit_at t.entries p) in_unit);
+          new = λ p there in_unit. new p there (cons_cases lit [] (negated t.entries p) in_unit);
           is_last = end.is_clause;
           last_closed = λ o there. closed o there (same_or o lit);
           last_new = λ p there same. let h = end.ended.closed p there in
@@ -261,13 +285,21 @@ module _ (a : Arena) (t : Trail) (are : AreEntries t) (reasons : AreReasons a t.
           are_seen = end.seen;
         }
 
-        fresh : (p : ℕ) → Contains s.resolved p → (lit ≡ lit_at t.entries p) ⊎ Contains [] (lit_at t.entries p) → ⊥
-        fresh p there (inr none) = in_none (lit_at t.entries p) none
-        fresh p there (inl same) =
+        -- the literal is of none of their variables
+        apart : (p : ℕ) → Contains s.resolved p → var_of lit ≡ var_of (lit_at t.entries p) → ⊥
+        apart p there same =
             let h = end.ended.closed p there in
             let one = same_place t.entries are.once p place h.entry entry h.is_entry is_entry
-            (ap var_of (sym (lit_there t are p h.entry h.is_entry) ∙ sym same ∙ sym is_lit)) in
+            (ap var_of (sym (lit_there t are p h.entry h.is_entry)) ∙ sym same ∙ ap var_of (sym is_lit)) in
             let low = before_it p there in omega (arith, one, low)
+
+        fresh : (p : ℕ) → Contains s.resolved p → (lit ≡ lit_at t.entries p) ⊎ Contains [] (lit_at t.entries p) → ⊥
+        fresh p there (inr none) = in_none (lit_at t.entries p) none
+        fresh p there (inl same) = apart p there (ap var_of same)
+
+        new : (p : ℕ) → Contains s.resolved p → (lit ≡ negated t.entries p) ⊎ Contains [] (negated t.entries p) → ⊥
+        new p there (inr none) = in_none (negated t.entries p) none
+        new p there (inl same) = apart p there (ap var_of same ∙ negated_var t are p)
 
         closed : (o : Lit) → Contains end.lits o → (o ≡ lit) ⊎ (o ≡ lit → ⊥) → Contains (lit ∷ []) o ⊎
             ((q : ℕ) × Contains s.resolved q × (o ≡ negated t.entries q))

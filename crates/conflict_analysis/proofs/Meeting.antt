@@ -104,6 +104,7 @@ module _ (a : Arena) (es : List Entry) (base level at : ℕ) (s : State) (met : 
           away = away_kept q k.away;
         };
         leaves = λ q there. let k = met.leaves q there in record { seen = still q k.seen; below = k.below; left = k.left };
+        apart = met.apart;
         kept_once = met.kept_once;
         resolved_once = met.resolved_once;
         leaves_once = met.leaves_once;
@@ -174,6 +175,7 @@ module _ (a : Arena) (es : List Entry) (base level at : ℕ) (s : State) (met : 
           away = away_kept q k.away;
         };
         leaves = λ q there. let k = met.leaves q there in record { seen = still q k.seen; below = k.below; left = k.left };
+        apart = met.apart;
         kept_once = once_more s.kept place met.kept_once (late s.kept (λ q h. (met.kept q h).seen));
         resolved_once = met.resolved_once;
         leaves_once = met.leaves_once;
@@ -258,6 +260,7 @@ module _ (a : Arena) (es : List Entry) (base level at : ℕ) (s : State) (met : 
         resolved = λ q there. elim (Contains-push_cases s.resolved place q there)
             [ inl h ↦ was q (met.resolved q h) | inr same ↦ subst (λ r. IsResolved a es base level at after r) same is_new ];
         leaves = λ q there. let k = met.leaves q there in record { seen = still q k.seen; below = k.below; left = k.left };
+        apart = λ q there leaf. late_more s.resolved q (met.leaves q leaf).seen (λ h. met.apart q h leaf) there;
         kept_once = met.kept_once;
         resolved_once = once_more s.resolved place met.resolved_once (late s.resolved (λ q h. (met.resolved q h).seen));
         leaves_once = met.leaves_once;
@@ -347,6 +350,7 @@ module _ (a : Arena) (es : List Entry) (base level at : ℕ) (s : State) (met : 
         };
         leaves = λ q there. elim (Contains-push_cases s.leaves place q there)
             [ inl h ↦ was q (met.leaves q h) | inr same ↦ subst (λ r. IsLeaf es base level after r) same is_new ];
+        apart = λ q there leaf. late_more s.leaves q (met.resolved q there).seen (met.apart q there) leaf;
         kept_once = met.kept_once;
         resolved_once = met.resolved_once;
         leaves_once = once_more s.leaves place met.leaves_once (late s.leaves (λ q h. (met.leaves q h).seen));

@@ -21,6 +21,9 @@ module _ (a : Arena) (es : List Entry) (base level place : ℕ) (s : State) (kep
   place_kept : Contains s.kept place
   place_kept = subst (λ ps. Contains ps place) (sym is) (Contains-push kept place)
 
+  kept_here : (q : ℕ) → place ≡ q → Contains s.kept q
+  kept_here q same = subst (λ p. Contains s.kept p) same place_kept
+
   once_kept : OnlyOnce s.kept → OnlyOnce (kept ++ place ∷ [])
   once_kept once = subst OnlyOnce is once
 
@@ -44,6 +47,8 @@ module _ (a : Arena) (es : List Entry) (base level place : ℕ) (s : State) (kep
         resolved = λ q there. elim (Contains-push_cases s.resolved place q there)
             [ inl h ↦ was q (m.resolved q h) | inr same ↦ subst (λ p. IsResolved a es base level at after p) same is_new ];
         leaves = λ q there. let k = m.leaves q there in record { seen = k.seen; below = k.below; left = k.left };
+        apart = λ q there leaf. elim (Contains-push_cases s.resolved place q there)
+            [ inl h ↦ m.apart q h leaf | inr same ↦ (m.kept q (kept_here q same)).no_leaf leaf ];
         kept_once = once_front kept place (once_kept m.kept_once);
         resolved_once = once_more s.resolved place m.resolved_once (m.kept place place_kept).not_resolved;
         leaves_once = m.leaves_once;
@@ -95,6 +100,8 @@ module _ (a : Arena) (es : List Entry) (base level place : ℕ) (s : State) (kep
         resolved = λ q there. let k = m.resolved q there in record { seen = k.seen; reason = k.reason; away = k.away };
         leaves = λ q there. elim (Contains-push_cases s.leaves place q there)
             [ inl h ↦ was q (m.leaves q h) | inr same ↦ subst (λ p. IsLeaf es base level after p) same is_new ];
+        apart = λ q there leaf. elim (Contains-push_cases s.leaves place q leaf)
+            [ inl h ↦ m.apart q there h | inr same ↦ (m.kept q (kept_here q same)).not_resolved there ];
         kept_once = once_front kept place (once_kept m.kept_once);
         resolved_once = m.resolved_once;
         leaves_once = once_more s.leaves place m.leaves_once (m.kept place place_kept).no_leaf;

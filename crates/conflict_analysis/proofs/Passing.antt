@@ -57,6 +57,7 @@ module _ (a : Arena) (es : List Entry) (base level place : ℕ) where
             kept = m.kept;
             resolved = λ q there. let k = m.resolved q there in record { seen = k.seen; reason = k.reason; away = away q k.away };
             leaves = m.leaves;
+            apart = m.apart;
             kept_once = m.kept_once;
             resolved_once = m.resolved_once;
             leaves_once = m.leaves_once;
@@ -133,6 +134,10 @@ module _ (a : Arena) (es : List Entry) (base level place : ℕ) where
             resolved = λ q there. elim (Contains-push_cases mid.resolved place q there)
                 [ inl h ↦ was q (m.resolved q h) | inr same ↦ subst (λ p. IsResolved a es base level place after p) same is_new ];
             leaves = λ q there. let k = m.leaves q there in record { seen = k.seen; below = k.below; left = k.left };
+            apart = λ q there leaf. elim (Contains-push_cases mid.resolved place q there) [
+              | inl h ↦ m.apart q h leaf
+              | inr same ↦ (let low = (m.leaves q leaf).below in omega (arith, same, top, low))
+            ];
             kept_once = m.kept_once;
             resolved_once = once_more mid.resolved place m.resolved_once not_yet;
             leaves_once = m.leaves_once;

@@ -7,6 +7,7 @@ use Rattle.clause_arena.specs.Arenas.{Arena}
 use Rattle.search_trail.specs.Trails.{Trail, entries_up_to, lits_of, undone}
 use Rattle.refutation_log.specs.Follows.{AreEarlier, Follows, clauses_at}
 use Rattle.refutation_log.specs.Counted.{IsUnit}
+use Rattle.lean_hints.specs.Lean.{AreLean}
 use Rattle.watch_propagate.specs.WatchRule.{IsDueTo}
 
 -- over so many variables: a clause, the numbers of the clauses by which it follows, in the order in which they are
@@ -40,11 +41,12 @@ pub record IsOfLevel (a : Arena) (t : Trail) (clause : ℕ) : Type 0 where
 
 -- ---- what is learned
 
--- a clause of a trail's variables, with no literal twice, follows with its hints, none of which stands twice
+-- a clause of a trail's variables, with no literal twice, follows with its hints, no hint twice, and each but the last adds a
+-- literal
 pub record IsDerived (a : Arena) (t : Trail) (lits : List Lit) (hints : List ℕ) : Type 0 where
   pub known : AreEarlier a.clauses hints
   pub follows : Follows lits (clauses_at a.clauses hints)
-  pub hints_once : OnlyOnce hints
+  pub lean : AreLean a.clauses lits hints
   pub lits_once : OnlyOnce lits
   pub within : All (λ lit. var_of lit < t.vars) lits
 

@@ -136,12 +136,14 @@ pub record IsLeaf (entries : List Entry) (base level : ℕ) (s : State) (place :
   pub below : place < level
   pub left : (base ≤ place) ⊎ (reason_of entries place ≡ None)
 
--- each place that was met is in one list, once; places of the current level are resolved from one place on, and wait below it
+-- each place that was met is in one list alone, once; those of the current level are resolved from one place on, and wait
+-- below it
 pub record AreMet (a : Arena) (entries : List Entry) (base level at : ℕ) (s : State) : Type 0 where
   pub fate : (place : ℕ) → IsSeen s.seen place → Fate level at s place
   pub kept : (place : ℕ) → Contains s.kept place → IsKept base level s place
   pub resolved : (place : ℕ) → Contains s.resolved place → IsResolved a entries base level at s place
   pub leaves : (place : ℕ) → Contains s.leaves place → IsLeaf entries base level s place
+  pub apart : (place : ℕ) → Contains s.resolved place → Contains s.leaves place → ⊥
   pub kept_once : OnlyOnce s.kept
   pub resolved_once : OnlyOnce s.resolved
   pub leaves_once : OnlyOnce s.leaves
@@ -248,13 +250,14 @@ pub record Starts (a : Arena) (entries : List Entry) (base level clause : ℕ) (
   pub is_clause : slice_get a.clauses clause ≡ Some lits
   pub seen : AreSeen entries s.seen 0 lits
 
--- in the end each place that was met is resolved, with its reason's, or is in the clause, or is of the current level
+-- in the end each place that was met is either resolved, with its reason's, or in the clause, or it is of the current level
 -- and below a place
 pub record IsEnded (a : Arena) (entries : List Entry) (base level at : ℕ) (s : State) : Type 0 where
   pub none_kept : s.kept ≡ []
   pub fate : (place : ℕ) → IsSeen s.seen place → Fate level at s place
   pub leaves : (place : ℕ) → Contains s.leaves place → IsLeaf entries base level s place
   pub leaves_once : OnlyOnce s.leaves
+  pub apart : (place : ℕ) → Contains s.resolved place → Contains s.leaves place → ⊥
   pub rises : Rises s.resolved
   pub closed : (place : ℕ) → Contains s.resolved place → HasSeen a entries s.seen 0 place
   pub away : (place : ℕ) → Contains s.resolved place → (place < level) ⊎ (at ≤ place)
@@ -318,5 +321,7 @@ pub record IsLaw (lit : ℕ → Lit) (clause : ℕ → List Lit) (learned : List
   pub is_in : (p : ℕ) → Contains places p → Contains (clause p) (lit p)
   pub others : (p : ℕ) (o : Lit) → Contains places p → Contains (clause p) o → o ≢ lit p → IsCovered lit learned places p o
   pub fresh : (p : ℕ) → Contains places p → Contains learned (lit p) → ⊥
+  pub new : (p : ℕ) → Contains places p → Contains learned (negation (lit p)) → ⊥
   pub apart : (p q : ℕ) → Contains places p → Contains places q → lit p ≡ negation (lit q) → ⊥
+  pub once : (p q : ℕ) → Contains places p → Contains places q → lit p ≡ lit q → p ≡ q
   pub closed : (o : Lit) → Contains last o → Contains learned o ⊎ ((q : ℕ) × Contains places q × (o ≡ negation (lit q)))

@@ -41,15 +41,13 @@ impl Analysis {
     pub fn new(alloc: Global, vars: u32) -> Result<Analysis, NoMemory>
         ensures vars { IfOk result (λ a. a.vars ≡ vars) }
     {
-        match Resolution::new(alloc, vars) {
-            Ok(found) => Ok(Analysis {
-                found,
-                lits: Vec::new(alloc),
-                hints: Vec::new(alloc),
-                back: 0,
-            }),
-            Err(error) => Err(error),
-        }
+        let found = Resolution::new(alloc, vars)?;
+        Ok(Analysis {
+            found,
+            lits: Vec::new(alloc),
+            hints: Vec::new(alloc),
+            back: 0,
+        })
     }
 
     /// The literals of the clause.
@@ -83,8 +81,9 @@ impl Analysis {
     /// Learns a clause from a conflict at the current level, which is not 0, by the first unique implication point
     /// (Zhang, Madigan, Moskewicz, Malik, 2001): literals of that level are resolved with their reasons, the last one
     /// first, until one is left. Literals that the others imply are resolved too (self-subsumption: Sörensson, Biere,
-    /// 2009), and so are those of level 0, so that the hints tell all that was used. The clause has the literal of the
-    /// current level first, and of the others one of the highest level second.
+    /// 2009), and so are those of level 0, so that the hints tell all that was used: no hint twice, and each but the last
+    /// adds a literal. The clause has the literal of the current level first, and of the others one of the highest level
+    /// second.
     pub fn learn(
         &mut self,
         arena: &Arena,
@@ -100,20 +99,15 @@ impl Analysis {
         ensures vars { self.new.vars ≡ self.old.vars }
         ensures learned { OnOk result (IsLearned arena.now trail.now self.new) }
     {
-        match learn_clause(
+        self.back = learn_clause(
             &mut self.found,
             &mut self.lits,
             &mut self.hints,
             arena,
             trail,
             conflict,
-        ) {
-            Ok(back) => {
-                self.back = back;
-                Ok(())
-            }
-            Err(error) => Err(error),
-        }
+        )?;
+        Ok(())
     }
 
     /// Derives a clause from a conflict by resolving each literal that was implied: what is left are negations of

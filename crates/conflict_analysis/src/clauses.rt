@@ -34,10 +34,7 @@ pub(crate) fn meet_all(
     ensures ok { OnOk result (MeetsAll trail.now.entries bounds.base bounds.level lits.now found.old found.new) }
 {
     for lit in lits {
-        match meet_lit(found, trail, bounds, *lit) {
-            Ok(()) => {}
-            Err(error) => return Err(error),
-        }
+        meet_lit(found, trail, bounds, *lit)?;
     }
     Ok(())
 }

@@ -50,14 +50,8 @@ pub(crate) fn lead(
     ensures ok { OnOk result (IsLed arena.now trail.now.entries bounds.base bounds.level conflict.0 found.new) }
 {
     trail.are_entries();
-    match start(found, arena, trail, bounds, conflict) {
-        Ok(()) => {}
-        Err(error) => return Err(error),
-    }
-    match walk(found, arena, trail, bounds) {
-        Ok(()) => {}
-        Err(error) => return Err(error),
-    }
+    start(found, arena, trail, bounds, conflict)?;
+    walk(found, arena, trail, bounds)?;
     let at = found.low() + 1;
     complete(found, arena, trail, bounds, at)
 }
@@ -79,10 +73,7 @@ pub(crate) fn explain(
     ensures ok { OnOk result (IsEndedFor arena.now trail.now.entries bounds.base bounds.level bounds.level conflict.0 found.new) }
 {
     trail.are_entries();
-    match start(found, arena, trail, bounds, conflict) {
-        Ok(()) => {}
-        Err(error) => return Err(error),
-    }
+    start(found, arena, trail, bounds, conflict)?;
     complete(found, arena, trail, bounds, bounds.level)
 }
 
@@ -107,13 +98,7 @@ pub(crate) fn explain_place(
         level: place,
     };
     found.clear();
-    match found.meet(trail, bounds, place) {
-        Ok(()) => {}
-        Err(error) => return Err(error),
-    }
-    match meet_reason(found, arena, trail, bounds, place) {
-        Ok(()) => {}
-        Err(error) => return Err(error),
-    }
+    found.meet(trail, bounds, place)?;
+    meet_reason(found, arena, trail, bounds, place)?;
     complete(found, arena, trail, bounds, trail.assigned().len() as u32)
 }

@@ -39,14 +39,8 @@ pub(crate) fn learn_clause(
         base: trail.start(1),
         level: trail.start(trail.depth()),
     };
-    match lead(found, arena, trail, bounds, conflict) {
-        Ok(()) => {}
-        Err(error) => return Err(error),
-    }
-    match write_hints(hints, trail, found.resolved(), conflict) {
-        Ok(()) => {}
-        Err(error) => return Err(error),
-    }
+    lead(found, arena, trail, bounds, conflict)?;
+    write_hints(hints, trail, found.resolved(), conflict)?;
     write_learned(lits, trail, found.low(), found.leaves())
 }
 
@@ -72,14 +66,8 @@ pub(crate) fn explain_clause(
         base: end,
         level: end,
     };
-    match explain(found, arena, trail, bounds, conflict) {
-        Ok(()) => {}
-        Err(error) => return Err(error),
-    }
-    match write_hints(hints, trail, found.resolved(), conflict) {
-        Ok(()) => {}
-        Err(error) => return Err(error),
-    }
+    explain(found, arena, trail, bounds, conflict)?;
+    write_hints(hints, trail, found.resolved(), conflict)?;
     lits.clear();
     spell_all(lits, trail, found.leaves(), end)
 }
@@ -106,14 +94,8 @@ pub(crate) fn explain_unit(
     let Some(clause) = reason_at(trail, place) else {
         unreachable!();
     };
-    match explain_place(found, arena, trail, place) {
-        Ok(()) => {}
-        Err(error) => return Err(error),
-    }
-    match write_hints(hints, trail, found.resolved(), clause) {
-        Ok(()) => {}
-        Err(error) => return Err(error),
-    }
+    explain_place(found, arena, trail, place)?;
+    write_hints(hints, trail, found.resolved(), clause)?;
     lits.clear();
     push_lit(lits, lit)
 }

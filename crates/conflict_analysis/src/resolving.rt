@@ -52,10 +52,8 @@ fn pass(
     if !found.is_met(place) {
         return Ok(());
     }
-    match meet_reason(found, arena, trail, bounds, place) {
-        Ok(()) => found.resolve(place),
-        Err(error) => Err(error),
-    }
+    meet_reason(found, arena, trail, bounds, place)?;
+    found.resolve(place)
 }
 
 /// Resolves the literals of the current level that were met, the last one first, until one is left: the first unique
@@ -79,10 +77,7 @@ pub(crate) fn walk(
     let mut at = trail.assigned().len() as u32;
     while at > found.low() + 1 {
         at -= 1;
-        match pass(found, arena, trail, bounds, at) {
-            Ok(()) => {}
-            Err(error) => return Err(error),
-        }
+        pass(found, arena, trail, bounds, at)?;
     }
     Ok(())
 }
@@ -138,10 +133,7 @@ pub(crate) fn minimize(
     ensures ok { OnOk result (Minimizes arena.now trail.now.entries bounds.base bounds.level found.old found.new) }
 {
     while let Some(place) = found.pop_kept() {
-        match minimize_at(found, arena, trail, bounds, place) {
-            Ok(()) => {}
-            Err(error) => return Err(error),
-        }
+        minimize_at(found, arena, trail, bounds, place)?;
     }
     Ok(())
 }
@@ -189,10 +181,7 @@ pub(crate) fn close_all(
     let mut done = 0;
     while done < found.resolved().len() {
         let place = found.resolved()[done];
-        match close(found, arena, trail, bounds, at, place) {
-            Ok(()) => {}
-            Err(error) => return Err(error),
-        }
+        close(found, arena, trail, bounds, at, place)?;
         done += 1;
     }
     Ok(())
@@ -215,14 +204,8 @@ pub(crate) fn complete(
     ensures long { length found.new.seen ≡ length found.old.seen }
     ensures ok { OnOk result (Completes arena.now trail.now.entries bounds.base bounds.level at found.old found.new) }
 {
-    match minimize(found, arena, trail, bounds) {
-        Ok(()) => {}
-        Err(error) => return Err(error),
-    }
-    match close_all(found, arena, trail, bounds, at) {
-        Ok(()) => {}
-        Err(error) => return Err(error),
-    }
+    minimize(found, arena, trail, bounds)?;
+    close_all(found, arena, trail, bounds, at)?;
     found.sort();
     Ok(())
 }

@@ -48,10 +48,7 @@ pub(crate) fn spell_all(
     ensures { OnOk result (lits.new.items ≡ lits.old.items ++ map (negated trail.now.entries) (without except places.now)) }
 {
     for place in places {
-        match spell(lits, trail, *place, except) {
-            Ok(()) => {}
-            Err(error) => return Err(error),
-        }
+        spell(lits, trail, *place, except)?;
     }
     Ok(())
 }
@@ -77,21 +74,13 @@ pub(crate) fn write_learned(
     ensures { IfOk result (IsWritten trail.now point leaves.now lits.new.items) }
 {
     lits.clear();
-    match push_lit(lits, negated_at(trail, point)) {
-        Ok(()) => {}
-        Err(error) => return Err(error),
-    }
+    push_lit(lits, negated_at(trail, point))?;
     let Some(second) = highest(leaves) else {
         return Ok(0);
     };
-    match push_lit(lits, negated_at(trail, second)) {
-        Ok(()) => {}
-        Err(error) => return Err(error),
-    }
-    match spell_all(lits, trail, leaves, second) {
-        Ok(()) => Ok(level_at(trail, second)),
-        Err(error) => Err(error),
-    }
+    push_lit(lits, negated_at(trail, second))?;
+    spell_all(lits, trail, leaves, second)?;
+    Ok(level_at(trail, second))
 }
 
 // The number of the clause that implied the literal at a place.
@@ -117,10 +106,7 @@ pub(crate) fn write_hints(
 {
     hints.clear();
     for place in places {
-        match push(hints, number_at(trail, *place)) {
-            Ok(()) => {}
-            Err(error) => return Err(error),
-        }
+        push(hints, number_at(trail, *place))?;
     }
     push(hints, last.0)
 }

@@ -41,7 +41,7 @@ use Rattle.report_verify.specs.Asked.{query_of}
 use Rattle.report_verify.specs.Supported.{Claim, IsDerived, IsOneOf, IsSupported, Need, needs_of}
 use Rattle.report_verify.specs.Supported.Claim.{Holds, HasValue, HasAnswer}
 use Rattle.report_model.specs.Writable.{IsWritableVerdict}
-use Rattle.search_logs.specs.Laws.{CompletionsAreWritable, LogsAreAccepted, LogsAreInPlace, TrimmedAreAmong, TrimmedAreNoMore, TrimmedAreReached, TrimmedAreUsed, TrimmedAreWritable}
+use Rattle.search_logs.specs.Laws.{CompletionsAreWritable, LogsAreAccepted, LogsAreInPlace, TrimmedAreAmong, TrimmedAreNoMore, TrimmedAreReached, TrimmedAreRight, TrimmedAreUsed, TrimmedAreWritable}
 use Rattle.search_logs.specs.SearchLogs.{HasFewSteps}
 use Rattle.spec_model.specs.Completion.{Rankings}
 use Rattle.spec_model.specs.Consistent.{IsConsistent}
@@ -73,6 +73,7 @@ pub record ClaimLaws : Type 0 where
   pub reached : TrimmedAreReached
   pub used : TrimmedAreUsed
   pub no_more : TrimmedAreNoMore
+  pub right : TrimmedAreRight
   pub completions : CompletionsAreWritable
   pub orders : OrdersAgree
   pub values : ValuesAgree
@@ -293,7 +294,7 @@ module _ (laws : ClaimLaws) (seen : Search) (is : IsSearch seen) (few : HasFewSt
       goals = trimmed.goals;
       one_each = as_many ∙ are.as_many;
       units = units_of (needs_of q v) are;
-      needed = needed_of laws.reached laws.used laws.no_more budget seen.log steps trimmed in_place t within;
+      needed = needed_of laws.reached laws.used laws.no_more laws.right budget seen steps trimmed is in_place t within;
       among = among_of laws.among laws.no_more q seen steps trimmed is for_it few t;
     }
 

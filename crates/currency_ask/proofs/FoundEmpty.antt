@@ -19,7 +19,7 @@ use Rattle.report_model.specs.declared.verdict.Verdict.TheVariants.{Inconsistent
 use Rattle.report_verify.specs.Asked.{query_of}
 use Rattle.report_verify.specs.Supported.{HasEmpty}
 use Rattle.report_model.specs.Writable.{AllCover, IsWritableCompletion}
-use Rattle.search_logs.specs.Laws.{LogsAreAccepted, LogsAreInPlace, TrimmedAreAmong, TrimmedAreNoMore, TrimmedAreReached, TrimmedAreUsed, TrimmedAreWritable}
+use Rattle.search_logs.specs.Laws.{LogsAreAccepted, LogsAreInPlace, TrimmedAreAmong, TrimmedAreNoMore, TrimmedAreReached, TrimmedAreRight, TrimmedAreUsed, TrimmedAreWritable}
 use Rattle.search_logs.specs.SearchLogs.{HasFewSteps}
 use Rattle.spec_model.specs.Completion.{Rankings}
 use Rattle.spec_model.specs.Consistent.{IsConsistent}
@@ -41,6 +41,7 @@ pub record EmptyLaws : Type 0 where
   pub reached : TrimmedAreReached
   pub used : TrimmedAreUsed
   pub no_more : TrimmedAreNoMore
+  pub right : TrimmedAreRight
 
 -- the log of a search with few steps, one of which is the empty clause
 pub record HasEmptyStep (seen : Search) (log : Log) (place : ℕ) : Type 0 where
@@ -83,12 +84,12 @@ has_empty log place empty =
 
 is_of_empty : (s : Spec) (q : Question) (budget : ℕ) (log : Log) (place : ℕ) (trimmed : Trimmed)
     → (t : IsTrimmed log (place ∷ []) trimmed) → slice_get (clauses_of trimmed.log.steps) (rank t.step_kept place) ≡
-    Some [] → IsNeeded budget trimmed.log trimmed.goals → AreAmong s q trimmed.log
+    Some [] → IsNeeded s budget trimmed.log trimmed.goals → AreAmong s q trimmed.log
     → IsOfEmpty s q budget trimmed.log
 is_of_empty s q budget log place trimmed t empty needed among = record {
   goal = rank t.step_kept place;
   is_empty = empty;
-  needed = subst (IsNeeded budget trimmed.log) t.new_goals needed;
+  needed = subst (IsNeeded s budget trimmed.log) t.new_goals needed;
   among = among;
 }
 
@@ -121,7 +122,7 @@ trimmed_reported laws seen place trimmed q budget completions for_it within is f
   lists = (
     none,
     is_of_empty seen.spec q budget seen.log place trimmed t stays
-        (needed_of laws.reached laws.used laws.no_more budget seen.log (place ∷ []) trimmed in_place t within)
+        (needed_of laws.reached laws.used laws.no_more laws.right budget seen (place ∷ []) trimmed is in_place t within)
         (among_of laws.among laws.no_more q seen (place ∷ []) trimmed is for_it few t),
   );
   enough = λ count counts enough. refl;

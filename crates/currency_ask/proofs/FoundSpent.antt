@@ -1,7 +1,6 @@
 -- The report of a search that took the whole budget.
-use Rattle.std.proofs.Common.{◌≡◌, ◌∙◌, ◌<◌, ◌≤◌, ◌^◌, ℕ, false, List, [], All, Contains, None, length, refl, sym, ap, subst, inl, inr, arith}
+use Rattle.std.proofs.Common.{◌≡◌, ◌∙◌, ◌<◌, ◌≤◌, ◌^◌, ℕ, List, [], All, Contains, None, length, refl, sym, ap, subst, inl, inr, arith}
 use Rattle.std.proofs.lemmas.List.Elements.{All-nil, Contains-append_left}
-use Rattle.currency_base.specs.declared.lit.Lit.{Lit}
 use Rattle.currency_base.specs.declared.value.Value.{Value}
 use Rattle.axiom_agreement.specs.Agreement.{AxiomsAreWhole, HasAxioms}
 use Rattle.refutation_log.specs.Numbered.{IsNumbered}
@@ -13,20 +12,18 @@ use Rattle.order_search.specs.Searches.{BeginsWithAxioms, IsSearch, Search}
 use Rattle.refutation_log.specs.Counted.{AreWithin, CountedAreNew, counted_steps}
 use Rattle.refutation_log.specs.declared.log.Log.{Log}
 use Rattle.refutation_log.specs.declared.statement.Statement.{Statement}
-use Rattle.refutation_log.specs.declared.step.Label.{Label}
 use Rattle.refutation_log.specs.declared.step.Step.{Step}
 use Rattle.refutation_log.specs.declared.step.Step.TheVariants as step
 use Rattle.report_model.specs.declared.verdict.Verdict.TheVariants.{Undecided}
 use Rattle.report_model.specs.Writable.{AllCover, IsWritableCompletion}
-use Rattle.search_logs.specs.Laws.{LogsAreAccepted, LogsAreInPlace, LogsAreWritable}
-use Rattle.search_logs.specs.Free.{IsFreeClause}
-use Rattle.search_logs.specs.SearchLogs.{HasFewSteps, IsMatchStep, variables}
+use Rattle.search_logs.specs.Laws.{LogsAreAccepted, LogsAreInPlace, LogsAreWritable, SearchLogsAreRight}
+use Rattle.search_logs.specs.SearchLogs.{HasFewSteps, variables}
 use Rattle.spec_model.specs.Completion.{Rankings}
 use Rattle.spec_model.specs.Consistent.{IsConsistent}
 use Rattle.spec_model.specs.Facts.{IsSpecification}
 use Rattle.spec_model.specs.Spec.{Spec}
 use Rattle.spec_model.specs.declared.question.Question.{Question}
-use Rattle.currency_ask.specs.Answered.{AreNumberedAnswers, CountsAnswers, IsCutOff, IsMatchLabel, currents_of, wanted_of}
+use Rattle.currency_ask.specs.Answered.{AreNumberedAnswers, CountsAnswers, IsCutOff, currents_of, wanted_of}
 use Rattle.currency_ask.specs.Reported.{HasSpent, IsReported, IsSearchFor}
 use Rattle.currency_ask.proofs.NoCompletions.{few_none}
 use Rattle.currency_ask.proofs.Wants.{accepted_for, answers_are, statements_are, wanted_is}
@@ -36,6 +33,7 @@ pub record SpentLaws : Type 0 where
   pub accepted : LogsAreAccepted
   pub in_place : LogsAreInPlace
   pub writable : LogsAreWritable
+  pub right : SearchLogsAreRight
   pub whole : AxiomsAreWhole
   pub few_counted : (statements : ℕ) (steps : List Step) → AreWithin statements steps → CountedAreNew steps
       → counted_steps steps < 3 ^ statements
@@ -49,11 +47,6 @@ axioms_stay law s wanted steps facts begins posed l clause of is =
       subst (λ (all : List Step). Contains all (step.Axiom l first.0)) (sym begins.steps_are)
           (Contains-append_left begins.axioms begins.later (step.Axiom l first.0) first.1),
     )
-
--- what a match's step says of its label
-demanded_match : (seen : Search) (l : Label) (lits : List Lit)
-    → IsMatchStep seen.spec seen.posed (variables seen.spec seen.wanted) l lits → IsMatchLabel l
-demanded_match seen l lits is = subst IsMatchLabel (sym is.is_match) tt
 
 -- a budget that decides the question is not spent: its variables are those with no answer, or with the answers over a
 -- consistent completion
@@ -125,12 +118,7 @@ spent_reported laws seen q budget log completions fits for_it is few spent same 
     cut_off = record {
       counted = spent.counted;
       counted_new = is.counted_new;
-      counted_right = record {
-        demanded = λ place l lits at. demanded_match seen l lits (is.log.steps place (step.OnDemand l lits) at);
-        free = λ place lits hints at.
-            subst (λ (statements : List Statement). IsFreeClause seen.spec statements lits) (sym is.log.statements)
-            ((is.log.steps place (step.Learn lits hints false) at).free refl);
-      };
+      right = laws.right seen.spec seen.posed seen.wanted seen.log is.log;
       open_log = spent.open_log;
       begins = subst (λ (w : Wanted). BeginsWithAxioms seen.spec w seen.log.steps) wanted_now is.begins;
       axioms = axioms_stay laws.whole seen.spec seen.wanted seen.log.steps is.within.specification is.begins;

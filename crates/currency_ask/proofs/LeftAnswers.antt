@@ -1,14 +1,16 @@
 -- The answers that are left: their goals, their units, and that they are claimed.
-use Rattle.std.proofs.Common.{◌≡◌, ◌⊎◌, ◌<◌, ◌≤◌, ◌+◌, ◌∙◌, ℕ, zero, suc, Bool, true, false, not, List, [], ◌∷◌, All, Some, length, map, slice_get, slice_index_or, refl, sym, ap, subst, inl, inr, arith}
+use Rattle.std.proofs.Common.{◌≡◌, ◌⊎◌, ◌<◌, ◌≤◌, ◌+◌, ◌∙◌, ℕ, zero, suc, Bool, true, false, not, List, [], ◌∷◌, ◌++◌, All, Some, length, map, slice_get, slice_index_or, refl, sym, ap, subst, inl, inr, arith}
 use Rattle.std.specs.List.{range_with_len}
 use Rattle.std.proofs.lemmas.Bool.{false≢true}
-use Rattle.std.proofs.lemmas.List.{length-map}
+use Rattle.std.proofs.lemmas.List.{length-append, length-map}
 use Rattle.std.proofs.lemmas.List.Elements.{All-filter, filter_passes}
 use Rattle.std.proofs.lemmas.List.Sums.{count_by-le-length, length-filter}
 use Rattle.std.proofs.lemmas.List.FromFn.{get_or-range_with_len, length-range_with_len}
 use Rattle.std.proofs.lemmas.Option.{same_Some, slice_get-get_or}
 use Rattle.answer_candidates.specs.Candidates.{AreCandidates, EachRefutes, LeftAreCommon, Standing, is_left, left_of, left_tuples}
-use Rattle.certain_answers.specs.Deciding.{AreDecidedUpTo, IsProved as HasItsUnit}
+use Rattle.certain_answers.specs.Deciding.{AreDecidedUpTo, IsDecided}
+use Rattle.certain_answers.specs.declared.decisions.Decision.{Decision}
+use Rattle.certain_answers.specs.declared.decisions.Decision.TheVariants.{Gone, Proved}
 use Rattle.currency_base.specs.declared.value.Value.{Value}
 use Rattle.refutation_log.specs.Writable.{AreFew}
 use Rattle.order_search.specs.Searches.{IsSearch, Search}
@@ -22,11 +24,12 @@ use Rattle.spec_model.specs.Spec.{Spec}
 use Rattle.spec_model.specs.declared.question.Question.TheVariants as asked
 use Rattle.currency_base.specs.Values.{IsValue}
 use Rattle.currency_ask.specs.Answered.{EachLacksOne}
+use Rattle.currency_ask.specs.Answering.{AreUnitsAt, IsProvedAt, IsProvedBy}
 use Rattle.currency_ask.specs.Goals.{AreClaims, AreProved, IsClaimOf, IsGoalOn, IsProved}
 use Rattle.currency_ask.specs.Reported.{IsListedFor}
 use Rattle.currency_ask.specs.declared.goal.Goal.{Goal}
 use Rattle.currency_ask.specs.declared.goal.Goal.TheVariants.{Answer}
-use Rattle.currency_ask.proofs.Places.{each_has, item_has}
+use Rattle.currency_ask.proofs.Places.{at_push, each_has, item_at, item_has}
 use Rattle.currency_ask.proofs.GoalFacts.{at_map}
 
 -- ---- places that are left
@@ -62,7 +65,7 @@ left_few gone =
           0 (length gone),
     )
 
--- the places that are left are within the tuples, and within the steps
+-- the places that are left are within the tuples
 pub left_within : (standing : Standing) (n : ℕ) (places : List ℕ) → length standing.gone ≡ n
     → places ≡ left_of standing.gone → All (λ place. place < n) places
 left_within standing n places many are =
@@ -85,16 +88,34 @@ need_at n (tuple ∷ tuples) (suc k) need at = need_at (n + 1) tuples k need at
 
 -- ---- the answers that are left
 
--- a search in which the tuples are posed, and whose steps decide them
-pub record AreDecided (search : Search) (s : Spec) (query : Query) (standing : Standing) (steps : List ℕ) : Type 0 where
+-- a search in which the tuples are posed, and in which each is decided
+pub record AreDecided (search : Search) (s : Spec) (query : Query) (standing : Standing) (decisions : List Decision) : Type 0 where
   pub search_is : IsSearch search
   pub spec : search.spec ≡ s
   pub posed : search.posed.answers ≡ standing.tuples
   pub candidates : AreCandidates s query standing
-  pub decided : AreDecidedUpTo search standing (length standing.tuples) steps
+  pub decided : AreDecidedUpTo search standing (length standing.tuples) decisions
 
-module _ (search : Search) (s : Spec) (query : Query) (standing : Standing) (steps : List ℕ)
-    (are : AreDecided search s query standing steps) where
+-- one unit more
+pub units_more : (decisions : List Decision) (places : List ℕ) (at place : ℕ) (old new : List ℕ) (step : ℕ)
+    → AreUnitsAt decisions places at old → slice_get places at ≡ Some place → IsProvedBy decisions place step
+    → new ≡ old ++ step ∷ [] → AreUnitsAt decisions places (at + 1) new
+units_more decisions places at place old new step are there proved push = record {
+  as_many = ap length push ∙ length-append old (step ∷ []) ∙ ap (λ n. n + 1) are.as_many;
+  each = λ k one unit at_k here. pick k one unit at_k
+      (at_push old step k unit (ap (λ us. slice_get us k) (sym push) ∙ here));
+}
+  where
+    pick : (k one unit : ℕ) → slice_get places k ≡ Some one → (slice_get old k ≡ Some unit) ⊎
+        ((k ≡ length old) × (step ≡ unit)) → IsProvedBy decisions one unit
+    pick k one unit at_k (inl before) = are.each k one unit at_k before
+    pick k one unit at_k (inr last) =
+        let same : place ≡ one = same_Some place one (sym there
+        ∙ ap (λ i. slice_get places i) (sym (last.0 ∙ are.as_many)) ∙ at_k) in
+        subst (λ p. IsProvedBy decisions p unit) same (subst (IsProvedBy decisions place) last.1 proved)
+
+module _ (search : Search) (s : Spec) (query : Query) (standing : Standing) (decisions : List Decision)
+    (are : AreDecided search s query standing decisions) where
   left : List ℕ
   left = left_of standing.gone
 
@@ -117,28 +138,29 @@ module _ (search : Search) (s : Spec) (query : Query) (standing : Standing) (ste
       let many = ap (λ (xs : List (List Value)). length xs) are.posed in
       subst (IsGoalOn search.spec search.wanted) (sym found.2) (omega (arith, below, many, are.search_is.log.as_many)))
 
-  -- a candidate that is not gone has its unit
-  has_unit : (place step : ℕ) → slice_get standing.gone place ≡ Some false →
-      (slice_get standing.gone place ≡ Some true) ⊎ HasItsUnit search place step
-      → IsProved search (Answer place) step
-  has_unit place step stays (inl gone) = absurd (false≢true (same_Some false true (sym stays ∙ gone)))
-  has_unit place step stays (inr unit) = record { lit = unit.lit; says = unit.says; is_unit = unit.is_unit }
+  -- a candidate that is not gone is proved
+  proved_at : (place : ℕ) (decision : Decision) → slice_get standing.gone place ≡ Some false
+      → slice_get decisions place ≡ Some decision → IsDecided search standing place decision
+      → IsProvedAt decisions place
+  proved_at place Gone stays at gone = absurd (false≢true (same_Some false true (sym stays ∙ gone)))
+  proved_at place (Proved step) stays at unit = (step, at)
 
-  pub units_are : AreProved search (map Answer (left_of standing.gone)) (map (λ place. slice_index_or steps place 0)
-      (left_of standing.gone))
-  units_are = record {
-    as_many = length-map (left_of standing.gone) (λ place. slice_index_or steps place 0)
-        ∙ sym (length-map (left_of standing.gone) Answer);
+  pub left_are_proved : All (IsProvedAt decisions) (left_of standing.gone)
+  left_are_proved =
+      each_has (IsProvedAt decisions) (left_of standing.gone) (λ k place at.
+      let below = within k place at in
+      let found = item_at decisions place (omega (arith, below, are.decided.as_many)) in
+      proved_at place found.0 (at_left k place at).1 found.1 (are.decided.each place found.0 found.1))
+
+  pub units_are : (units : List ℕ) → AreUnitsAt decisions (left_of standing.gone) (length (left_of standing.gone)) units
+      → AreProved search (map Answer (left_of standing.gone)) units
+  units_are units proved = record {
+    as_many = proved.as_many ∙ sym (length-map (left_of standing.gone) Answer);
     each = λ k goal step at_goal at_step.
         let found = at_map Answer (left_of standing.gone) k goal at_goal in
-        let unit = at_map (λ place. slice_index_or steps place 0) (left_of standing.gone) k step at_step in
-        let one : unit.0 ≡ found.0 = same_Some unit.0 found.0 (sym unit.1 ∙ found.1) in
-        let step_is : step ≡ slice_index_or steps found.0 0 = unit.2 ∙ ap (λ place. slice_index_or steps place 0) one in
-        let below = within k found.0 found.1 in
-        let there : slice_get steps found.0 ≡ Some step =
-        slice_get-get_or steps found.0 0 (omega (arith, below, are.decided.as_many)) ∙ ap (λ n. Some n) (sym step_is) in
+        let unit = are.decided.each found.0 (Proved step) (proved.each k found.0 step found.1 at_step) in
         subst (λ (g : Goal). IsProved search g step) (sym found.2)
-        (has_unit found.0 step (at_left k found.0 found.1).1 (are.decided.each found.0 step there));
+        (record { lit = unit.lit; says = unit.says; is_unit = unit.is_unit });
   }
 
   pub claims_are : AreClaims search.spec search.posed (map Answer (left_of standing.gone)) (answer_needs 0 (left_tuples standing))

@@ -11,9 +11,8 @@ use Rattle.order_literals.specs.declared.wanted.Wanted.{Wanted}
 use Rattle.order_search.specs.Searches.{IsSearch, Search}
 use Rattle.query_model.specs.declared.query.Query.{Query}
 use Rattle.refutation_log.specs.Counted.{counted_steps}
-use Rattle.refutation_log.specs.declared.log.Log.{Log}
 use Rattle.report_verify.specs.Asked.{query_of}
-use Rattle.search_logs.specs.Laws.{LogsAreAccepted, TrimmedAreAmong, TrimmedAreNoMore, TrimmedAreReached, TrimmedAreUsed}
+use Rattle.search_logs.specs.Laws.{LogsAreAccepted, TrimmedAreAmong, TrimmedAreNoMore, TrimmedAreReached, TrimmedAreRight, TrimmedAreUsed}
 use Rattle.search_logs.specs.SearchLogs.{HasFewSteps, variables}
 use Rattle.spec_model.specs.declared.question.Question.{Question}
 use Rattle.currency_ask.specs.Answered.{AreAmong, AreNumberedAnswers, IsNeeded, currents_of, variables_of, wanted_of}
@@ -56,14 +55,15 @@ among_of law no_more q seen goals trimmed is for_it few t = record {
 }
 
 -- what it is trimmed to is what the goals need
-pub needed_of : TrimmedAreReached → TrimmedAreUsed → TrimmedAreNoMore → (budget : ℕ) (log : Log) (goals : List ℕ)
-    (trimmed : Trimmed) → AreInPlace log goals → IsTrimmed log goals trimmed
-    → counted_steps log.steps ≤ budget → IsNeeded budget trimmed.log trimmed.goals
-needed_of reached used no_more budget log goals trimmed in_place t within = record {
-  reached = reached log goals trimmed in_place t;
-  statements = (used log goals trimmed t).statements;
-  answers = (used log goals trimmed t).answers;
-  counted = let less = (no_more log goals trimmed t).counted in omega (arith, less, within);
+pub needed_of : TrimmedAreReached → TrimmedAreUsed → TrimmedAreNoMore → TrimmedAreRight → (budget : ℕ) (seen : Search)
+    (goals : List ℕ) (trimmed : Trimmed) → IsSearch seen → AreInPlace seen.log goals → IsTrimmed seen.log goals trimmed
+    → counted_steps seen.log.steps ≤ budget → IsNeeded seen.spec budget trimmed.log trimmed.goals
+needed_of reached used no_more right budget seen goals trimmed is in_place t within = record {
+  reached = reached seen.log goals trimmed in_place t;
+  statements = (used seen.log goals trimmed t).statements;
+  answers = (used seen.log goals trimmed t).answers;
+  counted = let less = (no_more seen.log goals trimmed t).counted in omega (arith, less, within);
+  right = right seen.spec seen.posed seen.wanted seen.log goals trimmed is.log t;
 }
 
 -- the log is accepted where the question is asked

@@ -1,5 +1,5 @@
 -- What a report that answers a question has besides that it shows its verdict.
-use Rattle.std.specs.Prelude.{◌≡◌, ◌≢◌, ◌⊎◌, ◌<◌, ◌≤◌, ℕ, true, false, List, [], ◌∷◌, All, Contains, Some, length, slice_get, take}
+use Rattle.std.specs.Prelude.{◌≡◌, ◌≢◌, ◌⊎◌, ◌<◌, ◌≤◌, ℕ, true, List, [], ◌∷◌, All, Contains, Some, length, slice_get, take}
 use Rattle.certain_answers.specs.Deciding.{relations_of}
 use Rattle.currency_base.specs.declared.ids.AttrId.{AttrId}
 use Rattle.currency_base.specs.declared.ids.EntId.{EntId}
@@ -21,9 +21,6 @@ use Rattle.refutation_log.specs.Counted.{CountedAreNew, IsOpenLog, counted_steps
 use Rattle.refutation_log.specs.Steps.{clauses_of}
 use Rattle.refutation_log.specs.declared.log.Log.{Log}
 use Rattle.refutation_log.specs.declared.statement.Statement.{Statement}
-use Rattle.refutation_log.specs.declared.step.Label.{Label}
-use Rattle.refutation_log.specs.declared.step.Label.TheVariants as label
-use Rattle.refutation_log.specs.declared.step.Step.TheVariants as step
 use Rattle.log_axioms.specs.Axioms.{answer, before, last, lit_says}
 use Rattle.log_trim.specs.Trimmed.{IsUsedAnswer, IsUsedVar, Reaches}
 use Rattle.order_literals.specs.Enough.{IsEnough}
@@ -41,7 +38,7 @@ use Rattle.report_verify.specs.Right.{EachConsistent, PairHolds}
 use Rattle.report_verify.specs.Supported.{Claim, Need, needs_of}
 use Rattle.report_verify.specs.Supported.Claim.{Holds, HasValue, HasAnswer}
 use Rattle.axiom_agreement.specs.Agreement.{HasAxioms}
-use Rattle.search_logs.specs.Free.{IsFreeClause}
+use Rattle.search_logs.specs.Right.{AreStepsRight}
 
 -- ---- the variables of a question
 
@@ -72,27 +69,14 @@ AreNumberedAnswers s q tuples = (tuples ≡ []) ⊎ ((query : Query) × (query_o
 
 -- ---- logs
 
--- the label of a match
-abbrev pub IsMatchLabel : Label → Type 0
-IsMatchLabel (label.Match disjunct entities values) = Unit {0}
-IsMatchLabel other = ⊥
-
--- the search brings in axioms of matches alone, and of the clauses that it learns those alone are not counted that are empty, of
--- one literal, or of the derivation that some row of a list is last
-pub record IsCountedRight (s : Spec) (log : Log) : Type 0 where
-  pub demanded : (place : ℕ) (l : Label) (lits : List Lit) → slice_get log.steps place ≡ Some (step.OnDemand l lits)
-      → IsMatchLabel l
-  pub free : (place : ℕ) (lits : List Lit) (hints : List ℕ) → slice_get log.steps place ≡ Some (step.Learn lits hints false)
-      → IsFreeClause s log.statements lits
-
--- the log of a search that is cut off: so many counted steps, each new, and no others than those that may be are not counted; it
--- is open; it begins with exactly the axioms of given pairs, rules and copy functions and those on the current values that are
--- asked for, none of which is counted, so it has every axiom of a given pair, a rule and a copy function; and its statements are
--- the variables of the question
+-- the log of a search that is cut off: so many counted steps, each new, and no others than those that may be are not counted; no
+-- hint is idle; it is open; it begins with exactly the axioms of given pairs, rules and copy functions and those on the current
+-- values that are asked for, none of which is counted, so it has every axiom of a given pair, a rule and a copy function; and its
+-- statements are the variables of the question
 pub record IsCutOff (s : Spec) (q : Question) (budget : ℕ) (log : Log) : Type 0 where
   pub counted : counted_steps log.steps ≡ budget
   pub counted_new : CountedAreNew log.steps
-  pub counted_right : IsCountedRight s log
+  pub right : AreStepsRight s log
   pub open_log : IsOpenLog log.steps
   pub begins : BeginsWithAxioms s (wanted_of q (length log.answers)) log.steps
   pub axioms : HasAxioms s log.steps
@@ -107,18 +91,20 @@ pub record AreAmong (s : Spec) (q : Question) (log : Log) : Type 0 where
   pub candidates : All (Contains answers) log.answers
 
 -- a log is what some of its steps, the goals, need: each step is reached from these by hints, each statement is that of a literal
--- of such a step, and each answer is named by such a statement; and no more steps are counted than the budget has units
-pub record IsNeeded (budget : ℕ) (log : Log) (goals : List ℕ) : Type 0 where
+-- of such a step, and each answer is named by such a statement; no more steps are counted than the budget has units, no others
+-- than those that may be are not counted, and no hint is idle
+pub record IsNeeded (s : Spec) (budget : ℕ) (log : Log) (goals : List ℕ) : Type 0 where
   pub reached : (place : ℕ) → place < length log.steps → Reaches log.steps goals place
   pub statements : (var : ℕ) → var < length log.statements → IsUsedVar log.steps goals var
   pub answers : (tuple : ℕ) → tuple < length log.answers → IsUsedAnswer log goals tuple
   pub counted : counted_steps log.steps ≤ budget
+  pub right : AreStepsRight s log
 
 -- a log is what one step needs, which is the empty clause
 pub record IsOfEmpty (s : Spec) (q : Question) (budget : ℕ) (log : Log) : Type 0 where
   pub goal : ℕ
   pub is_empty : slice_get (clauses_of log.steps) goal ≡ Some []
-  pub needed : IsNeeded budget log (goal ∷ [])
+  pub needed : IsNeeded s budget log (goal ∷ [])
   pub among : AreAmong s q log
 
 -- a literal says that a value is the current one of an entity, which is named by a row of it with the value
@@ -155,7 +141,7 @@ pub record IsOfClaims (s : Spec) (q : Question) (budget : ℕ) (v : Verdict) (lo
   pub one_each : length goals ≡ length (needs_of q v)
   pub units : (k : ℕ) (need : Need) (goal : ℕ) → slice_get (needs_of q v) k ≡ Some need → slice_get goals k ≡ Some goal
       → IsUnitOf s log need.claim goal
-  pub needed : IsNeeded budget log goals
+  pub needed : IsNeeded s budget log goals
   pub among : AreAmong s q log
 
 -- a log with nothing in it

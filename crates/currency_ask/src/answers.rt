@@ -1,7 +1,8 @@
-ghost use Rattle.std.specs.Prelude.{◌≡◌, ◌+◌, ◌<◌, ◌≤◌, ℕ, All, Err, IfOk, length, map, slice_index_or};
+ghost use Rattle.std.specs.Prelude.{◌≡◌, ◌+◌, ◌<◌, ◌≤◌, ℕ, All, Err, IfOk, Some, length, map, slice_get};
 ghost use Rattle.answer_candidates.specs.Candidates.{AreCandidates};
 ghost use Rattle.answer_candidates.specs.declared.candidates.CandidateFault.TheVariants as candidates;
 ghost use Rattle.certain_answers.specs.Deciding.{AreDecidedUpTo, IsSearchFor as IsSearchOf};
+ghost use Rattle.certain_answers.specs.declared.decisions.Decision.TheVariants as decision;
 ghost use Rattle.refutation_log.specs.Counted.{counted_steps};
 ghost use Rattle.search_logs.specs.SearchLogs.{IsWithin};
 ghost use Rattle.spec_model.specs.Completion.{Rankings};
@@ -10,7 +11,7 @@ ghost use Rattle.spec_model.specs.Queries.{IsQueryOn};
 ghost use Rattle.spec_model.specs.declared.question.Question.TheVariants as asked;
 ghost use Rattle.currency_ask.specs.Answered.{AreAnswersOverSome, HasTooMany};
 ghost use Rattle.order_search.specs.Searches.{HasGone};
-ghost use Rattle.currency_ask.specs.Answering.{IsFirst, TellsSecond};
+ghost use Rattle.currency_ask.specs.Answering.{AreUnitsAt, IsFirst, IsProvedAt, TellsSecond};
 ghost use Rattle.currency_ask.specs.Reported.{IsReported};
 ghost use Rattle.currency_ask.specs.declared.fault.AskFault.TheVariants as fault;
 ghost use Rattle.currency_ask.specs.declared.goal.Goal.TheVariants.{Answer};
@@ -19,7 +20,7 @@ use crate::AskFault;
 use crate::goal::{Goal, GoalList};
 use crate::reporting::{derived, ended};
 use answer_candidates::{CandidateFault, Candidates, PlaceList, left_are_common};
-use certain_answers::{Decisions, decide_left, discard, note, search_for};
+use certain_answers::{Decision, DecisionList, Decisions, decide_left, discard, note, search_for};
 use currency_base::NoMemory;
 use order_search::{Outcome, Search};
 use query_model::Query;
@@ -182,7 +183,9 @@ fn all_decided(
         &mut units,
         guides,
     ) {
-        Ok(Decisions::All(steps)) => reported(alloc, spec, query, candidates, search, &steps),
+        Ok(Decisions::All(decisions)) => {
+            reported(alloc, spec, query, candidates, search, &decisions)
+        }
         Ok(Decisions::Ended(outcome)) => ended(alloc, search, outcome, budget),
         Err(error) => {
             discard(search);
@@ -198,7 +201,7 @@ fn reported(
     query: &Query,
     candidates: Candidates,
     search: Search<'_>,
-    steps: &HintList,
+    decisions: &DecisionList,
 ) -> Result<Report, NoMemory>
     requires within { IsWithin spec.now }
     requires query { IsQueryOn spec.now.relations query.now }
@@ -207,7 +210,7 @@ fn reported(
     requires posed { search.posed.answers ≡ candidates.tuples }
     requires few { length candidates.tuples ≤ 1000000 }
     requires over { AreAnswersOverSome spec.now query.now candidates.tuples }
-    requires decided { AreDecidedUpTo search candidates (length candidates.tuples) steps.now }
+    requires decided { AreDecidedUpTo search candidates (length candidates.tuples) decisions.now }
     ensures { (budget : ℕ) → counted_steps search.entry.log.steps ≤ budget → IfOk result
         (IsReported spec.now (asked.Answers query.now) budget) }
 {
@@ -221,7 +224,7 @@ fn reported(
         Ok(tuples) => tuples,
         Err(error) => return unreported(search, error),
     };
-    let units = match steps_at(alloc, steps, &left) {
+    let units = match units_at(alloc, decisions, &left) {
         Ok(units) => units,
         Err(error) => return unreported(search, error),
     };
@@ -245,20 +248,34 @@ fn unreported(search: Search<'_>, error: NoMemory) -> Result<Report, NoMemory>
     Err(error)
 }
 
-// The steps at these places.
-fn steps_at(alloc: Global, steps: &HintList, places: &PlaceList) -> Result<HintList, NoMemory>
-    requires { All (λ place. place < length steps.now) places.now }
-    ensures { IfOk result (λ found. found ≡ map (λ place. slice_index_or steps.now place 0) places.now) }
+// The units of the candidates at these places, which are proved.
+fn units_at(
+    alloc: Global,
+    decisions: &DecisionList,
+    places: &PlaceList,
+) -> Result<HintList, NoMemory>
+    requires { All (IsProvedAt decisions.now) places.now }
+    ensures { IfOk result (AreUnitsAt decisions.now places.now (length places.now)) }
 {
-    let mut found = HintList::new(alloc);
+    let mut units = HintList::new(alloc);
     for at in 0..places.len() {
-        let place = *places.get(at);
-        match found.push(*steps.get(place as usize)) {
+        match units.push(unit_at(decisions, *places.get(at))) {
             Ok(()) => {}
             Err(error) => return Err(error),
         }
     }
-    Ok(found)
+    Ok(units)
+}
+
+// The unit of the candidate at a place, which is proved.
+fn unit_at(decisions: &DecisionList, place: u32) -> u32
+    requires { IsProvedAt decisions.now place }
+    ensures { slice_get decisions.now place ≡ Some (decision.Proved result) }
+{
+    match decisions.get(place as usize) {
+        Decision::Proved(step) => *step,
+        Decision::Gone => unreachable!(),
+    }
 }
 
 // That the tuples at these places are answers, as goals.

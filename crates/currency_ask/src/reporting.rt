@@ -20,8 +20,8 @@ use order_search::{Outcome, Search};
 use refutation_log::{HintList, Log};
 use report_model::{CompletionList, Report, Verdict};
 use search_logs::{
-    completions_are_writable, search_logs_are_accepted, search_logs_are_writable,
-    trimmed_logs_are_writable,
+    completions_are_writable, search_logs_are_accepted, search_logs_are_right,
+    search_logs_are_writable, trimmed_logs_are_writable,
 };
 use spec_model::Completion;
 use std::alloc::Global;
@@ -55,6 +55,7 @@ fn inconsistent(alloc: Global, search: Search<'_>, place: u32) -> Result<Report,
     search_logs_are_accepted();
     trimmed_logs_are_accepted();
     trimmed_logs_are_writable();
+    search_logs_are_right();
     search.is_search();
     let log = search.into_log();
     let trimmed = match trim(alloc, &log, &[place]) {
@@ -78,6 +79,7 @@ fn undecided(alloc: Global, search: Search<'_>, budget: u64) -> Report
     counted_steps_are_few();
     search_logs_are_accepted();
     search_logs_are_writable();
+    search_logs_are_right();
     search.is_search();
     Report {
         verdict: Verdict::Undecided(budget),
@@ -158,6 +160,7 @@ fn trimmed(
     search_logs_are_accepted();
     trimmed_logs_are_accepted();
     trimmed_logs_are_writable();
+    search_logs_are_right();
     completions_are_writable();
     literals_agree();
     search.is_search();

@@ -46,7 +46,7 @@ pub(crate) fn edit_known(
     ensures err { OnErr result (spec.new ≡ spec.old) }
     ensures start { IsStart spec.new start.new }
 {
-    let stays = known_stays(spec.spec(), &start.known, &edit);
+    let stays = known_stays(alloc, spec.spec(), &start.known, &edit);
     let added = added_by(spec.spec(), &edit);
     match spec.edit(alloc, edit) {
         Ok(()) => {
@@ -83,13 +83,13 @@ fn target_row(spec: &Specification, copy: CopyId, target: RowId) -> RelationRow
 }
 
 /// Does a known completion, if there is one, stay consistent over an edit?
-fn known_stays(spec: &Specification, known: &Option<Completion>, edit: &Edit) -> bool
+fn known_stays(alloc: Global, spec: &Specification, known: &Option<Completion>, edit: &Edit) -> bool
     requires edit { IsEditOf spec.now edit.now }
     requires known { IfSome known.now (IsConsistent spec.now) }
     ensures { result ≡ true → IfSome known.now (StaysConsistent spec.now edit.now) }
 {
     match known {
-        Some(completion) => stays_consistent(spec, edit, completion),
+        Some(completion) => stays_consistent(alloc, spec, edit, completion),
         None => true,
     }
 }

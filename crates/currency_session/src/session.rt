@@ -71,8 +71,9 @@ impl Session {
 
     /// Does an edit of the specification, as `EditedSpec::edit` does, and leaves the kept reports and the count. A refusal
     /// changes nothing. A withdrawal takes no memory, and no limit refuses it. Of a known completion it is seen whether it
-    /// has an added pair, or an added copied row in its source row's order, and a withdrawal keeps it; one that has not is
-    /// put aside, to be mended.
+    /// has an added pair, or an added copied row in its source row's order, or satisfies an added rule, and a withdrawal
+    /// keeps it; one that has not the pair or the row is put aside, to be mended, and one that does not satisfy the rule is
+    /// dropped.
     pub fn edit(&mut self, alloc: Global, edit: Edit) -> Result<(), EditFault>
         requires { IsEditOf self.old.spec edit }
         ensures ok { OnOk result (edited self.old.spec edit ≡ Ok self.new.spec) }

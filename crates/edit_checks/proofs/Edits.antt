@@ -1,8 +1,8 @@
--- A consistent completion over withdrawals, and over a given pair that it has.
+-- A consistent completion over withdrawals, over a given pair that it has, and over a rule that it satisfies.
 use Rattle.std.proofs.Common.{◌≡◌, ◌∙◌, ℕ, suc, Bool, true, List, All, Option, Some, None, Result, Ok, IfSome, drop, slice_get, take, refl, sym, ap, subst, ⊎_elim}
 use Rattle.std.specs.Ordering.{is_eq}
 use Rattle.std.proofs.lemmas.Bool.{cases_eq}
-use Rattle.std.proofs.lemmas.List.Elements.{All-append, All-drop, All-set, All-take}
+use Rattle.std.proofs.lemmas.List.Elements.{All-append, All-drop, All-push, All-set, All-take}
 use Rattle.std.proofs.lemmas.Map.Views.{All-insert_key, All-remove_key}
 use Rattle.std.proofs.lemmas.Option.{none-some}
 use Rattle.copy_functions.proofs.TakenSources.{is_unmapped, others_mapped}
@@ -12,15 +12,18 @@ use Rattle.currency_base.specs.declared.ids.RelId.{RelId}
 use Rattle.currency_base.specs.declared.ids.RowId.{RowId}
 use Rattle.currency_base.specs.declared.ids.RuleId.{RuleId}
 use Rattle.currency_base.specs.declared.pair.Pair.{Pair}
+use Rattle.denial_rules.specs.declared.rule.Rule.{Rule}
 use Rattle.partial_orders.specs.Pairs.{has_pair, pair_cmp}
 use Rattle.spec_edits.proofs.GivenEdits.{given_pair}
 use Rattle.spec_edits.proofs.Kept.{edit_kept, passed}
-use Rattle.spec_edits.specs.Edits.{IsPairAt, IsWithdrawal, edited, giving, is_mapped_to, is_of_one_entity, taking, unmapping, with_copy_at, with_relation_at, without_rule}
+use Rattle.spec_edits.specs.Edits.{IsPairAt, IsWithdrawal, edited, first_of_limits, giving, is_mapped_to, is_of_one_entity, limited, taking, unless_above, unmapping, with_copy_at, with_relation_at, with_rule, without_rule}
 use Rattle.spec_edits.specs.Kept.{AreSameButGiven}
 use Rattle.spec_edits.specs.declared.edit.Edit.{Edit}
 use Rattle.spec_edits.specs.declared.edit.Edit.TheVariants.{AddGiven, AddRule, MapCopied, UnmapCopied, WithdrawGiven, WithdrawRule}
 use Rattle.spec_edits.specs.declared.fault.EditFault.{EditFault}
 use Rattle.spec_edits.specs.declared.fault.EditFault.TheVariants.{NotOneEntity, NotThere}
+use Rattle.spec_limits.specs.Instances.{too_many_instances}
+use Rattle.spec_limits.specs.Limits.{exceeded}
 use Rattle.spec_model.specs.Completion.{Rankings}
 use Rattle.spec_model.specs.Consistent.{IsCompatibleWith, IsConsistent, KeepsGiven, SatisfiesRules}
 use Rattle.spec_model.specs.Facts.{with_given, without_given}
@@ -104,6 +107,30 @@ pub withdrawn_rule : (s : Spec) (rule : RuleId) (c : Rankings) → IsConsistent 
 unfolding edited
 withdrawn_rule s rule c is t done =
     without_stays s t rule.0 c (edit_kept s t (WithdrawRule rule) done) is (passed true (without_rule s rule.0) t NotThere done)
+
+-- what is made where no limit is exceeded
+pub limited_is : (new t : Spec) → limited new ≡ Ok t → new ≡ t
+limited_is new t done = unless_above_is (first_of_limits (exceeded new) (too_many_instances new)) new t done
+  where
+    unless_above_is : (o : Option ℕ) (new t : Spec) → unless_above o new ≡ Ok t → new ≡ t
+    unless_above_is None new t done = cc
+    unless_above_is (Some k) new t done = cc
+
+-- one more rule, which the completion satisfies
+with_stays : (s t : Spec) (rule : Rule) (c : Rankings) → AreSameButGiven s.relations t.relations → IsConsistent s c
+    → Satisfied s.relations c rule → with_rule s rule ≡ t → IsConsistent t c
+with_stays s t rule c same is one new =
+    let more = All-push (Satisfied s.relations c) s.rules rule (rules_all s.relations s.rules c is.rules) one in
+    over s t c same is (subst (λ (u : Spec). KeepsGiven u.relations c) new is.given)
+    (subst (λ (u : Spec). SatisfiesRules s.relations u.rules c) new
+    (rules_each s.relations (with_rule s rule).rules c more))
+    (subst (λ (u : Spec). IsCompatibleWith s.relations u.copies c) new is.copies)
+
+pub added_rule : (s : Spec) (rule : Rule) (c : Rankings) → IsConsistent s c → Satisfied s.relations c rule
+    → StaysConsistent s (AddRule rule) c
+unfolding edited
+added_rule s rule c is one t done =
+    with_stays s t rule c (edit_kept s t (AddRule rule) done) is one (limited_is (with_rule s rule) t done)
 
 -- ---- copied rows
 

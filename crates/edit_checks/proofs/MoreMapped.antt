@@ -13,16 +13,15 @@ use Rattle.currency_base.specs.declared.ids.RowId.{RowId}
 use Rattle.currency_base.specs.declared.row.Row.{Row}
 use Rattle.partial_orders.specs.Pairs.{entity_of}
 use Rattle.spec_edits.proofs.Kept.{edit_kept}
-use Rattle.spec_edits.specs.Edits.{AreRowsAt, IsPairAt, edited, first_of_limits, limited, mapping, unless_above, unless_due, with_copy_at}
+use Rattle.spec_edits.specs.Edits.{AreRowsAt, IsPairAt, edited, limited, mapping, unless_due, with_copy_at}
 use Rattle.spec_edits.specs.Kept.{AreSameButGiven}
 use Rattle.spec_edits.specs.declared.edit.Edit.TheVariants.{MapCopied}
-use Rattle.spec_limits.specs.Instances.{too_many_instances}
-use Rattle.spec_limits.specs.Limits.{exceeded}
 use Rattle.spec_model.specs.Completion.{Before, IsCompletion, Rankings, lists_of, ranking_of}
 use Rattle.spec_model.specs.Consistent.{IsCompatibleWith, IsConsistent, KeepsGiven, SatisfiesRules}
 use Rattle.spec_model.specs.Facts.{AreCopies, AreRelations, IsCopyAmong, IsPlaceBetween, IsRelation, copied_due, kinds_of, rows_of}
 use Rattle.spec_model.specs.Spec.{Spec}
 use Rattle.spec_model.specs.declared.relation.Relation.{Relation}
+use Rattle.edit_checks.proofs.Edits.{limited_is}
 use Rattle.edit_checks.proofs.Lists.{item_has}
 use Rattle.edit_checks.proofs.Over.{Fits, copies_all, copies_each, over}
 use Rattle.edit_checks.proofs.Standing.{not_itself}
@@ -243,12 +242,8 @@ fits_more relations c f copied completion among fits keeps target source at_targ
 
 -- ---- the edit
 
-unless_above_is : (o : Option ℕ) (new t : Spec) → unless_above o new ≡ Ok t → new ≡ t
-unless_above_is None new t done = cc
-unless_above_is (Some k) new t done = cc
-
 unless_due_is : (due : Option CopyFault) (new t : Spec) → unless_due due (limited new) ≡ Ok t → new ≡ t
-unless_due_is None new t done = unless_above_is (first_of_limits (exceeded new) (too_many_instances new)) new t done
+unless_due_is None new t done = limited_is new t done
 unless_due_is (Some fault) new t done = cc
 
 mapping_stays : (s t : Spec) (copy : ℕ) (f : CopyFunction) (copied : CopiedRow) (c : Rankings) (o : Option CopyFunction)

@@ -6,6 +6,7 @@ mod copies;
 mod looks;
 mod mapped;
 mod pairs;
+mod rules;
 mod stays;
 
 pub use breaks::breaks_given;

@@ -1,16 +1,16 @@
--- That some value is current follows from the axioms `last` and the clause that some row stands last.
+-- That some value is current follows from the axioms `last` and the clause that some row stands last; these hints are lean.
 use Rattle.std.proofs.Common.{◌≡◌, ◌<◌, ◌≤◌, ◌∙◌, ℕ, zero, suc, List, [], ◌∷◌, ◌++◌, Contains, get_or, length, refl, sym, ap, subst, ⊎_elim, arith}
 use Rattle.std.proofs.lemmas.Bool.{cases_eq}
 use Rattle.std.proofs.lemmas.List.Elements.{Contains-append_left, Contains-push_cases, Contains-push}
-use Rattle.currency_base.specs.Lists.{OnlyOnce}
 use Rattle.currency_base.specs.Literals.{negation}
 use Rattle.currency_base.specs.declared.lit.Lit.{Lit}
-use Rattle.refutation_log.specs.Follows.{AreFalse, IsOnlyOpen, Falsifies, FollowsFrom, clause_at, clauses_at}
+use Rattle.refutation_log.specs.Follows.{AreFalse, IsOnlyOpen, FollowsFrom, clause_at, clauses_at}
+use Rattle.lean_hints.specs.Lean.{AreLean, IsAdding}
 use Rattle.last_rows.specs.Hints.{current_hints}
 use Rattle.last_rows.specs.Rows.{AreApart, AreThere, IsClause, IsSomeCurrent, Literals, StandsAt, each_below, lit_of, literals_of}
 use Rattle.last_rows.specs.declared.rows.RowList.{RowList}
+use Rattle.last_rows.proofs.Adding.{AddTo, follows_with, hint_open, lean_with}
 use Rattle.last_rows.proofs.Below.{in_each, lit_high, lit_own, once_each, once_push}
-use Rattle.last_rows.proofs.Following.{follows_with, hint_open}
 
 module _ (l : RowList) (earlier : List (List Lit)) (names : List Lit) (place : ℕ)
     (apart : AreApart (literals_of l)) (there : AreThere l earlier)
@@ -27,21 +27,23 @@ module _ (l : RowList) (earlier : List (List Lit)) (names : List Lit) (place : �
     of_names : (lit : Lit) → Contains names lit → Contains falses lit
     done : (i : ℕ) → i < n → Contains falses (lits.top i)
     still : (i : ℕ) → i < lits.count → Contains falses (negation (lits.top i)) → ⊥
+    ahead : (i : ℕ) → n ≤ i → i < lits.count → Contains falses (lits.top i) → ⊥
 
   record Reached (n : ℕ) : Type 0 where
     falses : List Lit
-    falsified : Falsifies names (clauses_at earlier (each_below place_of n)) falses
+    added : AddTo names (clauses_at earlier (each_below place_of n)) falses
     known : Known n falses
 
   reached_none : Reached 0
   unfolding each_below
   reached_none = record {
     falses = names;
-    falsified = refl;
+    added = refl;
     known = record {
       of_names = λ lit h. h;
       done = λ i below. absurd (omega (arith, below));
       still = λ i within h. let m = current.each (negation (lits.top i)) h in apart.not_name i m.0 within m.1 m.2;
+      ahead = λ i high within h. let m = current.each (lits.top i) h in apart.top_name i m.0 within m.1 m.2;
     };
   }
 
@@ -58,6 +60,14 @@ module _ (l : RowList) (earlier : List (List Lit)) (names : List Lit) (place : �
             (one.is.each other is_in);
       }
 
+  last_adds : (n : ℕ) (falses : List Lit) → n < lits.count → Known n falses
+      → IsAdding falses (clause_at earlier (place_of n)) (negation (lits.top n))
+  last_adds n falses within known = record {
+    only_open = last_open n falses within known;
+    fresh = λ h. known.ahead n (omega arith) within
+        (subst (λ (x : Lit). Contains falses x) (apart.twice n within) h);
+  }
+
   reached_more : (n : ℕ) → n < lits.count → Reached n → Reached (suc n)
   unfolding each_below
   reached_more n within before =
@@ -65,8 +75,8 @@ module _ (l : RowList) (earlier : List (List Lit)) (names : List Lit) (place : �
       let more = negation not_top in
       record {
         falses = before.falses ++ more ∷ [];
-        falsified = hint_open earlier names before.falses (each_below place_of n) (place_of n) not_top before.falsified
-            (last_open n before.falses within before.known);
+        added = hint_open earlier names before.falses (each_below place_of n) (place_of n) not_top before.added
+            (last_adds n before.falses within before.known);
         known = record {
           of_names = λ lit h. Contains-append_left before.falses (more ∷ []) lit (before.known.of_names lit h);
           done = λ i below. ⊎_elim
@@ -79,6 +89,12 @@ module _ (l : RowList) (earlier : List (List Lit)) (names : List Lit) (place : �
               (λ (p : Contains before.falses (negation (lits.top i))). before.known.still i i_within p)
               (λ (p : more ≡ negation (lits.top i)). apart.not_top i n i_within within (sym p ∙ apart.twice n within))
               (Contains-push_cases before.falses more (negation (lits.top i)) h);
+          ahead = λ i high i_within h. ⊎_elim
+              (λ (p : Contains before.falses (lits.top i)). before.known.ahead i (omega (arith, high)) i_within p)
+              (λ (p : more ≡ lits.top i).
+              let same = apart.top_once n i within i_within (sym (apart.twice n within) ∙ p) in
+              omega (arith, high, same))
+              (Contains-push_cases before.falses more (lits.top i) h);
         };
       }
 
@@ -104,7 +120,7 @@ module _ (l : RowList) (earlier : List (List Lit)) (names : List Lit) (place : �
   pub current_follows : FollowsFrom earlier names (current_hints l (length l.tops.items) place)
   current_follows =
       let all = reached_all lits.count (omega arith) in
-      follows_with earlier names all.falses (each_below place_of lits.count) place known_hint at_last.known all.falsified
+      follows_with earlier names all.falses (each_below place_of lits.count) place known_hint at_last.known all.added
       (last_false all.falses all.known)
 
   -- ---- no hint twice
@@ -127,5 +143,9 @@ module _ (l : RowList) (earlier : List (List Lit)) (names : List Lit) (place : �
       (subst (λ (k : ℕ). Contains (clause_at earlier k) (negation (lits.top m.0))) (sym m.2) one.is.has) in
       apart.not_top m.0 r.row m.1 r.within (r.is_lit ∙ top_lit r.row)
 
-  pub current_once : OnlyOnce (current_hints l (length l.tops.items) place)
-  current_once = once_push (each_below place_of lits.count) place (once_each place_of lits.count places_once) fresh_last
+  -- and each but the last adds a literal
+  pub current_lean : AreLean earlier names (current_hints l (length l.tops.items) place)
+  current_lean =
+      let all = reached_all lits.count (omega arith) in
+      lean_with earlier names all.falses (each_below place_of lits.count) place
+      (once_push (each_below place_of lits.count) place (once_each place_of lits.count places_once) fresh_last) all.added

@@ -1,60 +1,18 @@
--- A clause without the last of its first rows follows with its hints.
+-- A clause without the last of its first rows follows with its hints, which are lean.
 use Rattle.std.proofs.Common.{◌≡◌, ◌≢◌, ◌⊎◌, ◌<◌, ◌≤◌, ◌∙◌, ℕ, zero, suc, eqb, List, [], ◌∷◌, ◌++◌, Contains, get_or, length, refl, sym, ap, subst, inl, inr, ⊎_elim, arith}
 use Rattle.std.proofs.lemmas.Bool.{cases_eq, cond-true, cond-false, eq-eqb, ne_eqb}
-use Rattle.std.proofs.lemmas.List.{map-append, append-nil}
-use Rattle.std.proofs.lemmas.List.Elements.{Contains-append_left, Contains-append_cases, Contains-push_cases, Contains-push, Contains-get_or}
+use Rattle.std.proofs.lemmas.List.{append-nil}
+use Rattle.std.proofs.lemmas.List.Elements.{Contains-append_left, Contains-append_cases, Contains-push_cases, Contains-push}
 use Rattle.currency_base.specs.Lists.{OnlyOnce}
 use Rattle.currency_base.specs.Literals.{negation}
 use Rattle.currency_base.specs.declared.lit.Lit.{Lit}
-use Rattle.refutation_log.specs.Follows.{AreFalse, IsOnlyOpen, Falsifies, FollowsFrom, clause_at, clauses_at}
+use Rattle.refutation_log.specs.Follows.{AreFalse, IsOnlyOpen, FollowsFrom, clause_at, clauses_at}
+use Rattle.lean_hints.specs.Lean.{AreLean, IsAdding}
 use Rattle.last_rows.specs.Hints.{row_hints, three_hint, three_hints}
 use Rattle.last_rows.specs.Rows.{AreApart, AreThere, IsClause, Literals, StandsAt, clause_lits, lit_of, literals_of, three_of}
 use Rattle.last_rows.specs.declared.rows.RowList.{RowList}
+use Rattle.last_rows.proofs.Adding.{AddTo, follows_with, hint_open, lean_with}
 use Rattle.last_rows.proofs.Below.{IsPairOf, IsTopOf, each_in, in_each, in_none, in_one, lit_high, lit_how, lit_low, lit_own, once_one, once_push}
-
--- ---- one clause more
-
-pub with_open : (start : List Lit) (clauses : List (List Lit)) (clause falses : List Lit) (lit : Lit)
-    → Falsifies start clauses falses → IsOnlyOpen falses clause lit
-    → Falsifies start (clauses ++ clause ∷ []) (falses ++ negation lit ∷ [])
-with_open start [] clause falses lit same only =
-    inr (
-      lit,
-      subst (λ (f : List Lit). IsOnlyOpen f clause lit) (sym same) only,
-      ap (λ (f : List Lit). f ++ negation lit ∷ []) same,
-    )
-with_open start (c ∷ clauses) clause falses lit (inl h) only = inl (h.0, with_open start clauses clause falses lit h.1 only)
-with_open start (c ∷ clauses) clause falses lit (inr h) only =
-    inr (h.0, h.1, with_open (start ++ negation h.0 ∷ []) clauses clause falses lit h.2 only)
-
--- by hints
-pub hint_open : (earlier : List (List Lit)) (start falses : List Lit) (hints : List ℕ) (hint : ℕ) (lit : Lit)
-    → Falsifies start (clauses_at earlier hints) falses → IsOnlyOpen falses (clause_at earlier hint) lit
-    → Falsifies start (clauses_at earlier (hints ++ hint ∷ [])) (falses ++ negation lit ∷ [])
-hint_open earlier start falses hints hint lit were only =
-    subst (λ (cs : List (List Lit)). Falsifies start cs (falses ++ negation lit ∷ []))
-    (sym (map-append (clause_at earlier) hints (hint ∷ [])))
-    (with_open start (clauses_at earlier hints) (clause_at earlier hint) falses lit were only)
-
--- a clause follows where the last hint is false
-pub follows_with : (earlier : List (List Lit)) (clause falses : List Lit) (hints : List ℕ) (hint : ℕ)
-    → ((x : ℕ) → Contains hints x → x < length earlier) → hint < length earlier
-    → Falsifies clause (clauses_at earlier hints) falses → AreFalse falses (clause_at earlier hint)
-    → FollowsFrom earlier clause (hints ++ hint ∷ [])
-follows_with earlier clause falses hints hint known last_known falsified conflict = record {
-  known = λ k d h. ⊎_elim
-      (λ (p : Contains hints (get_or (hints ++ hint ∷ []) k d)). known (get_or (hints ++ hint ∷ []) k d) p)
-      (λ (p : hint ≡ get_or (hints ++ hint ∷ []) k d). subst (λ (x : ℕ). x < length earlier) p last_known)
-      (Contains-push_cases hints hint (get_or (hints ++ hint ∷ []) k d) (Contains-get_or (hints ++ hint ∷ []) k d h));
-  follows = record {
-    front = clauses_at earlier hints;
-    last = clause_at earlier hint;
-    hints_are = map-append (clause_at earlier) hints (hint ∷ []);
-    falses = falses;
-    falsified = falsified;
-    conflict = conflict;
-  };
-}
 
 -- ---- the step of a row
 
@@ -91,16 +49,30 @@ module _ (l : RowList) (earlier : List (List Lit)) (places : List ℕ) (own late
       let b = p.low in let e = same.1 in omega (arith, b, e))
       (lit_how lits later own m.0)
 
+  -- nor is it that the later row stands before another
+  ahead_start : (i : ℕ) → i < later → Contains start (lits.before later i) → ⊥
+  ahead_start i below h =
+      let m = in_each (lit_of lits later own) lits.count (lits.before later i) h in
+      let i_within : i < length l.tops.items = omega (arith, below, high) in
+      let ne : later ≢ i = λ e. omega (arith, below, e) in
+      ⊎_elim
+      (λ (p : IsTopOf lits later own m.0). apart.top_before m.0 later i m.1 high i_within ne (sym (m.2 ∙ p.is)))
+      (λ (p : IsPairOf lits later own m.0).
+      let same = apart.before_once later i own m.0 high i_within own_within m.1 ne (λ e. p.differ (sym e)) (m.2 ∙ p.is) in
+      apart_own (sym same.0))
+      (lit_how lits later own m.0)
+
   -- what is false after so many hints
   record Known (n : ℕ) (falses : List Lit) : Type 0 where
     of_start : (lit : Lit) → Contains start lit → Contains falses lit
     turned : Contains falses (lits.before later own)
     done : (i : ℕ) → i < n → i ≢ own → Contains falses (lits.before later i)
     still : (i : ℕ) → i < later → Contains falses (lits.before i later) → ⊥
+    ahead : (i : ℕ) → n ≤ i → i < later → i ≢ own → Contains falses (lits.before later i) → ⊥
 
   record Reached (n : ℕ) : Type 0 where
     falses : List Lit
-    falsified : Falsifies start (clauses_at earlier (front n)) falses
+    added : AddTo start (clauses_at earlier (front n)) falses
     known : Known n falses
 
   -- one literal more, that the later row stands before another
@@ -117,6 +89,20 @@ module _ (l : RowList) (earlier : List (List Lit)) (places : List ℕ) (own late
       (sym (apart.turned j later j_within high ne_j) ∙ p) in
       let e = same.0 in omega (arith, below, e))
       (Contains-push_cases falses (negation (lits.before j later)) (lits.before i later) h)
+
+  -- so far it stood before none of these
+  ahead_more : (falses : List Lit) (j i : ℕ) → j < later → i < later → i ≢ j → (Contains falses (lits.before later i) → ⊥)
+      → Contains (falses ++ negation (lits.before j later) ∷ []) (lits.before later i) → ⊥
+  ahead_more falses j i j_low i_low differ was h = ⊎_elim
+      (λ (p : Contains falses (lits.before later i)). was p)
+      (λ (p : negation (lits.before j later) ≡ lits.before later i).
+      let ne_i : later ≢ i = λ e. omega (arith, i_low, e) in
+      let ne_j : later ≢ j = λ e. omega (arith, j_low, e) in
+      let i_within : i < length l.tops.items = omega (arith, i_low, high) in
+      let j_within : j < length l.tops.items = omega (arith, j_low, high) in
+      differ (sym (apart.before_once later j later i high j_within high i_within ne_j ne_i
+      (sym (apart.turned j later j_within high (λ e. ne_j (sym e))) ∙ p)).1))
+      (Contains-push_cases falses (negation (lits.before j later)) (lits.before later i) h)
 
   -- its negation is there
   turned_in : (falses : List Lit) (j : ℕ) → j < later
@@ -158,16 +144,26 @@ module _ (l : RowList) (earlier : List (List Lit)) (places : List ℕ) (own late
         (cases_eq m.row later);
   }
 
+  -- and this was not there
+  turned_fresh : (falses : List Lit) (j : ℕ) → j < later → (Contains falses (lits.before later j) → ⊥)
+      → Contains falses (negation (lits.before j later)) → ⊥
+  turned_fresh falses j j_low was h = was (subst (λ (x : Lit). Contains falses x)
+      (apart.turned j later (omega (arith, j_low, high)) high (λ e. omega (arith, j_low, e))) h)
+
+  first_adds : IsAdding start (clause_at earlier (get_or places own 0)) (lits.before own later)
+  first_adds = record { only_open = first_open; fresh = turned_fresh start own low (ahead_start own low) }
+
   reached_none : Reached 0
   unfolding three_hints
   reached_none = record {
     falses = start ++ negation (lits.before own later) ∷ [];
-    falsified = hint_open earlier start start [] (get_or places own 0) (lits.before own later) refl first_open;
+    added = hint_open earlier start start [] (get_or places own 0) (lits.before own later) refl first_adds;
     known = record {
       of_start = λ lit h. Contains-append_left start (negation (lits.before own later) ∷ []) lit h;
       turned = turned_in start own low;
       done = λ i below differ. absurd (omega (arith, below));
       still = still_more start own low open_start;
+      ahead = λ i up below differ. ahead_more start own i low below differ (ahead_start i below);
     };
   }
 
@@ -189,6 +185,13 @@ module _ (l : RowList) (earlier : List (List Lit)) (places : List ℕ) (own late
             (three.is.each other is_in);
       }
 
+  three_adds : (n : ℕ) (falses : List Lit) → n < later → n ≢ own → Known n falses
+      → IsAdding falses (clause_at earlier (three_of l n own later)) (lits.before n later)
+  three_adds n falses below ne known = record {
+    only_open = three_open n falses below ne known;
+    fresh = turned_fresh falses n below (known.ahead n (omega arith) below ne);
+  }
+
   reached_more : (n : ℕ) → n < later → Reached n → Reached (suc n)
   unfolding three_hints
   reached_more n below before = ⊎_elim
@@ -196,14 +199,15 @@ module _ (l : RowList) (earlier : List (List Lit)) (places : List ℕ) (own late
       let same : three_hint l own later n ≡ [] = cond-true (eqb n own) [] (three_of l n own later ∷ []) (eq-eqb n own e) in
       record {
         falses = before.falses;
-        falsified = subst (λ (hs : List ℕ). Falsifies start (clauses_at earlier (get_or places own 0 ∷ hs)) before.falses)
+        added = subst (λ (hs : List ℕ). AddTo start (clauses_at earlier (get_or places own 0 ∷ hs)) before.falses)
             (sym (ap (λ (h : List ℕ). three_hints l own later n ++ h) same ∙ append-nil (three_hints l own later n)))
-            before.falsified;
+            before.added;
         known = record {
           of_start = before.known.of_start;
           turned = before.known.turned;
           done = λ i i_low differ. before.known.done i (let w : i < n = grind (arith, i_low, differ, e) in w) differ;
           still = before.known.still;
+          ahead = λ i up i_low differ. before.known.ahead i (omega (arith, up)) i_low differ;
         };
       })
       (λ (ne : n ≡ own → ⊥).
@@ -211,11 +215,11 @@ module _ (l : RowList) (earlier : List (List Lit)) (places : List ℕ) (own late
       cond-false (eqb n own) [] (three_of l n own later ∷ []) (ne_eqb n own ne) in
       record {
         falses = before.falses ++ negation (lits.before n later) ∷ [];
-        falsified = subst (λ (h : List ℕ). Falsifies start (clauses_at earlier (get_or places own 0 ∷ (three_hints l own
+        added = subst (λ (h : List ℕ). AddTo start (clauses_at earlier (get_or places own 0 ∷ (three_hints l own
             later n ++ h))) (before.falses ++ negation (lits.before n later) ∷ []))
             (sym same)
-            (hint_open earlier start before.falses (front n) (three_of l n own later) (lits.before n later) before.falsified
-            (three_open n before.falses below ne before.known));
+            (hint_open earlier start before.falses (front n) (three_of l n own later) (lits.before n later) before.added
+            (three_adds n before.falses below ne before.known));
         known = record {
           of_start = λ lit h. Contains-append_left before.falses (negation (lits.before n later) ∷ []) lit
               (before.known.of_start lit h);
@@ -229,6 +233,8 @@ module _ (l : RowList) (earlier : List (List Lit)) (places : List ℕ) (own late
               (lits.before later i) (before.known.done i (let w : i < n = grind (arith, i_low, other) in w) differ))
               (cases_eq i n);
           still = still_more before.falses n below before.known.still;
+          ahead = λ i up i_low differ. ahead_more before.falses n i below i_low (λ e. omega (arith, up, e))
+              (before.known.ahead i (omega (arith, up)) i_low differ);
         };
       })
       (cases_eq n own)
@@ -375,11 +381,14 @@ module _ (l : RowList) (earlier : List (List Lit)) (places : List ℕ) (own late
       no_top later m.0 (get_or places later 0) high m.1 m.2 m.3 later_top)
       (in_front later (get_or places later 0) h)
 
-  pub row_once : OnlyOnce (row_hints l places own later)
-  row_once = once_push (front later) (get_or places later 0) (front_once later (omega arith)) fresh_last
+  pub row_lean : AreLean earlier (clause_lits (literals_of l) later own) (row_hints l places own later)
+  row_lean =
+      let all = reached_all later (omega arith) in
+      lean_with earlier start all.falses (front later) (get_or places later 0)
+      (once_push (front later) (get_or places later 0) (front_once later (omega arith)) fresh_last) all.added
 
   pub row_follows : FollowsFrom earlier (clause_lits (literals_of l) later own) (row_hints l places own later)
   row_follows =
       let all = reached_all later (omega arith) in
-      follows_with earlier start all.falses (front later) (get_or places later 0) front_known at_later.known all.falsified
+      follows_with earlier start all.falses (front later) (get_or places later 0) front_known at_later.known all.added
       (last_false all.falses all.known)

@@ -4,22 +4,22 @@ use Rattle.std.proofs.lemmas.Bool.{cases_eq}
 use Rattle.std.proofs.lemmas.List.{get_or-set_same, get_or-set_other, get_or_append_left, length-append, length-map, length-set, map-append, take-append-le, append_assoc}
 use Rattle.std.proofs.Math.Seq.{get_or-append_seam, take-append_seam}
 use Rattle.std.proofs.lemmas.Option.{slice_get_within}
-use Rattle.currency_base.specs.Lists.{OnlyOnce}
 use Rattle.currency_base.specs.Literals.{var_of}
 use Rattle.currency_base.specs.declared.lit.Lit.{Lit}
 use Rattle.refutation_log.specs.Follows.{FollowsFrom}
 use Rattle.refutation_log.specs.Steps.{clause_of, clauses_of}
 use Rattle.refutation_log.specs.declared.step.Step.{Step}
 use Rattle.refutation_log.specs.declared.step.Step.TheVariants.{Learn}
+use Rattle.lean_hints.specs.Lean.{AreLean}
 use Rattle.last_rows.specs.Hints.{current_hints, left_hints, row_hints}
 use Rattle.last_rows.specs.Rows.{AreApart, AreDerived, AreThere, AreWithin, EndsCurrent, IsClause, IsDerivedStep, IsLast, IsPlaced, IsSomeCurrent, IsThree, IsUnit, Literals, StandsAt, clause_lits, later_of, lit_of, literals_of, three_of}
 use Rattle.last_rows.specs.Underway.{AreNames, HasRow, IsBetween, IsUnderway}
 use Rattle.last_rows.specs.declared.derivation.Derivation.{Derivation}
 use Rattle.last_rows.specs.declared.rows.RowList.{RowList}
 use Rattle.last_rows.proofs.Below.{IsPairOf, IsTopOf, clause_once, each_in, get_push, in_each, lit_how}
-use Rattle.last_rows.proofs.Currents.{current_follows, current_once}
-use Rattle.last_rows.proofs.Following.{row_follows, row_once}
-use Rattle.last_rows.proofs.Leaving.{left_follows, left_once}
+use Rattle.last_rows.proofs.Currents.{current_follows, current_lean}
+use Rattle.last_rows.proofs.Following.{row_follows, row_lean}
+use Rattle.last_rows.proofs.Leaving.{left_follows, left_lean}
 
 -- ---- two facts of one result
 
@@ -89,7 +89,7 @@ module _ (l : RowList) (earlier : List (List Lit)) (d : Derivation) (own first m
     (apart : AreApart (literals_of l)) (few : first ≤ length l.tops.items) (low : own < first)
     (between : IsBetween l earlier d more first own)
     (follows : FollowsFrom (earlier ++ clauses_of d.steps) (clause_lits (literals_of l) first own) hints)
-    (once : OnlyOnce hints) where
+    (lean : AreLean (earlier ++ clauses_of d.steps) (clause_lits (literals_of l) first own) hints) where
   own_within : own < length l.tops.items
   own_within = omega (arith, low, few)
 
@@ -108,7 +108,7 @@ module _ (l : RowList) (earlier : List (List Lit)) (d : Derivation) (own first m
     within = clause_within (literals_of l) first own own_within;
     once = clause_once (literals_of l) apart first own few own_within;
     follows = follows;
-    hints_once = once;
+    lean = lean;
   }
 
   pub row_more : (new : Derivation) → new.steps ≡ d.steps ++ Learn (clause_lits (literals_of l) first own) hints false ∷ []
@@ -171,7 +171,7 @@ later_more l earlier d own later apart placed high low underway =
     let at_later = underway.left later (omega (arith, low)) (omega arith) high in
     row_more l earlier d own later (suc later) (row_hints l d.places.items own later) apart (omega (arith, high)) low underway
     (row_follows l before d.places.items own later apart there low high at_own at_later)
-    (row_once l before d.places.items own later apart there low high at_own at_later)
+    (row_lean l before d.places.items own later apart there low high at_own at_later)
 
 -- the clause of a row without those of which a later one is known
 pub left_more : (l : RowList) (earlier : List (List Lit)) (d : Derivation) (own : ℕ) → AreApart (literals_of l)
@@ -188,7 +188,7 @@ left_more l earlier d own apart placed low between =
     let at_own = between.left own (omega arith) own_within own_within in
     row_more l earlier d own l.kept (length l.tops.items) (left_hints l d.places.items own) apart few low between
     (left_follows l before d.places.items own apart there placed.laters low at_own)
-    (left_once l before d.places.items own apart there placed.laters low at_own)
+    (left_lean l before d.places.items own apart there placed.laters low at_own)
 
 -- ---- one row after another
 
@@ -245,7 +245,7 @@ module _ (l : RowList) (earlier : List (List Lit)) (d : Derivation) (names : Lis
             (within.names m.0 m.1);
         once = are.once;
         follows = current_follows l (earlier ++ clauses_of d.steps) names place apart there some_last current;
-        hints_once = current_once l (earlier ++ clauses_of d.steps) names place apart there some_last current;
+        lean = current_lean l (earlier ++ clauses_of d.steps) names place apart there some_last current;
       }
 
   pub current_derived : (new : List Step) → new ≡ d.steps ++ Learn names hints false ∷ []

@@ -1,4 +1,4 @@
--- A clause without the rows of which a later one is known follows with its hints.
+-- A clause without the rows of which a later one is known follows with its hints, which are lean.
 use Rattle.std.proofs.Common.{◌≡◌, ◌≢◌, ◌⊎◌, ◌<◌, ◌≤◌, ◌+◌, ◌-◌, ◌∙◌, ℕ, zero, suc, eqb, List, [], ◌∷◌, ◌++◌, Contains, get_or, length, refl, sym, ap, subst, ⊎_elim, arith}
 use Rattle.std.proofs.lemmas.Bool.{cases_eq, cases_lt, cond-true, cond-false, eq-eqb, ne_eqb}
 use Rattle.std.proofs.lemmas.List.{append-nil}
@@ -6,12 +6,13 @@ use Rattle.std.proofs.lemmas.List.Elements.{Contains-append_left, Contains-appen
 use Rattle.currency_base.specs.Lists.{OnlyOnce}
 use Rattle.currency_base.specs.Literals.{negation}
 use Rattle.currency_base.specs.declared.lit.Lit.{Lit}
-use Rattle.refutation_log.specs.Follows.{AreFalse, IsOnlyOpen, Falsifies, FollowsFrom, clause_at, clauses_at}
+use Rattle.refutation_log.specs.Follows.{AreFalse, IsOnlyOpen, FollowsFrom, clause_at, clauses_at}
+use Rattle.lean_hints.specs.Lean.{AreLean, IsAdding}
 use Rattle.last_rows.specs.Hints.{known_hints, left_hints, three_hint}
 use Rattle.last_rows.specs.Rows.{AreApart, AreLaters, AreThere, IsClause, Literals, IsUnit, StandsAt, clause_lits, later_of, later_place_of, lit_of, literals_of, three_of}
 use Rattle.last_rows.specs.declared.rows.RowList.{RowList}
+use Rattle.last_rows.proofs.Adding.{AddTo, follows_with, hint_open, lean_with}
 use Rattle.last_rows.proofs.Below.{IsPairOf, IsTopOf, each_in, in_each, in_none, in_one, lit_how, lit_low, lit_own, once_none, once_push}
-use Rattle.last_rows.proofs.Following.{follows_with, hint_open}
 
 -- the axiom on a row, this and a later one is a hint where the row is not this
 no_hint : (l : RowList) (own later row : ℕ) → row ≡ own → three_hint l own later row ≡ []
@@ -104,14 +105,14 @@ module _ (l : RowList) (earlier : List (List Lit)) (places : List ℕ) (own : �
 
   record Reached (n : ℕ) : Type 0 where
     falses : List Lit
-    falsified : Falsifies start (clauses_at earlier (known_hints l own n)) falses
+    added : AddTo start (clauses_at earlier (known_hints l own n)) falses
     known : Known n falses
 
   reached_none : Reached 0
   unfolding known_hints
   reached_none = record {
     falses = start;
-    falsified = refl;
+    added = refl;
     known = record {
       of_start = λ lit h. h;
       done = λ i high below. absurd (omega (arith, high, below));
@@ -156,14 +157,23 @@ module _ (l : RowList) (earlier : List (List Lit)) (places : List ℕ) (own : �
       others = λ other is_in differ. absurd (differ (unit.is.each other is_in));
     }
 
+    unit_adds : (falses : List Lit) → Known n falses
+        → IsAdding falses (clause_at earlier (later_place_of l later)) (lits.before later after)
+    unit_adds falses known = record {
+      only_open = unit_open falses known;
+      fresh = λ h. (known.still after later after_low (omega arith) within).0
+          (subst (λ (x : Lit). Contains falses x)
+          (apart.turned later after within after_within (λ e. (let w = after_low in omega (arith, w, e)))) h);
+    }
+
     -- what is false behind the step that says that the row stands before another
     abbrev middle : List Lit → List Lit
     middle falses = falses ++ negation (lits.before later after) ∷ []
 
-    middle_falsified : (before : Reached n)
-        → Falsifies start (clauses_at earlier (known_hints l own n ++ later_place_of l later ∷ [])) (middle before.falses)
-    middle_falsified before = hint_open earlier start before.falses (known_hints l own n) (later_place_of l later)
-        (lits.before later after) before.falsified (unit_open before.falses before.known)
+    middle_added : (before : Reached n)
+        → AddTo start (clauses_at earlier (known_hints l own n ++ later_place_of l later ∷ [])) (middle before.falses)
+    middle_added before = hint_open earlier start before.falses (known_hints l own n) (later_place_of l later)
+        (lits.before later after) before.added (unit_adds before.falses before.known)
 
     three_open : (falses : List Lit) → after ≢ own → Known n falses
         → IsOnlyOpen (middle falses) (clause_at earlier (three_of l after own later)) (lits.before later own)
@@ -190,6 +200,25 @@ module _ (l : RowList) (earlier : List (List Lit)) (places : List ℕ) (own : �
               (three.is.each other is_in);
         }
 
+    three_adds : (falses : List Lit) → after ≢ own → Known n falses
+        → IsAdding (middle falses) (clause_at earlier (three_of l after own later)) (lits.before later own)
+    three_adds falses ne known =
+        let later_own : later ≢ own = λ e. (let w = own_low in omega (arith, w, e)) in
+        let later_after : later ≢ after = λ e. (let w = after_low in omega (arith, w, e)) in
+        let own_turned : negation (lits.before later own) ≡ lits.before own later =
+        apart.turned later own within own_within later_own in
+        record {
+          only_open = three_open falses ne known;
+          fresh = λ h. ⊎_elim
+              (λ (p : Contains falses (lits.before own later)). (known.still own later own_low (omega arith) within).0 p)
+              (λ (p : negation (lits.before later after) ≡ lits.before own later).
+              ne (apart.before_once after later own later after_within within own_within within
+              (λ e. later_after (sym e)) (λ e. later_own (sym e))
+              (sym (apart.turned later after within after_within later_after) ∙ p)).0)
+              (Contains-push_cases falses (negation (lits.before later after)) (lits.before own later)
+              (subst (λ (x : Lit). Contains (middle falses) x) own_turned h));
+        }
+
     -- one row more, where the rest of what is false has that this row stands before it
     known_more : (falses new : List Lit) → Known n falses → ((lit : Lit) → Contains falses lit → Contains new lit)
         → Contains new (lits.before own later) → AreOpen (suc later) new → Known (suc n) new
@@ -212,10 +241,10 @@ module _ (l : RowList) (earlier : List (List Lit)) (places : List ℕ) (own : �
     reached_more before = ⊎_elim
         (λ (e : after ≡ own). record {
           falses = middle before.falses;
-          falsified = subst (λ (hs : List ℕ). Falsifies start (clauses_at earlier hs) (middle before.falses))
+          added = subst (λ (hs : List ℕ). AddTo start (clauses_at earlier hs) (middle before.falses))
               (sym (ap (λ (h : List ℕ). (known_hints l own n ++ later_place_of l later ∷ []) ++ h) (no_hint l own later after e)
               ∙ append-nil (known_hints l own n ++ later_place_of l later ∷ [])))
-              (middle_falsified before);
+              (middle_added before);
           known = known_more before.falses (middle before.falses) before.known
               (λ lit h. Contains-append_left before.falses (negation (lits.before later after) ∷ []) lit h)
               (subst (λ (k : ℕ). Contains (middle before.falses) (lits.before k later)) e
@@ -226,12 +255,12 @@ module _ (l : RowList) (earlier : List (List Lit)) (places : List ℕ) (own : �
         let new = middle before.falses ++ negation (lits.before later own) ∷ [] in
         record {
           falses = new;
-          falsified = subst (λ (h : List ℕ). Falsifies start (clauses_at earlier ((known_hints l own n ++ later_place_of l later
+          added = subst (λ (h : List ℕ). AddTo start (clauses_at earlier ((known_hints l own n ++ later_place_of l later
               ∷ []) ++ h)) new)
               (sym (one_hint l own later after ne))
               (hint_open earlier start (middle before.falses) (known_hints l own n ++ later_place_of l later ∷ [])
-              (three_of l after own later) (lits.before later own) (middle_falsified before)
-              (three_open before.falses ne before.known));
+              (three_of l after own later) (lits.before later own) (middle_added before)
+              (three_adds before.falses ne before.known));
           known = known_more before.falses new before.known
               (λ lit h. Contains-append_left (middle before.falses) (negation (lits.before later own) ∷ []) lit
               (Contains-append_left before.falses (negation (lits.before later after) ∷ []) lit h))
@@ -417,13 +446,16 @@ module _ (l : RowList) (earlier : List (List Lit)) (places : List ℕ) (own : �
       let a_low = p.2 in let b_low = p.3 in
       apart.top_before own p.0 p.1 own_within (omega (arith, a_low, all)) (omega (arith, b_low, all)) p.4 p.5
 
-  pub left_once : OnlyOnce (left_hints l places own)
-  left_once = let all = all_rows in
-      once_push (known_hints l own many) (get_or places own 0) (known_once many (omega (arith, all))) fresh_last
+  pub left_lean : AreLean earlier (clause_lits (literals_of l) l.kept own) (left_hints l places own)
+  left_lean =
+      let rows = all_rows in
+      let all = reached_all many (omega (arith, rows)) in
+      lean_with earlier start all.falses (known_hints l own many) (get_or places own 0)
+      (once_push (known_hints l own many) (get_or places own 0) (known_once many (omega (arith, rows))) fresh_last) all.added
 
   pub left_follows : FollowsFrom earlier (clause_lits (literals_of l) l.kept own) (left_hints l places own)
   left_follows =
       let rows = all_rows in
       let all = reached_all many (omega (arith, rows)) in
       follows_with earlier start all.falses (known_hints l own many) (get_or places own 0)
-      (λ x h. (in_known many x (omega (arith, rows)) h).known) at_own.known all.falsified (last_false all.falses all.known)
+      (λ x h. (in_known many x (omega (arith, rows)) h).known) at_own.known all.added (last_false all.falses all.known)

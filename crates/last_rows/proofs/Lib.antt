@@ -1,4 +1,5 @@
 pub mod Below
+pub mod Adding
 pub mod Following
 pub mod Leaving
 pub mod Currents

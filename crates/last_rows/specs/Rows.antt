@@ -7,6 +7,7 @@ use Rattle.refutation_log.specs.Follows.{FollowsFrom, clause_at}
 use Rattle.refutation_log.specs.Steps.{clauses_of}
 use Rattle.refutation_log.specs.declared.step.Step.{Step}
 use Rattle.refutation_log.specs.declared.step.Step.TheVariants.{Learn}
+use Rattle.lean_hints.specs.Lean.{AreLean}
 use Rattle.last_rows.specs.declared.rows.RowList.{RowList}
 
 -- ---- literals
@@ -41,6 +42,7 @@ pub record AreApart (l : Literals) : Type 0 where
   pub top_before : (m i j : ℕ) → m < l.count → i < l.count → j < l.count → i ≢ j → l.top m ≡ l.before i j → ⊥
   pub twice : (i : ℕ) → i < l.count → negation (negation (l.top i)) ≡ l.top i
   pub not_top : (i m : ℕ) → i < l.count → m < l.count → negation (l.top i) ≡ l.top m → ⊥
+  pub top_name : (i m : ℕ) → i < l.count → m < l.count → l.top i ≡ l.name m → ⊥
   pub not_name : (i m : ℕ) → i < l.count → m < l.count → negation (l.top i) ≡ l.name m → ⊥
 
 -- they are of so many variables
@@ -187,8 +189,8 @@ pub record IsRowClause (l : Literals) (lits : List Lit) : Type 0 where
 abbrev pub IsOfRows : Literals → List Lit → Type 0
 IsOfRows l lits = IsRowClause l lits ⊎ IsSomeCurrent l lits
 
--- a step that is not counted, whose clause is one that is derived of the rows and follows with its hints, where no literal and no
--- hint stands twice; its variables are those of the rows' literals
+-- a step that is not counted, whose clause is one that is derived of the rows and follows with its hints, where no literal stands
+-- twice; no hint does, and each but the last adds a literal; its variables are those of the rows' literals
 pub record IsDerivedStep (l : Literals) (earlier : List (List Lit)) (taken : Step) : Type 0 where
   pub lits : List Lit
   pub hints : List ℕ
@@ -197,7 +199,7 @@ pub record IsDerivedStep (l : Literals) (earlier : List (List Lit)) (taken : Ste
   pub within : (vars : ℕ) → AreWithin vars l → (lit : Lit) → Contains lits lit → var_of lit < vars
   pub once : OnlyOnce lits
   pub follows : FollowsFrom earlier lits hints
-  pub hints_once : OnlyOnce hints
+  pub lean : AreLean earlier lits hints
 
 -- each follows from the clauses and the steps before it
 abbrev pub AreDerived : Literals → List (List Lit) → List Step → Type 0

@@ -16,6 +16,7 @@ use std::alloc::Global;
 /// others are left out first, by one step for each of the m, with at most two hints for each of the others and one more; where
 /// m is n there is no such step. Then come a half of m (m - 1) with at most m hints each, and one more step. Each is a clause of
 /// at most n literals. So they take at most memory as the axioms on three rows do, which there are a third of n (n - 1) (n - 2).
+/// No hint of a step is idle: none stands twice, and each but the last adds a literal.
 pub fn derived(alloc: Global, list: &RowList, earlier: &Steps) -> Result<Steps, NoMemory>
     requires some { 0 < length list.now.tops.items }
     requires apart { AreApart (literals_of list.now) }

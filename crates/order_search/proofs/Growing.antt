@@ -166,7 +166,7 @@ learned_next s posed earlier (Learn lits hints counted) learned small = (
     follows = learned.0;
     within = learned.1.within;
     lits_once = learned.1.once;
-    hints_once = learned.2;
+    lean = learned.2;
     free = λ e. inl (small e);
   },
   λ is. learned.3 is,

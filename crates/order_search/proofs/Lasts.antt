@@ -21,6 +21,7 @@ use Rattle.refutation_log.specs.declared.statement.Statement.{Statement}
 use Rattle.refutation_log.specs.declared.statement.Statement.TheVariants as says
 use Rattle.refutation_log.specs.declared.step.Step.{Step}
 use Rattle.refutation_log.specs.declared.step.Step.TheVariants.{Learn}
+use Rattle.lean_hints.specs.Lean.{AreLean}
 use Rattle.order_literals.specs.Numbers.{numbers_of}
 use Rattle.order_literals.specs.Laws.{NegationSays, OneLiteral, OneSaid, SaysWithin}
 use Rattle.order_literals.specs.Said.{Said, Says, before, last, not_before, not_top, top, turned}
@@ -215,6 +216,15 @@ module _ (s : Subject) (list : ListId) (rows : List RowId) (l : RowList) (are : 
       (one_said (vars_of s) (negation (lits.top i)) (not_top list.rel list.attr (row i)) (last list.rel list.attr (name m))
       (says_not i at_i) (subst (λ (x : Lit). Says (vars_of s) x (last list.rel list.attr (name m))) (sym e) (says_name m at_m)))
 
+  top_no_name : (i m : ℕ) → i < lits.count → m < lits.count → lits.top i ≡ lits.name m → ⊥
+  top_no_name i m at_i at_m e = ⊎_elim
+      (λ (p : last list.rel list.attr (name m) ≡ top list.rel list.attr (row i)).
+      top_no_last list.rel list.attr (name m) (row i) false false p)
+      (λ (p : last list.rel list.attr (name m) ≡ top list.rel list.attr (row i)).
+      top_no_last list.rel list.attr (name m) (row i) false false p)
+      (one_said (vars_of s) (lits.top i) (top list.rel list.attr (row i)) (last list.rel list.attr (name m))
+      (says_top i at_i) (subst (λ (x : Lit). Says (vars_of s) x (last list.rel list.attr (name m))) (sym e) (says_name m at_m)))
+
   pub rows_are_apart : AreApart (literals_of l)
   rows_are_apart = record {
     turned = turned_is;
@@ -223,6 +233,7 @@ module _ (s : Subject) (list : ListId) (rows : List RowId) (l : RowList) (are : 
     top_before = top_no_before;
     twice = λ i within. twice (lits.top i);
     not_top = not_top_is;
+    top_name = top_no_name;
     not_name = not_name_is;
   }
 
@@ -343,7 +354,7 @@ put_keeps old new taken is frame steps s free brought held =
         within = subst (λ (xs : List Statement). All (λ lit. var_of lit < length xs) is.lits) held.search.log.statements
             is.fit.within;
         lits_once = is.fit.once;
-        hints_once = is.once;
+        lean = is.lean;
         free = λ e.
             subst (λ (t : Step). IsFreeClause s.spec (vars_of s) (clause_of t)) is.is_step
             (All-head (λ t. IsFreeClause s.spec (vars_of s) (clause_of t)) taken [] free);
@@ -395,7 +406,7 @@ next_step vars first steps now place taken is now_is at =
         once = one.once;
       };
       follows = subst (λ (cs : List (List Lit)). FollowsFrom cs one.lits one.hints) same one.follows;
-      once = one.hints_once;
+      lean = subst (λ (cs : List (List Lit)). AreLean cs one.lits one.hints) same one.lean;
     }
 
 -- what an answer tells where it holds anyway

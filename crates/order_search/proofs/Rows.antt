@@ -1,5 +1,5 @@
 -- The rows of lists, and what is numbered of them.
-use Rattle.std.proofs.Common.{◌≡◌, ◌≢◌, ◌<◌, ◌≤◌, ◌∙◌, ℕ, zero, suc, List, [], ◌∷◌, Some, get_or, length, slice_get, slice_index_or, sym, ap, subst, arith}
+use Rattle.std.proofs.Common.{◌≡◌, ◌≢◌, ◌<◌, ◌≤◌, ◌∙◌, ℕ, zero, suc, Bool, List, [], ◌∷◌, Some, get_or, length, slice_get, slice_index_or, sym, ap, subst, arith}
 use Rattle.std.proofs.lemmas.Option.{slice_get-get_or, slice_get_within}
 use Rattle.currency_base.specs.Literals.{var_of}
 use Rattle.currency_base.specs.declared.ids.AttrId.{AttrId}
@@ -25,7 +25,7 @@ use Rattle.search_logs.specs.SearchLogs.{variables}
 use Rattle.order_links.specs.Lists.{IsListOf}
 use Rattle.order_links.specs.declared.list.ListId.{ListId}
 use Rattle.watch_solver.specs.Decided.{Solver}
-use Rattle.order_search.specs.Kept.{AreRowsOf, IsOfList, search_of, vars_of}
+use Rattle.order_search.specs.Kept.{AreRowsOf, IsOfList, search_of, seen_of, vars_of}
 use Rattle.order_search.specs.Searches.{IsSearch, IsWantedRow, Search, Subject}
 
 -- ---- the rows of a list
@@ -210,7 +210,7 @@ named_as s wanted n same rel attr row f name gives lit says r at =
 
 -- ---- a literal that says something of a search's statements
 
-pub literal_within : (s : Subject) (solver : Solver) (now : Search) → search_of s solver ≡ now
+pub literal_within : (s : Subject) (solver : Solver) {failed : Bool} (now : Search) → seen_of s solver failed ≡ now
     → IsSearch (search_of s solver) → (lit : Lit)
     → var_of lit < length (vars_of s) → var_of lit < length now.log.statements
 literal_within s solver now e is lit below =

@@ -110,14 +110,19 @@ unmarked (false ∷ brought) = suc (unmarked brought)
 abbrev pub posed_of : Subject → Frame → Posed
 posed_of s frame = record { query = s.query; answers = frame.answers }
 
--- the search over a subject, where a solver came so far
-abbrev pub search_of : Subject → Solver → Search
-search_of s solver = record {
+-- the search over a subject, where a solver came so far, and whether a call was refused memory
+abbrev pub seen_of : Subject → Solver → Bool → Search
+seen_of s solver failed = record {
   spec = s.spec;
   posed = posed_of s solver.frame;
   wanted = s.wanted;
   log = record { answers = solver.frame.answers; statements = solver.frame.statements; steps = solver.steps };
+  failed = failed;
 }
+
+-- the same, where none was
+abbrev pub search_of : Subject → Solver → Search
+search_of s solver = seen_of s solver false
 
 -- what is kept
 pub record IsHeld (s : Subject) (solver : Solver) (brought : List Bool) : Type 0 where

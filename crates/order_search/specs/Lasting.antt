@@ -9,6 +9,7 @@ use Rattle.refutation_log.specs.Follows.{FollowsFrom}
 use Rattle.refutation_log.specs.Steps.{clause_of}
 use Rattle.refutation_log.specs.declared.step.Step.{Step}
 use Rattle.refutation_log.specs.declared.step.Step.TheVariants.{Learn}
+use Rattle.lean_hints.specs.Lean.{AreLean}
 use Rattle.search_state.specs.States.{IsFit}
 use Rattle.order_literals.specs.Said.{Says, before, last, top}
 use Rattle.order_links.specs.Lists.{IsListOf}
@@ -67,14 +68,15 @@ pub record IsDerivation (vars : ℕ) (clauses : List (List Lit)) (steps : List S
 abbrev pub AreFree : Subject → List Step → Type 0
 AreFree s steps = All (λ taken. IsFreeClause s.spec (vars_of s) (clause_of taken)) steps
 
--- a step that may be put after these clauses: of so many variables, not counted, and derived with its hints
+-- a step that may be put after these clauses: of so many variables, not counted, and derived with its hints, of which none
+-- stands twice, and each but the last adds a literal
 pub record IsNextStep (vars : ℕ) (clauses : List (List Lit)) (taken : Step) : Type 0 where
   pub lits : List Lit
   pub hints : List ℕ
   pub is_step : taken ≡ Learn lits hints false
   pub fit : IsFit vars lits
   pub follows : FollowsFrom clauses lits hints
-  pub once : OnlyOnce hints
+  pub lean : AreLean clauses lits hints
 
 -- where a search of the subject is held with one solver, it is so with the other
 abbrev pub KeepsHeld : Subject → Solver → Solver → Type 0

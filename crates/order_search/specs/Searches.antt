@@ -34,12 +34,14 @@ pub record Subject : Type 0 where
   pub query : Option Query
   pub wanted : Wanted
 
--- a specification, what is posed of it, what is numbered of it beside the pairs of rows, and the log so far
+-- a specification, what is posed of it, what is numbered of it beside the pairs of rows, the log so far, and whether a
+-- call was refused memory
 pub record Search : Type 0 where
   pub spec : Spec
   pub posed : Posed
   pub wanted : Wanted
   pub log : Log
+  pub failed : Bool
 
 -- a row of a relation whose current values are wanted, and one of its attributes
 pub record IsWantedRow (s : Spec) (wanted : Wanted) (rel : RelId) (attr : AttrId) (row : RowId) : Type 0 where
@@ -63,7 +65,7 @@ pub record IsSearch (s : Search) : Type 0 where
   pub begins : BeginsWithAxioms s.spec s.wanted s.log.steps
   pub counted_new : CountedAreNew s.log.steps
 
--- steps were added, and nothing else changed
+-- steps were added, and nothing else changed but whether a call was refused memory
 pub record HasGone (old new : Search) : Type 0 where
   pub spec : new.spec ≡ old.spec
   pub posed : new.posed ≡ old.posed

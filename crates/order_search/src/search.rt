@@ -1,4 +1,4 @@
-ghost use Rattle.std.specs.Prelude.{◌≡◌, ◌+◌, ◌<◌, IfOk, IfSome, OnOk, Some, false, length, option_map, slice_get, true};
+ghost use Rattle.std.specs.Prelude.{◌≡◌, ◌+◌, ◌<◌, IfOk, IfSome, IsErr, OnErr, OnOk, Some, false, length, option_map, slice_get, true};
 ghost use Rattle.currency_base.specs.Literals.{var_of};
 ghost use Rattle.match_clauses.specs.Clauses.{SaysAnswer};
 ghost use Rattle.refutation_log.specs.Counted.{IsOpenLog, counted_steps};
@@ -29,7 +29,8 @@ use std::alloc::Global;
 use std::marker::Model;
 use watch_solver::Budget;
 
-/// A search over the statements of a specification. Contracts see its log, the specification and what is wanted.
+/// A search over the statements of a specification. Contracts see its log, the specification, what is wanted, and whether a
+/// call was refused memory: after one that was, every later one that takes memory answers so.
 #[derive(Drop)]
 pub struct Search<'a> {
     subject: Subject<'a>,
@@ -45,13 +46,13 @@ pub struct Search<'a> {
 
 impl<'a> Model for Search<'a> {
     ghost use Rattle.std.specs.Prelude.{◌≡◌, false};
-    ghost use Rattle.order_search.specs.Kept.{ArePlain, IsHeld, search_of};
+    ghost use Rattle.order_search.specs.Kept.{ArePlain, IsHeld, seen_of};
     ghost use Rattle.order_search.specs.Parts.{IsParting};
     ghost use Rattle.order_search.specs.Searches.{Search as Searches};
 
     ghost Value = { Searches };
 
-    ghost view = { λ s. search_of s.subject s.progress.solver };
+    ghost view = { λ s. seen_of s.subject s.progress.solver s.failed };
 
     ghost invariant = { λ s. IsHeld s.subject s.progress.solver s.progress.brought.items
         × (s.links ≡ s.subject.spec.relations)
@@ -77,6 +78,7 @@ impl<'a> Search<'a> {
         ensures posed { IfOk result (λ s. s.posed ≡ record { query = option_map (λ q. q.now) query.entry; answers = answers }) }
         ensures wanted { IfOk result (λ s. s.wanted ≡ record { currents = currents; answers = length answers }) }
         ensures uncounted { IfOk result (λ s. counted_steps s.log.steps ≡ 0) }
+        ensures whole { IfOk result (λ s. s.failed ≡ false) }
     {
         let wanted = Wanted {
             currents,
@@ -146,6 +148,9 @@ impl<'a> Search<'a> {
         ensures gone { HasGone self.old self.new }
         ensures units { counted_steps self.new.log.steps + budget.new ≡ counted_steps self.old.log.steps + budget.old }
         ensures found { IfOk result (Tells self.new goal budget.new) }
+        ensures stays { self.old.failed ≡ true → IsErr result }
+        ensures fails { OnErr result (self.new.failed ≡ true) }
+        ensures succeeds { OnOk result (self.new.failed ≡ false) }
     {
         if self.failed {
             return Err(NoMemory);
@@ -177,11 +182,14 @@ impl<'a> Search<'a> {
         requires { IsListOf self.old.spec.relations list }
         ensures gone { HasGone self.old self.new }
         ensures units { counted_steps self.new.log.steps ≡ counted_steps self.old.log.steps }
+        ensures stays { self.old.failed ≡ true → IsErr result }
+        ensures fails { OnErr result (self.new.failed ≡ true) }
+        ensures succeeds { OnOk result (self.new.failed ≡ false) }
     {
         if self.failed {
             return Err(NoMemory);
         }
-        let outcome = bring_linked(
+        let brought = bring_linked(
             &self.subject,
             &mut self.progress,
             &self.links,
@@ -190,8 +198,8 @@ impl<'a> Search<'a> {
             when,
             guides,
         );
-        self.failed = outcome.is_err();
-        outcome
+        self.failed = brought.is_err();
+        brought
     }
 
     /// Puts the axiom of a match of the posed query after the steps, whose tuple stands at a place of the posed answers. No unit
@@ -208,12 +216,15 @@ impl<'a> Search<'a> {
         ensures gone { HasGone self.old self.new }
         ensures units { counted_steps self.new.log.steps ≡ counted_steps self.old.log.steps }
         ensures put { OnOk result (HasTaken self.old self.new completion.now m.now answer false) }
+        ensures stays { self.old.failed ≡ true → IsErr result }
+        ensures fails { OnErr result (self.new.failed ≡ true) }
+        ensures succeeds { OnOk result (self.new.failed ≡ false) }
     {
         if self.failed {
             return Err(NoMemory);
         }
         self.is_matched = true;
-        let outcome = add_match(
+        let added = add_match(
             &self.subject,
             &mut self.progress,
             alloc,
@@ -222,8 +233,8 @@ impl<'a> Search<'a> {
             answer,
             guides,
         );
-        self.failed = outcome.is_err();
-        outcome
+        self.failed = added.is_err();
+        added
     }
 
     /// Puts the axiom of a match after the steps as one that the search demands: over the current instance of a completion
@@ -245,12 +256,15 @@ impl<'a> Search<'a> {
         ensures units { counted_steps self.new.log.steps + budget.new ≡ counted_steps self.old.log.steps + budget.old }
         ensures put { OnOk result (HasTaken self.old self.new completion.now m.now answer true) }
         ensures taken { OnOk result (budget.new + 1 ≡ budget.old) }
+        ensures stays { self.old.failed ≡ true → IsErr result }
+        ensures fails { OnErr result (self.new.failed ≡ true) }
+        ensures succeeds { OnOk result (self.new.failed ≡ false) }
     {
         if self.failed {
             return Err(NoMemory);
         }
         self.is_matched = true;
-        let outcome = demand_match(
+        let demanded = demand_match(
             &self.subject,
             &mut self.progress,
             alloc,
@@ -261,8 +275,8 @@ impl<'a> Search<'a> {
             budget,
             guides,
         );
-        self.failed = outcome.is_err();
-        outcome
+        self.failed = demanded.is_err();
+        demanded
     }
 
     /// No work: the caller learns that the log is open where each step's clause is true.
@@ -275,15 +289,23 @@ impl<'a> Search<'a> {
 
     /// Lets the guides begin from another guess at a model: one whose free pairs are turned round.
     pub fn turn(&mut self, alloc: Global, guides: &mut Guides) -> Result<(), NoMemory>
-        ensures { self.new ≡ self.old }
+        ensures same { self.new ≡ record self.old { failed = self.new.failed } }
+        ensures stays { self.old.failed ≡ true → IsErr result }
+        ensures fails { OnErr result (self.new.failed ≡ true) }
+        ensures succeeds { OnOk result (self.new.failed ≡ false) }
     {
-        guess(
+        if self.failed {
+            return Err(NoMemory);
+        }
+        let guessed = guess(
             &self.subject,
             alloc,
             &mut self.progress.solver,
             true,
             guides,
-        )
+        );
+        self.failed = guessed.is_err();
+        guessed
     }
 
     /// The literal that says that of two rows of one entity the first stands before the second.

@@ -9,6 +9,8 @@ mod Labels
 mod Plain
 mod Searched
 mod Trimmed
+mod Renumbered
+mod Right
 mod Used
 mod Completions
 mod Whole

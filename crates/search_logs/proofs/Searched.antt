@@ -67,7 +67,7 @@ module _ (s : Spec) (posed : Posed) (statements : List Statement) (earlier : Lis
   lits_within (OnDemand l lits) is = is.within
   lits_within (Learn lits hints counted) is = is.within
 
-  hints_below : (step : Step) → IsSearchStep s posed statements earlier step → All (λ hint. hint < length earlier) (hints_of step)
+  pub hints_below : (step : Step) → IsSearchStep s posed statements earlier step → All (λ hint. hint < length earlier) (hints_of step)
   hints_below (Axiom l lits) is = All-nil (λ hint. hint < length earlier)
   hints_below (OnDemand l lits) is = All-nil (λ hint. hint < length earlier)
   hints_below (Learn lits hints counted) is = is.follows.known
@@ -76,13 +76,13 @@ module _ (s : Spec) (posed : Posed) (statements : List Statement) (earlier : Lis
   hints_few (Axiom l lits) few is = tt
   hints_few (OnDemand l lits) few is = tt
   hints_few (Learn lits hints counted) few is =
-      let count = few_numbers hints (length earlier) is.hints_once is.follows.known in
+      let count = few_numbers hints (length earlier) is.lean.once is.follows.known in
       omega (arith, count, few)
 
   plain_step : IsWithin s → (step : Step) → IsSearchStep s posed statements earlier step → IsPlainStep step
   plain_step within (Axiom l lits) is = plain_axiom s posed statements l lits within is
   plain_step within (OnDemand l lits) is = (is.writable, is.once)
-  plain_step within (Learn lits hints counted) is = (is.lits_once, is.hints_once)
+  plain_step within (Learn lits hints counted) is = (is.lits_once, is.lean.once)
 
 accepted_step : StepsAreAxioms → (s : Spec) (posed : Posed) (wanted : Wanted) (earlier : List (List Lit))
     → IsWithin s → (step : Step)
@@ -92,7 +92,7 @@ accepted_step made s posed wanted earlier within (OnDemand l lits) is = is.judge
 accepted_step made s posed wanted earlier within (Learn lits hints counted) is = is.follows
 
 -- the steps before a place
-earlier_count : (steps : List Step) (place : ℕ) (step : Step) → slice_get steps place ≡ Some step
+pub earlier_count : (steps : List Step) (place : ℕ) (step : Step) → slice_get steps place ≡ Some step
     → (length (clauses_of (take place steps)) ≡ place) × (place < length steps)
 earlier_count steps place step at =
     let within = slice_get_within steps place step at in

@@ -157,7 +157,7 @@ IsLessAnswer answers other = ⊥
 
 module _ (log : Log) (goals : List ℕ) (trimmed : Trimmed) (t : IsTrimmed log goals trimmed) where
   -- the variable of a literal of a kept step is kept
-  lit_kept : (place : ℕ) (step : Step) → slice_get log.steps place ≡ Some step → t.step_kept place ≡ true → (lit : Lit)
+  pub lit_kept : (place : ℕ) (step : Step) → slice_get log.steps place ≡ Some step → t.step_kept place ≡ true → (lit : Lit)
       → IsIn (clause_of step) lit → t.statement_kept (var_of lit) ≡ true
   lit_kept place step at kept lit is_in =
       let there : Contains (lits_at log.steps place) lit =
@@ -167,7 +167,7 @@ module _ (log : Log) (goals : List ℕ) (trimmed : Trimmed) (t : IsTrimmed log g
       (record { place = place; reached = (t.kept_steps place).0 kept; lit = lit; is_in = there; is_var = refl })
 
   -- a hint of a kept step is kept
-  hint_kept : (place : ℕ) (step : Step) → slice_get log.steps place ≡ Some step → t.step_kept place ≡ true → (hint : ℕ)
+  pub hint_kept : (place : ℕ) (step : Step) → slice_get log.steps place ≡ Some step → t.step_kept place ≡ true → (hint : ℕ)
       → IsIn (hints_of step) hint → t.step_kept hint ≡ true
   hint_kept place step at kept hint is_in =
       let there : Contains (hints_at log.steps place) hint =
@@ -183,7 +183,7 @@ module _ (log : Log) (goals : List ℕ) (trimmed : Trimmed) (t : IsTrimmed log g
       (λ a b in_a in_b same. renumbered_same t.statement_kept a b (lit_kept place step at kept a in_a)
       (lit_kept place step at kept b in_b) same)
 
-  new_hints_once : (place : ℕ) (step : Step) → slice_get log.steps place ≡ Some step → t.step_kept place ≡ true
+  pub new_hints_once : (place : ℕ) (step : Step) → slice_get log.steps place ≡ Some step → t.step_kept place ≡ true
       → OnlyOnce (hints_of step)
       → OnlyOnce (map (rank t.step_kept) (hints_of step))
   new_hints_once place step at kept once =

@@ -13,6 +13,7 @@ use Rattle.log_trim.specs.declared.trimming.Trimmed.{Trimmed}
 use Rattle.refutation_log.specs.Writable.{IsWritable}
 use Rattle.report_model.specs.Writable.{IsWritableCompletion}
 use Rattle.order_literals.specs.declared.wanted.Wanted.{Wanted}
+use Rattle.search_logs.specs.Right.{AreStepsRight}
 use Rattle.search_logs.specs.SearchLogs.{IsSearchLog, IsWithin, HasFewSteps, variables}
 
 -- it is accepted
@@ -71,6 +72,17 @@ TrimmedAreUsed = (log : Log) (goals : List ℕ) (trimmed : Trimmed) → IsTrimme
 
 abbrev pub TrimmedAreNoMore : Type 0
 TrimmedAreNoMore = (log : Log) (goals : List ℕ) (trimmed : Trimmed) → IsTrimmed log goals trimmed → IsNoMore log trimmed
+
+-- of its steps those alone are not counted that may be so, and no hint is idle
+abbrev pub SearchLogsAreRight : Type 0
+SearchLogsAreRight =
+    (s : Spec) (posed : Posed) (wanted : Wanted) (log : Log) → IsSearchLog s posed wanted log → AreStepsRight s log
+
+-- and so it is with what it is trimmed to
+abbrev pub TrimmedAreRight : Type 0
+TrimmedAreRight =
+    (s : Spec) (posed : Posed) (wanted : Wanted) (log : Log) (goals : List ℕ) (trimmed : Trimmed)
+    → IsSearchLog s posed wanted log → IsTrimmed log goals trimmed → AreStepsRight s trimmed.log
 
 -- a completion of a specification within its limits can be written
 abbrev pub CompletionsAreWritable : Type 0

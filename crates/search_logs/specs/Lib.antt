@@ -1,3 +1,4 @@
 pub mod Free
+pub mod Right
 pub mod SearchLogs
 pub mod Laws

@@ -13,6 +13,7 @@ use Rattle.spec_limits.specs.Instances.{too_many_instances}
 use Rattle.spec_limits.specs.Limits.{exceeded, too_many_variables}
 use Rattle.spec_model.specs.Facts.{IsSpecification}
 use Rattle.spec_model.specs.Spec.{Spec}
+use Rattle.lean_hints.specs.Lean.{AreLean}
 use Rattle.refutation_log.specs.Follows.{FollowsFrom}
 use Rattle.refutation_log.specs.Steps.{clauses_of}
 use Rattle.refutation_log.specs.declared.log.Log.{Log}
@@ -32,14 +33,15 @@ use Rattle.search_logs.specs.Free.{IsFreeClause}
 abbrev pub variables : Spec → Wanted → List Statement
 variables s wanted = statements_of (numbers_of s.relations wanted)
 
--- a clause that is learned: it follows from the clauses before it with its hints, its literals are of the statements, and no
--- literal and no hint stands twice; where it is not counted, it is one that is free of the budget
+-- a clause that is learned: it follows from the clauses before it with its hints, and its literals are of the statements; no
+-- literal stands twice; no hint does, and each but the last adds a literal; where it is not counted, it is one that is free of
+-- the budget
 pub record IsLearnedStep (s : Spec) (statements : List Statement) (earlier : List (List Lit)) (lits : List Lit)
     (hints : List ℕ) (counted : Bool) : Type 0 where
   pub follows : FollowsFrom earlier lits hints
   pub within : All (λ lit. var_of lit < length statements) lits
   pub lits_once : OnlyOnce lits
-  pub hints_once : OnlyOnce hints
+  pub lean : AreLean earlier lits hints
   pub free : counted ≡ false → IsFreeClause s statements lits
 
 -- what is posed of a search: tuples that ascend, at most a million, of values such as documents have

@@ -1,4 +1,4 @@
-ghost use Rattle.search_logs.specs.Laws.{LogsAreAccepted, LogsAreInPlace, LogsAreWritable, TrimmedAreWritable, TrimmedAreAmong, TrimmedAreNoMore, TrimmedAreReached, TrimmedAreUsed, CompletionsAreWritable};
+ghost use Rattle.search_logs.specs.Laws.{LogsAreAccepted, LogsAreInPlace, LogsAreWritable, TrimmedAreWritable, TrimmedAreAmong, TrimmedAreNoMore, TrimmedAreReached, TrimmedAreUsed, CompletionsAreWritable, SearchLogsAreRight, TrimmedAreRight};
 
 use axiom_agreement::axioms_agree;
 use order_limits::statements_are_few;
@@ -31,6 +31,13 @@ pub fn trimmed_logs_are_writable()
 {
     statements_are_few();
 }
+
+/// Laws: of the steps of the log of a search those alone are not counted that may be so, and no hint is idle; and so it is with
+/// what the log is trimmed to.
+pub fn search_logs_are_right()
+    ensures right { SearchLogsAreRight }
+    ensures trimmed { TrimmedAreRight }
+{}
 
 /// A law: a completion of a specification within its limits can be written.
 pub fn completions_are_writable()

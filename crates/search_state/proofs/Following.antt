@@ -1,11 +1,12 @@
--- A clause that follows from clauses follows from the same ones with their literals in another order.
+-- A clause that follows from clauses follows from the same ones with their literals in another order, with hints as lean.
 use Rattle.std.specs.Prelude.{⊤}
 use Rattle.std.proofs.Common.{◌≡◌, ◌<◌, ℕ, subst, List, [], ◌∷◌, ◌++◌, length, refl, ap, inl, inr, arith}
-use Rattle.std.proofs.lemmas.List.Elements.{All-head, All-tail}
+use Rattle.std.proofs.lemmas.List.Elements.{All-cons, All-head, All-nil, All-tail}
 use Rattle.std.proofs.lemmas.Option.{slice_get-get_or}
 use Rattle.currency_base.specs.Literals.{negation}
 use Rattle.currency_base.specs.declared.lit.Lit.{Lit}
 use Rattle.refutation_log.specs.Follows.{AreEarlier, AreFalse, Falsifies, Follows, FollowsFrom, IsOnlyOpen, clause_at, clauses_at}
+use Rattle.lean_hints.specs.Lean.{AreLean, EachAdds, IsAdding}
 use Rattle.watch_propagate.specs.WatchRule.{AreReordered, AreSameLits}
 use Rattle.watch_propagate.proofs.SameFacts.{same_back}
 
@@ -28,6 +29,9 @@ only_same falses x y lit same only =
           (same.none_new other c) d;
     }
 
+adding_same : (falses x y : List Lit) (lit : Lit) → AreSameLits x y → IsAdding falses x lit → IsAdding falses y lit
+adding_same falses x y lit same adding = record { only_open = only_same falses x y lit same adding.only_open; fresh = adding.fresh }
+
 -- the same clauses falsify the same literals
 falsifies_same : (falses : List Lit) (xs ys : List (List Lit)) (all : List Lit) → AreSame xs ys → Falsifies falses xs
     all → Falsifies falses ys all
@@ -38,6 +42,17 @@ falsifies_same falses (x ∷ xs) (y ∷ ys) all same (inl f) =
     inl (false_same falses x y same.0 f.0, falsifies_same falses xs ys all same.1 f.1)
 falsifies_same falses (x ∷ xs) (y ∷ ys) all same (inr f) =
     inr (f.0, only_same falses x y f.0 same.0 f.1, falsifies_same (falses ++ negation f.0 ∷ []) xs ys all same.1 f.2)
+
+-- and of the same clauses each adds a literal
+adds_same : (falses : List Lit) (xs ys : List (List Lit)) → AreSame xs ys → EachAdds falses xs → EachAdds falses ys
+adds_same falses [] [] same adds = adds
+adds_same falses [] (y ∷ ys) same adds = absurd same
+adds_same falses (x ∷ xs) [] same adds = absurd same
+adds_same falses (x ∷ xs) (y ∷ ys) same adds = (
+  adds.0,
+  adding_same falses x y adds.0 same.0 adds.1,
+  adds_same (falses ++ negation adds.0 ∷ []) xs ys same.1 adds.2,
+)
 
 -- the last clause and those before it
 record EndsSame (front : List (List Lit)) (last : List Lit) (ys : List (List Lit)) : Type 0 where
@@ -100,4 +115,25 @@ follows_reordered old new clause hints re known follows =
     record {
       known = λ i d h. let k = known i d h in omega (arith, k, re.as_many);
       follows = follows_same clause (clauses_at old hints) (clauses_at new hints) (clauses_same old new hints re known) follows;
+    }
+
+-- the numbers before the last one are earlier
+front_earlier : (old : List (List Lit)) (front : List ℕ) (last : ℕ) → AreEarlier old (front ++ last ∷ []) → AreEarlier old front
+front_earlier old [] last known = All-nil (λ (h : ℕ). h < length old)
+front_earlier old (hint ∷ front) last known =
+    All-cons (λ (h : ℕ). h < length old) hint front
+    (All-head (λ (h : ℕ). h < length old) hint (front ++ last ∷ []) known)
+    (front_earlier old front last (All-tail (λ (h : ℕ). h < length old) hint (front ++ last ∷ []) known))
+
+-- and hints that are lean there are lean here
+pub lean_reordered : (old new : List (List Lit)) (clause : List Lit) (hints : List ℕ) → AreReordered new old
+    → AreEarlier old hints
+    → AreLean old clause hints → AreLean new clause hints
+lean_reordered old new clause hints re known lean =
+    record {
+      once = lean.once;
+      adds = λ front last is.
+          adds_same clause (clauses_at old front) (clauses_at new front)
+          (clauses_same old new front re (front_earlier old front last (subst (AreEarlier old) is known)))
+          (lean.adds front last is);
     }

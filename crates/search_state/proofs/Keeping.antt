@@ -13,7 +13,7 @@ use Rattle.watch_propagate.specs.WatchRule.{AreReordered, Implies, IsRewatched, 
 use Rattle.conflict_analysis.specs.Analyses.{IsDerived}
 use Rattle.search_state.specs.States.{IsDerivedFrom, IsFit, IsState, State, vars_of}
 use Rattle.search_state.specs.Held.{AreHeld, IsKept}
-use Rattle.search_state.proofs.Following.{follows_reordered}
+use Rattle.search_state.proofs.Following.{follows_reordered, lean_reordered}
 use Rattle.search_state.proofs.Holding.{held_as, held_propagated, none_found}
 use Rattle.search_state.proofs.Showing.{quiet_below}
 
@@ -80,7 +80,7 @@ derived_of s a t lits hints re vars d =
     record {
       fit = record { within = λ k x h. let below = d.within k x h in omega (arith, below, vars); once = d.lits_once };
       follows = follows_reordered a.clauses (clauses_of s.steps) lits hints re d.known d.follows;
-      hints_once = d.hints_once;
+      lean = lean_reordered a.clauses (clauses_of s.steps) lits hints re d.known d.lean;
     }
 
 -- and its literals are fit

@@ -11,6 +11,7 @@ use Rattle.currency_base.specs.declared.value.Value.{Value as Datum}
 use Rattle.refutation_log.specs.declared.statement.Statement.{Statement}
 use Rattle.refutation_log.specs.declared.step.Step.{Step}
 use Rattle.refutation_log.specs.declared.step.Step.TheVariants.{Learn}
+use Rattle.lean_hints.specs.Lean.{AreLean}
 use Rattle.conflict_analysis.specs.Analyses.{AreOfAssumed, lits_below}
 
 -- what a search leaves as it is: the tuples that a log's statements name, and its statements, which are the variables
@@ -78,11 +79,11 @@ pub record HasTrail (old new : State) (t : Trail) : Type 0 where
   pub refuted : new.refuted ≡ old.refuted
   pub trail : new.trail ≡ t
 
--- a clause that follows from the steps with its hints, no literal and no hint twice
+-- a clause that follows from the steps with its hints: no literal and no hint twice, and each hint but the last adds a literal
 pub record IsDerivedFrom (s : State) (lits : List Lit) (hints : List ℕ) : Type 0 where
   pub fit : IsFit (vars_of s) lits
   pub follows : FollowsFrom (clauses_of s.steps) lits hints
-  pub hints_once : OnlyOnce hints
+  pub lean : AreLean (clauses_of s.steps) lits hints
 
 -- a counted clause was learned: it follows and is new; the search went back to a lower level, where it implies its first literal
 pub record HasLearned (old new : State) : Type 0 where

@@ -22,15 +22,9 @@ pub(crate) fn filled(alloc: Global, vars: u32, steps: &Steps) -> Result<Search, 
     ensures scope { IfOk result (λ s. s.trail.scope ≡ whole_scope vars) }
     ensures watchers { IfOk result (λ s. length s.arena.watchers ≡ 2 * vars) }
 {
-    let mut search = match Search::new(alloc, vars) {
-        Ok(search) => search,
-        Err(error) => return Err(error),
-    };
+    let mut search = Search::new(alloc, vars)?;
     for place in 0..steps.len() {
-        match search.prepare(steps.lits(place)) {
-            Ok(()) => {}
-            Err(error) => return Err(error),
-        }
+        search.prepare(steps.lits(place))?;
         search.put();
     }
     Ok(search)
@@ -99,10 +93,8 @@ pub(crate) fn conclude(
         hints: analysis.hints(),
         counted: false,
     };
-    match append(steps, search, step) {
-        Ok(()) => Ok(place),
-        Err(error) => Err(error),
-    }
+    append(steps, search, step)?;
+    Ok(place)
 }
 
 // The literals of a step that is lent.

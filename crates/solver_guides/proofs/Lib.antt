@@ -1,3 +1,4 @@
+pub mod Asked
 pub mod FirstFrees
 pub mod Marked
 pub mod Taken

@@ -1,5 +1,6 @@
 -- Rings: guides that take turns.
-use Rattle.std.specs.Prelude.{◌≡◌, ◌<◌, ◌+◌, ℕ, Bool, true, List, Option, Some, option_and_then, if◌then◌else◌, nat_lt, slice_get, vec_len}
+use Rattle.std.specs.Prelude.{◌≡◌, ◌<◌, ◌+◌, ℕ, Bool, true, false, List, [], ◌∷◌, Option, Some, option_and_then, if◌then◌else◌, nat_lt, slice_get, vec_len}
+use Rattle.std.specs.DynBox.{dyn_box_with}
 use Rattle.std.specs.declared.alloc.Global.{Global}
 use Rattle.std.specs.declared.dyn_box.DynBox.{DynBox}
 use Rattle.currency_base.specs.declared.lit.Lit.{Lit}
@@ -35,3 +36,20 @@ current_choice choice ring values = choice_at choice (guides_of ring) (place_of 
 abbrev pub HaveRoom : {B : Type 0} → (B → ℕ → Bool) → ℕ → List B → ℕ → Type 0
 HaveRoom has_room vars guides count = (place : ℕ) (guide : _) → place < count → slice_get guides place ≡ Some guide
     → has_room guide vars ≡ true
+
+-- a guide was asked to make room for so many variables: it told whether there was memory, and the call left the new one
+pub record IsAsked {X : Type 0} {P : X → Type 0} (may_fit : (guide : DynBox X Global P) → ℕ → Bool → P guide.vtable → Bool)
+    (vars : ℕ) (old : DynBox X Global P) (fits : Bool) (new : DynBox X Global P) : Type 0 where
+  pub value : P old.vtable
+  pub is_new : new ≡ dyn_box_with old old.vtable value
+  pub told : may_fit old vars fits value ≡ true
+
+-- of guides that were each asked to make room for so many variables, those that were not refused memory are left, in their
+-- order, each as its call left it
+pub data AreLeft {X : Type 0} {P : X → Type 0} (may_fit : (guide : DynBox X Global P) → ℕ → Bool → P guide.vtable → Bool)
+    (vars : ℕ) : List (DynBox X Global P) → List (DynBox X Global P) → Type 0 where
+  none : AreLeft may_fit vars [] []
+  stays : {old new : DynBox X Global P} {olds news : List (DynBox X Global P)} → IsAsked may_fit vars old true new
+      → AreLeft may_fit vars olds news → AreLeft may_fit vars (old ∷ olds) (new ∷ news)
+  goes : {old new : DynBox X Global P} {olds news : List (DynBox X Global P)} → IsAsked may_fit vars old false new
+      → AreLeft may_fit vars olds news → AreLeft may_fit vars (old ∷ olds) news

@@ -1,4 +1,4 @@
-ghost use Rattle.std.specs.Prelude.{◌≡◌, ◌==◌, ◌<◌, ◌≤◌, ◌^◌, [], None, true, false, length, not, replicate, slice_set, IfSome, OnOk, OnErr};
+ghost use Rattle.std.specs.Prelude.{◌≡◌, ◌==◌, ◌<◌, ◌≤◌, ◌^◌, [], None, true, false, if◌then◌else◌, length, not, replicate, slice_set, IfSome, OnOk, OnErr};
 ghost use Rattle.currency_base.specs.Literals.{var_of, is_negative};
 ghost use Rattle.solver_guides.specs.Choices.{greatest_choice, greatest_of};
 ghost use Rattle.solver_guides.specs.Known.{bump_after, bump_of, counts_after, counts_of, grown, marked, present_of, put_back, raised, truths_of};
@@ -50,6 +50,8 @@ impl Guide for Activity {
     ghost choice = { λ g. greatest_choice (counts_of g) (present_of g) (truths_of g) };
 
     ghost has_room = { λ g vars. length (counts_of g) == vars };
+
+    ghost may_fit = { λ g vars fits h. length (counts_of h) == (if fits then vars else length (counts_of g)) };
 
     fn fit(&mut self, alloc: Global, start: &Assignment) -> Result<(), NoMemory>
         ensures counts { OnOk result (counts_of self.new ≡ replicate (length start.now) 0) }

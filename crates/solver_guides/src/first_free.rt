@@ -1,4 +1,4 @@
-ghost use Rattle.std.specs.Prelude.{◌≡◌, ◌==◌, [], length, OnOk};
+ghost use Rattle.std.specs.Prelude.{◌≡◌, ◌==◌, [], if◌then◌else◌, length, OnOk, OnErr};
 ghost use Rattle.solver_guides.specs.Choices.{first_free_as};
 ghost use Rattle.solver_guides.specs.Known.{start_of};
 
@@ -30,8 +30,11 @@ impl Guide for FirstFree {
 
     ghost has_room = { λ g vars. length (start_of g) == vars };
 
+    ghost may_fit = { λ g vars fits h. length (start_of h) == (if fits then vars else length (start_of g)) };
+
     fn fit(&mut self, alloc: Global, start: &Assignment) -> Result<(), NoMemory>
         ensures start { OnOk result (start_of self.new ≡ start.now) }
+        ensures err { OnErr result (start_of self.new ≡ start_of self.old) }
     {
         match copied(alloc, start) {
             Ok(truths) => {

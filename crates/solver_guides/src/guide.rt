@@ -1,4 +1,4 @@
-ghost use Rattle.std.specs.Prelude.{◌≡◌, ℕ, Bool, true, Option, length, OnOk};
+ghost use Rattle.std.specs.Prelude.{◌≡◌, ℕ, Bool, true, Option, length, is_ok, OnOk};
 ghost use Rattle.currency_base.specs.declared.lit.Lit.{Lit};
 ghost use Rattle.search_trail.specs.Trails.{ScopedValues};
 
@@ -15,10 +15,15 @@ pub trait Guide: Drop {
     /// Has it made room for so many variables?
     ghost has_room: { Self → ℕ → Bool };
 
+    /// Could a call of `fit` over so many variables tell this, that there was memory or that there was none, and leave
+    /// that guide?
+    ghost may_fit: { Self → ℕ → Bool → Self → Bool };
+
     /// Makes room for the variables of `start`, a first guess at a model, which are all of the scope. A guide that is
-    /// refused memory is dropped by the ring.
+    /// refused memory is dropped by the ring, and no other one is.
     fn fit(&mut self, alloc: Global, start: &Assignment) -> Result<(), NoMemory>
-        ensures { OnOk result (has_room self.new (length start.now) ≡ true) };
+        ensures room { OnOk result (has_room self.new (length start.now) ≡ true) }
+        ensures told { may_fit self.old (length start.now) (is_ok result) self.new ≡ true };
 
     /// A literal to assume, for these values.
     fn pick(&mut self, values: &Values) -> Option<Lit>

@@ -1,4 +1,4 @@
-ghost use Rattle.std.specs.Prelude.{◌≡◌, ◌==◌, [], length, not, slice_set, OnOk};
+ghost use Rattle.std.specs.Prelude.{◌≡◌, ◌==◌, [], if◌then◌else◌, length, not, slice_set, OnOk, OnErr};
 ghost use Rattle.currency_base.specs.Literals.{var_of, is_negative};
 ghost use Rattle.solver_guides.specs.Choices.{first_free_as};
 ghost use Rattle.solver_guides.specs.Known.{phases_of};
@@ -32,8 +32,11 @@ impl Guide for KeepPhase {
 
     ghost has_room = { λ g vars. length (phases_of g) == vars };
 
+    ghost may_fit = { λ g vars fits h. length (phases_of h) == (if fits then vars else length (phases_of g)) };
+
     fn fit(&mut self, alloc: Global, start: &Assignment) -> Result<(), NoMemory>
         ensures start { OnOk result (phases_of self.new ≡ start.now) }
+        ensures err { OnErr result (phases_of self.new ≡ phases_of self.old) }
     {
         match copied(alloc, start) {
             Ok(truths) => {

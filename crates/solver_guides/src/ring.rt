@@ -2,7 +2,7 @@ ghost use Rattle.std.specs.Prelude.{◌≡◌, ◌<◌, ◌≤◌, ℕ, Some, []
 ghost use Rattle.currency_base.specs.Literals.{var_of};
 ghost use Rattle.search_trail.specs.Trails.{IsFreeInScope, ScopedValues};
 ghost use Rattle.solver_guides.specs.Choices.{first_free_as, free_choice};
-ghost use Rattle.solver_guides.specs.Rings.{HaveRoom, choice_at, count_of, current_choice, guides_of, next_place, place_of};
+ghost use Rattle.solver_guides.specs.Rings.{AreLeft, HaveRoom, IsAsked, choice_at, count_of, current_choice, guides_of, next_place, place_of};
 
 use crate::Guide;
 use crate::choices::{first_free_as, is_pick};
@@ -67,12 +67,13 @@ impl Guides {
         self.at = 0;
     }
 
-    /// Each guide makes room for the variables of a first guess at a model; one that is refused memory is dropped. It
-    /// is the first one's turn.
+    /// Each guide makes room for the variables of a first guess at a model. One that is refused memory is dropped, and no
+    /// other one is; those that are left keep their order. It is the first one's turn.
     pub fn fit_all(&mut self, alloc: Global, start: &Assignment)
         ensures fewer { count_of self.new ≤ count_of self.old }
         ensures place { place_of self.new ≡ 0 }
         ensures room { HaveRoom (λ guide. has_room guide) (length start.now) (guides_of self.new) (count_of self.new) }
+        ensures left { AreLeft (λ guide. may_fit guide) (length start.now) (guides_of self.old) (guides_of self.new) }
     {
         let mut place = 0;
         while place < self.guides.len() {
@@ -171,7 +172,8 @@ impl Guides {
 
 // Makes room in a guide; tells whether there was memory.
 fn is_fitted(guide: &mut Box<dyn Guide>, alloc: Global, start: &Assignment) -> bool
-    ensures { result ≡ true → has_room guide.new (length start.now) ≡ true }
+    ensures room { result ≡ true → has_room guide.new (length start.now) ≡ true }
+    ensures told { IsAsked (λ guide. may_fit guide) (length start.now) guide.old result guide.new }
 {
     guide.fit(alloc, start).is_ok()
 }

@@ -1,4 +1,4 @@
-ghost use Rattle.std.specs.Prelude.{◌≡◌, true, length, OnOk};
+ghost use Rattle.std.specs.Prelude.{◌≡◌, ◌==◌, ◌&&◌, true, length, OnOk, IsOk};
 ghost use Rattle.solver_guides.specs.Choices.{next_state, seeded_choice};
 ghost use Rattle.solver_guides.specs.Known.{state_of};
 
@@ -28,7 +28,10 @@ impl Guide for Seeded {
 
     ghost has_room = { λ g vars. true };
 
+    ghost may_fit = { λ g vars fits h. fits && state_of h == state_of g };
+
     fn fit(&mut self, _alloc: Global, _start: &Assignment) -> Result<(), NoMemory>
+        ensures fits { IsOk result }
         ensures same { state_of self.new ≡ state_of self.old }
     {
         Ok(())

@@ -10,6 +10,7 @@ mod Matches
 mod Meaning
 mod Narrowing
 mod Searching
+mod Several
 mod Spreading
 mod Union
 mod Values

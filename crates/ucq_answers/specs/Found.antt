@@ -1,5 +1,5 @@
 -- What a search finds.
-use Rattle.std.specs.Prelude.{◌≡◌, ◌<◌, ◌⊎◌, ℕ, Bool, true, false, List, ◌∷◌, Option, Some, None, Contains, length, map, slice_get}
+use Rattle.std.specs.Prelude.{◌≡◌, ◌<◌, ◌⊎◌, ℕ, Bool, true, false, List, ◌∷◌, ◌++◌, Option, Some, None, All, Contains, length, map, slice_get}
 use Rattle.std.specs.List.{AllZip}
 use Rattle.currency_base.specs.declared.ids.EntId.{EntId}
 use Rattle.currency_base.specs.declared.value.Value.{Value}
@@ -117,3 +117,47 @@ IsMatchFound instance d number tuple (Some m) = IsMatchBy instance d number tupl
 abbrev pub IsMatchOf : List Disjunct → List (List (List Value)) → List Value → Option Match → Type 0
 IsMatchOf disjuncts instance tuple None = IsAnswerOf disjuncts instance tuple → ⊥
 IsMatchOf disjuncts instance tuple (Some m) = let q : Query = record { disjuncts = disjuncts } in IsMatch q instance tuple m
+
+-- a match by one of these disjuncts
+abbrev pub IsMatchAmong : List Disjunct → List (List (List Value)) → List Value → Match → Type 0
+IsMatchAmong disjuncts instance tuple m = let q : Query = record { disjuncts = disjuncts } in IsMatch q instance tuple m
+
+-- ---- several matches
+
+-- matches, with a bound on how many are wanted
+pub record Wanted : Type 0 where
+  pub at_most : ℕ
+  pub matches : List Match
+
+-- some matches that are meant are added, and nothing else
+pub record AddsMatches (IsMeant : Match → Type 0) (old new : Wanted) : Type 0 where
+  pub at_most : new.at_most ≡ old.at_most
+  pub added : List Match
+  pub is_added : new.matches ≡ old.matches ++ added
+  pub each : All IsMeant added
+
+-- just this match
+abbrev pub IsThis : Match → Match → Type 0
+IsThis m other = other ≡ m
+
+-- the places of tuples that an atom fits
+abbrev pub AllFitAt : List (List (List Value)) → List (Option Value) → Atom → List EntId → Type 0
+AllFitAt instance b atom ents = All (FitsAt instance b atom) ents
+
+-- one of these places
+abbrev pub IsOneOf : List EntId → EntId → Type 0
+IsOneOf ents ent = Contains ents ent
+
+-- a match by these values, at tuples that the atoms fit
+pub record IsMatchWith (instance : List (List (List Value))) (atoms : List Atom) (number : ℕ) (c : List (Option Value))
+    (m : Match) : Type 0 where
+  pub is_number : m.disjunct ≡ number
+  pub is_values : m.values ≡ values_of c
+  pub entities : AllZip (FitsAt instance c) atoms m.entities
+
+-- a match by values that go on from some, for which each atom of these steps holds and no comparison fails
+pub record IsMatchFrom (instance : List (List (List Value))) (conditions : Conditioned) (atoms : List Atom) (number : ℕ)
+    (steps : List Atom) (b : List (Option Value)) (m : Match) : Type 0 where
+  pub values : List (Option Value)
+  pub solution : IsSolution instance conditions steps b values
+  pub is_match : IsMatchWith instance atoms number values m

@@ -1,14 +1,14 @@
-ghost use Rattle.std.specs.Prelude.{◌≡◌, ◌≤◌, IfOk, IfSome, IfNone, length};
+ghost use Rattle.std.specs.Prelude.{◌≡◌, ◌≤◌, All, IfOk, IfSome, IfNone, length};
 ghost use Rattle.query_model.specs.Answers.{AreAnswers, HasMore, IsAnswer, IsMatch};
 ghost use Rattle.query_model.specs.Fitting.{IsQuery};
-ghost use Rattle.ucq_answers.specs.Found.{Adds, IsAnswerBy, IsAnswerOf, IsMatchOf};
+ghost use Rattle.ucq_answers.specs.Found.{Adds, IsAnswerBy, IsAnswerOf, IsMatchAmong, IsMatchOf};
 
 use crate::answer_set::AnswerSet;
 use crate::binding::Binding;
-use crate::matching::disjunct_match;
+use crate::matching::{disjunct_match, disjunct_matches};
 use crate::relation_index::RelationIndex;
 use crate::search::{Search, collect};
-use currency_base::{NoMemory, Tuple, TupleList};
+use currency_base::{ItemList, NoMemory, Tuple, TupleList};
 use query_model::{Match, Query};
 use query_plan::{LookedUp, PlannedDisjunct};
 use spec_model::Instance;
@@ -74,6 +74,20 @@ impl<'a> IndexedInstance<'a> {
         ensures none { IfOk result (λ found. IfNone found (IsAnswer self.now.query self.now.instance tuple.now → ⊥)) }
     {
         first_match(alloc, &self.relations, &self.disjuncts, tuple)
+    }
+
+    /// Matches by which a tuple is an answer, at most so many. Where an atom fits several tuples of its relation with the same
+    /// values, each is a match of its own.
+    pub fn matches_of(
+        &self,
+        alloc: Global,
+        tuple: &Tuple,
+        at_most: usize,
+    ) -> Result<ItemList<Match>, NoMemory>
+        ensures each { IfOk result (λ found. All (IsMatch self.now.query self.now.instance tuple.now) found) }
+        ensures few { IfOk result (λ found. length found ≤ at_most) }
+    {
+        all_matches(alloc, &self.relations, &self.disjuncts, tuple, at_most)
     }
 }
 
@@ -183,4 +197,31 @@ fn first_match<'a>(
         }
     }
     Ok(None)
+}
+
+// Matches by one disjunct after another by which a tuple is an answer, at most so many.
+fn all_matches<'a>(
+    alloc: Global,
+    relations: &'a [RelationIndex<'a>],
+    disjuncts: &'a [PlannedDisjunct<'a>],
+    tuple: &'a Tuple,
+    at_most: usize,
+) -> Result<ItemList<Match>, NoMemory>
+    ensures each { IfOk result (λ found. All (IsMatchAmong disjuncts.now relations.now tuple.now) found) }
+    ensures few { IfOk result (λ found. length found ≤ at_most) }
+{
+    let mut all = Vec::new(alloc);
+    for (place, planned) in disjuncts.iter().enumerate() {
+        if all.len() >= at_most {
+            return Ok(ItemList::from_items(all));
+        }
+        let Ok(number) = u32::try_from(place) else {
+            return Err(NoMemory);
+        };
+        let left = at_most - all.len();
+        let found = disjunct_matches(alloc, relations, planned, number, tuple, left)?;
+        let mut more = found.into_items();
+        all.append(&mut more)?;
+    }
+    Ok(ItemList::from_items(all))
 }

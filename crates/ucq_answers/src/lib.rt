@@ -4,11 +4,14 @@
 mod answer_set;
 mod binding;
 mod bounds;
+mod choices;
 mod comparisons;
 mod fits;
 mod fitting;
 mod indexed;
 mod laws;
+mod match_search;
+mod match_set;
 mod matching;
 mod place_index;
 mod relation_index;

@@ -1,13 +1,15 @@
-ghost use Rattle.std.specs.Prelude.{◌≡◌, List, None, Some, IfOk, option_map, replicate};
+ghost use Rattle.std.specs.Prelude.{◌≡◌, ◌≤◌, All, List, None, Some, IfOk, length, option_map, replicate};
 ghost use Rattle.currency_base.specs.declared.value.Value.{Value};
-ghost use Rattle.ucq_answers.specs.Found.{AreEntities, IsEntity, IsMatchFound, IsMetFound};
+ghost use Rattle.ucq_answers.specs.Found.{AreEntities, IsEntity, IsMatchBy, IsMatchFound, IsMetFound};
 ghost use Rattle.ucq_answers.specs.Partly.{bind_all, spread};
 
 use crate::binding::Binding;
 use crate::fitting::bound;
+use crate::match_search::{MatchSearch, collect_matches};
+use crate::match_set::MatchSet;
 use crate::relation_index::RelationIndex;
 use crate::search::{Search, candidates, find, fit_atom};
-use currency_base::{EntId, EntList, NoMemory, Tuple};
+use currency_base::{EntId, EntList, ItemList, NoMemory, Tuple};
 use query_model::{Atom, Match};
 use query_plan::{Conditions, PlannedDisjunct};
 use std::alloc::Global;
@@ -113,4 +115,37 @@ fn entity_of<'a>(
         }
     }
     Ok(None)
+}
+
+/// Matches by a disjunct, at most so many, by which a tuple is an answer; `number` is the disjunct's.
+pub(crate) fn disjunct_matches<'a>(
+    alloc: Global,
+    relations: &'a [RelationIndex<'a>],
+    planned: &'a PlannedDisjunct<'a>,
+    number: u32,
+    tuple: &'a Tuple,
+    at_most: usize,
+) -> Result<ItemList<Match>, NoMemory>
+    ensures each { IfOk result (λ found. All (IsMatchBy relations.now planned.now number tuple.now) found) }
+    ensures few { IfOk result (λ found. length found ≤ at_most) }
+{
+    let conditions = planned.conditions();
+    if conditions.is_contrary() {
+        return Ok(ItemList::new(alloc));
+    }
+    let Some(values) = head_values(alloc, planned, conditions, tuple)? else {
+        return Ok(ItemList::new(alloc));
+    };
+    let sought = MatchSearch {
+        search: Search {
+            relations,
+            conditions,
+            head: planned.head(),
+        },
+        atoms: planned.atoms(),
+        number,
+    };
+    let mut found = MatchSet::new(alloc, at_most);
+    let _ = collect_matches(alloc, &sought, planned.from_head(), &values, &mut found)?;
+    Ok(found.into_list())
 }

@@ -149,8 +149,8 @@ fn is_known(steps: &[Step], answers: &AnswerSet, answer: &Answer) -> bool
     steps.len() > 0 && answers.has(answer)
 }
 
-// The atom that is searched next, and those after it.
-fn next_step<'a>(steps: &'a [Step<'a>]) -> Option<(&'a Atom, &'a [Step<'a>])>
+/// The atom that is searched next, and those after it.
+pub(crate) fn next_step<'a>(steps: &'a [Step<'a>]) -> Option<(&'a Atom, &'a [Step<'a>])>
     ensures some { IfSome result (λ next. steps.now ≡ next.0.now ∷ next.1.now) }
     ensures none { IfNone result (steps.now ≡ []) }
 {
@@ -176,8 +176,8 @@ pub(crate) fn candidates<'a>(
     }
 }
 
-// The values once an atom's terms fit a tuple of its relation, and what follows, if they can.
-fn join_atom<'a>(
+/// The values once an atom's terms fit a tuple of its relation, and what follows, if they can.
+pub(crate) fn join_atom<'a>(
     alloc: Global,
     search: &Search<'a>,
     atom: &'a Atom,

@@ -10,6 +10,7 @@ use Rattle.refutation_log.specs.Counted.{CountedAreNew, IsNew}
 use Rattle.refutation_log.specs.Follows.{FollowsFrom}
 use Rattle.refutation_log.specs.declared.step.Step.{Step}
 use Rattle.refutation_log.specs.declared.step.Step.TheVariants.{Axiom, Learn, OnDemand}
+use Rattle.lean_hints.specs.Lean.{AreLean}
 use Rattle.search_state.specs.States.{Frame, HasConcluded, HasLearned, HasRefuted, IsFit, State, vars_of}
 use Rattle.watch_propagate.proofs.KeptLists.{get_front, get_push}
 use Rattle.watch_solver.specs.Decided.{HasGrown, IsLearnedAfter}
@@ -169,21 +170,21 @@ counted_across old middle first new frame one other =
 -- ---- what a state learns
 
 pub learned_after : (s : State) (lits : List Lit) (hints : List ℕ) (counted : Bool) → FollowsFrom
-    (clauses_of s.steps) lits hints → IsFit (vars_of s) lits → OnlyOnce hints
+    (clauses_of s.steps) lits hints → IsFit (vars_of s) lits → AreLean (clauses_of s.steps) lits hints
     → (counted ≡ true → IsNew (clauses_of s.steps) (Learn lits hints counted)) → IsLearnedAfter (vars_of s)
     (clauses_of s.steps) (Learn lits hints counted)
-learned_after s lits hints counted follows fit once new = (follows, fit, once, new)
+learned_after s lits hints counted follows fit lean new = (follows, fit, lean, new)
 
 pub counted_learned : (old new : State) → HasLearned old new → HasCounted (vars_of old) old.steps new.steps
 counted_learned old new h =
     counted_one (vars_of old) old.steps new.steps (Learn h.lits h.hints true) h.steps
-    (learned_after old h.lits h.hints true h.derived.follows h.derived.fit h.derived.hints_once (λ e. h.is_new)) refl
+    (learned_after old h.lits h.hints true h.derived.follows h.derived.fit h.derived.lean (λ e. h.is_new)) refl
 
 pub grown_concluded : (old new : State) (lits : List Lit) → HasConcluded old new lits → length lits ≤ 1
     → HasGrown (vars_of old) old.steps new.steps
 grown_concluded old new lits h few =
     grown_one (vars_of old) old.steps new.steps (Learn lits h.hints false) h.steps
-    (learned_after old lits h.hints false h.derived.follows h.derived.fit h.derived.hints_once
+    (learned_after old lits h.hints false h.derived.follows h.derived.fit h.derived.lean
     (λ e. let no : ⊥ = cc in absurd no))
     (λ free. few)
 

@@ -1,6 +1,5 @@
 -- What a decision of the solver shows.
 use Rattle.std.specs.Prelude.{◌≡◌, ◌+◌, ◌<◌, ◌≤◌, ℕ, Bool, true, false, if◌then◌else◌, List, ◌∷◌, ◌++◌, [], All, Contains, Option, Some, None, IfSome, length, take, slice_get, slice_index_or}
-use Rattle.currency_base.specs.Lists.{OnlyOnce}
 use Rattle.currency_base.specs.Literals.{negation}
 use Rattle.currency_base.specs.declared.lit.Lit.{Lit}
 use Rattle.search_trail.specs.Trails.{AreEntries, HasNoFree, Trail, lits_of, values_of, whole_scope}
@@ -10,6 +9,7 @@ use Rattle.refutation_log.specs.Counted.{IsAtRest, IsNew, holds}
 use Rattle.refutation_log.specs.declared.step.Label.{Label}
 use Rattle.refutation_log.specs.declared.step.Step.{Step}
 use Rattle.refutation_log.specs.declared.step.Step.TheVariants.{Axiom, OnDemand, Learn}
+use Rattle.lean_hints.specs.Lean.{AreLean}
 use Rattle.conflict_analysis.specs.Analyses.{lits_below}
 use Rattle.search_state.specs.States.{Frame, IsFit}
 use Rattle.watch_solver.specs.declared.found.Found.{Found}
@@ -24,13 +24,13 @@ pub record Solver : Type 0 where
 
 -- ---- steps that are added
 
--- a step that is learned after earlier clauses: it follows with its hints, no literal and no hint twice, and is new if
--- it is counted
+-- a step that is learned after earlier clauses: it follows with its hints, no literal and no hint twice, and each hint but the
+-- last adds a literal; and it is new if it is counted
 abbrev pub IsLearnedAfter : ℕ → List (List Lit) → Step → Type 0
 IsLearnedAfter vars earlier (Axiom label lits) = ⊥
 IsLearnedAfter vars earlier (OnDemand label lits) = ⊥
 IsLearnedAfter vars earlier (Learn lits hints counted) =
-    FollowsFrom earlier lits hints × IsFit vars lits × OnlyOnce hints ×
+    FollowsFrom earlier lits hints × IsFit vars lits × AreLean earlier lits hints ×
     (counted ≡ true → IsNew earlier (Learn lits hints counted))
 
 -- steps were added; each was learned after those before it, each but the last is counted, and one that is not counted has at

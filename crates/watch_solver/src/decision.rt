@@ -60,10 +60,7 @@ fn turn(
 {
     match search(state, goal, guides) {
         Stop::Complete => Ok(Some(found_model(state, goal))),
-        Stop::Holds(lit) => match prove(state, goal, lit) {
-            Ok(found) => Ok(Some(found)),
-            Err(error) => Err(error),
-        },
+        Stop::Holds(lit) => Ok(Some(prove(state, goal, lit)?)),
         Stop::Conflict(place) => resolve(state, place, goal, budget, guides, restarts),
     }
 }
@@ -90,10 +87,8 @@ fn prove(state: &mut State, goal: Option<Lit>, lit: Lit) -> Result<Found, NoMemo
     if let Some(place) = unit_of(state, lit) {
         return Ok(Found::Proved(place));
     }
-    match state.derive(lit) {
-        Ok(place) => Ok(Found::Proved(place)),
-        Err(error) => Err(error),
-    }
+    let place = state.derive(lit)?;
+    Ok(Found::Proved(place))
 }
 
 // The step whose clause is a literal alone, an axiom or one that was derived, where it is the reason of its variable.
@@ -155,18 +150,14 @@ fn resolve(
 {
     state.is_state();
     if state.trail().depth() <= goal_level(state.trail(), goal) {
-        return match refute(state, conflict, goal, guides) {
-            Ok(found) => Ok(Some(found)),
-            Err(error) => Err(error),
-        };
+        let found = refute(state, conflict, goal, guides)?;
+        return Ok(Some(found));
     }
     if budget.is_spent() {
         return Ok(Some(Found::Spent));
     }
-    match learn(state, conflict, goal, budget, guides, restarts) {
-        Ok(()) => Ok(None),
-        Err(error) => Err(error),
-    }
+    learn(state, conflict, goal, budget, guides, restarts)?;
+    Ok(None)
 }
 
 // A conflict where nothing is assumed but the goal's negation: the empty clause is there or is derived, or the goal's is.
@@ -187,10 +178,7 @@ fn refute(
     if is_empty(state.log(), conflict) {
         return Ok(Found::Empty(conflict));
     }
-    let place = match state.refute(conflict, guides) {
-        Ok(place) => place,
-        Err(error) => return Err(error),
-    };
+    let place = state.refute(conflict, guides)?;
     if is_empty(state.log(), place) {
         Ok(Found::Empty(place))
     } else {
@@ -231,10 +219,7 @@ fn learn(
 {
     state.is_state();
     state.trail().are_entries();
-    match state.learn(conflict, guides) {
-        Ok(()) => {}
-        Err(error) => return Err(error),
-    }
+    state.learn(conflict, guides)?;
     budget.take();
     start_over(state, goal, guides, restarts);
     Ok(())

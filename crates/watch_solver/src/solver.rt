@@ -1,11 +1,11 @@
 ghost use Rattle.std.specs.Prelude.{◌≡◌, ◌+◌, ◌<◌, ◌≤◌, ◌^◌, ◌∷◌, ◌++◌, [], All, true, false, length, Ok, IsErr, IfOk, OnOk, OnErr, IfSome};
 ghost use Rattle.currency_base.specs.Literals.{var_of};
-ghost use Rattle.currency_base.specs.Lists.{OnlyOnce};
 ghost use Rattle.search_trail.specs.Trails.{IsScope, values_of, whole_scope};
 ghost use Rattle.refutation_log.specs.Follows.{FollowsFrom};
 ghost use Rattle.refutation_log.specs.Steps.{clause_of, clauses_of, label_of};
 ghost use Rattle.refutation_log.specs.declared.step.Step.TheVariants.{Learn};
 ghost use Rattle.refutation_log.specs.Counted.{counted_steps};
+ghost use Rattle.lean_hints.specs.Lean.{AreLean};
 ghost use Rattle.search_state.specs.States.{IsFit};
 ghost use Rattle.watch_solver.specs.Decided.{AreTruths, HasGrown, IsDue, Shows, axiom_step};
 ghost use Rattle.watch_solver.specs.declared.found.Found.TheVariants.{Spent};
@@ -146,8 +146,9 @@ impl Solver {
         added
     }
 
-    /// Adds the step of a clause that follows from the steps with its hints, where nothing is assumed; it is not counted.
-    /// Answers its place. After a first refusal every later call is refused.
+    /// Adds the step of a clause that follows from the steps with its hints, no hint twice, and each but the last adds a
+    /// literal; where nothing is assumed. It is not counted. Answers its place. After a first refusal every later call is
+    /// refused.
     pub fn add_derived(
         &mut self,
         lits: &[Lit],
@@ -156,7 +157,7 @@ impl Solver {
     ) -> Result<u32, NoMemory>
         requires fit { IsFit (length self.old.frame.statements) lits.now }
         requires follows { FollowsFrom (clauses_of self.old.steps) lits.now hints.now }
-        requires hints_once { OnlyOnce hints.now }
+        requires lean { AreLean (clauses_of self.old.steps) lits.now hints.now }
         ensures frame { self.new.frame ≡ self.old.frame }
         ensures scope { self.new.trail.scope ≡ self.old.trail.scope }
         ensures ok { OnOk result (self.new.steps ≡ self.old.steps ++ Learn lits.now hints.now false ∷ []) }

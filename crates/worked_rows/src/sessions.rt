@@ -355,6 +355,80 @@ ranking T.b of z: t2 < t1;
 end;
 end;
 
+== a rule that the known completion satisfies
+-- s: relation R from "r.csv" row id entity eid (a: int);
+-- r.csv
+id,eid,a
+r1,x,1
+r2,x,2
+q1,y,1
+q2,y,1
+o1,v,1
+o2,v,1
+-- script
+ask certain R.a: o2 < o1;
+ask certain R.a: r2 < r1;
+add rule low on R (s): if s.a > 2 then false;
+ask certain R.a: q1 < q2;
+>> session s script --brief
+0 currency session 1;
+reply 1;
+currency brief 2;
+verdict not certain R.a: o2 < o1;
+completion;
+ranking R.a of x: r2 < r1;
+ranking R.a of y: q2 < q1;
+ranking R.a of v: o1 < o2;
+end;
+reply 2;
+currency brief 2;
+verdict not certain R.a: r2 < r1;
+completion;
+ranking R.a of x: r1 < r2;
+ranking R.a of y: q2 < q1;
+ranking R.a of v: o2 < o1;
+end;
+edit 3 accepted;
+reply 4;
+currency brief 2;
+verdict not certain R.a: q1 < q2;
+completion;
+ranking R.a of x: r2 < r1;
+ranking R.a of y: q2 < q1;
+ranking R.a of v: o1 < o2;
+end;
+end;
+:: One that it does not satisfy: the search begins from the completion of the newest report.
+-- script 3: add rule up on R (s, t): if s.a < t.a then s before t in a;
+>> session s script --brief
+0 currency session 1;
+reply 1;
+currency brief 2;
+verdict not certain R.a: o2 < o1;
+completion;
+ranking R.a of x: r2 < r1;
+ranking R.a of y: q2 < q1;
+ranking R.a of v: o1 < o2;
+end;
+reply 2;
+currency brief 2;
+verdict not certain R.a: r2 < r1;
+completion;
+ranking R.a of x: r1 < r2;
+ranking R.a of y: q2 < q1;
+ranking R.a of v: o2 < o1;
+end;
+edit 3 accepted;
+reply 4;
+currency brief 2;
+verdict not certain R.a: q1 < q2;
+completion;
+ranking R.a of x: r1 < r2;
+ranking R.a of y: q2 < q1;
+ranking R.a of v: o2 < o1;
+end;
+end;
+
 == a known completion that an added copied row breaks is mended
 -- s
 relation R from "r.csv" row id entity eid (a: int);

@@ -1,6 +1,6 @@
 //! Guides that are wrong in each way that the search has to bear, and one that tells when it is dropped.
 
-ghost use Rattle.std.specs.Prelude.{true, None};
+ghost use Rattle.std.specs.Prelude.{true, if◌then◌else◌, not, None};
 
 use currency_base::{Assignment, Lit, NoMemory};
 use search_trail::Values;
@@ -19,6 +19,8 @@ impl Guide for Always {
     ghost choice = { λ g values. g.lit };
 
     ghost has_room = { λ g vars. true };
+
+    ghost may_fit = { λ g vars fits h. fits };
 
     fn fit(&mut self, _alloc: Global, _start: &Assignment) -> Result<(), NoMemory> {
         Ok(())
@@ -64,6 +66,8 @@ impl Guide for Random {
     ghost choice = { λ g values. g.next };
 
     ghost has_room = { λ g vars. true };
+
+    ghost may_fit = { λ g vars fits h. fits };
 
     fn fit(&mut self, _alloc: Global, _start: &Assignment) -> Result<(), NoMemory> {
         Ok(())
@@ -137,6 +141,8 @@ impl Guide for Watched {
     ghost choice = { λ g values. None };
 
     ghost has_room = { λ g vars. g.fits };
+
+    ghost may_fit = { λ g vars fits h. if g.fits then fits else not fits };
 
     fn fit(&mut self, _alloc: Global, _start: &Assignment) -> Result<(), NoMemory> {
         if self.fits { Ok(()) } else { Err(NoMemory) }

@@ -1,6 +1,6 @@
 //! Guides for tests: the four kinds, and such as pick nothing, or what may not be picked.
 
-ghost use Rattle.std.specs.Prelude.{true, false, Some};
+ghost use Rattle.std.specs.Prelude.{true, false, not, Some};
 
 use currency_base::{Assignment, Lit, NoMemory};
 use search_trail::Values;
@@ -17,6 +17,8 @@ impl Guide for Always {
     ghost choice = { λ g values. g.lit };
 
     ghost has_room = { λ g vars. true };
+
+    ghost may_fit = { λ g vars fits h. fits };
 
     fn fit(&mut self, _alloc: Global, _start: &Assignment) -> Result<(), NoMemory> {
         Ok(())
@@ -47,6 +49,8 @@ impl Guide for Refused {
     ghost choice = { λ g values. Some g.lit };
 
     ghost has_room = { λ g vars. false };
+
+    ghost may_fit = { λ g vars fits h. not fits };
 
     fn fit(&mut self, _alloc: Global, _start: &Assignment) -> Result<(), NoMemory> {
         Err(NoMemory)

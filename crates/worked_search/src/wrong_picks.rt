@@ -19,6 +19,8 @@ impl Guide for Last {
 
     ghost has_room = { λ g vars. true };
 
+    ghost may_fit = { λ g vars fits h. fits };
+
     fn fit(&mut self, _alloc: Global, _start: &Assignment) -> Result<(), NoMemory> {
         Ok(())
     }

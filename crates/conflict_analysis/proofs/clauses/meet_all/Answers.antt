@@ -6,7 +6,7 @@ pub loop-lit-preserved : goal.loop-lit-preserved
 loop-lit-preserved c =
     let lits = c.args.lits.now in
     rw (take_more lits c.loop-lit.lit-index (record { 0 = 0 }) c.loop-lit-test.true)
-    (c.in-Ok.ensures.ok (take c.loop-lit.lit-index lits) c.args.found.now c.loop-lit.invariant)
+    (c.in_ok-meet_lit.ensures.ok (take c.loop-lit.lit-index lits) c.args.found.now c.loop-lit.invariant)
 
 pub returns-clause-ok : goal.returns-clause-ok
 returns-clause-ok c =

@@ -13,11 +13,11 @@ complete-requires-clause-long c =
 pub complete-requires-clause-met : goal.complete-requires-clause-met
 complete-requires-clause-met c =
     subst (λ n. AreMet c.args.arena.now c.args.trail.now.entries c.args.bounds.base c.args.bounds.level n
-    c.start.new.found) (sym c.requires.level) c.in-Ok.ensures.ok.met
+    c.start.new.found) (sym c.requires.level) c.in_ok-start.ensures.ok.met
 
 pub returns-clause-ok : goal.returns-clause-ok
 returns-clause-ok c =
     on_ok_weaker c.complete.result
     (λ x. explains c.args.arena.now c.args.trail.now.entries c.args.bounds.base c.args.bounds.level
-    c.args.bounds.level c.args.conflict.0 c.start.new.found c.complete.new.found c.in-Ok.ensures.ok x)
+    c.args.bounds.level c.args.conflict.0 c.start.new.found c.complete.new.found c.in_ok-start.ensures.ok x)
     c.complete.ensures.ok

@@ -6,7 +6,7 @@ use Rattle.conflict_analysis.specs.Steps.{AreMet, Completes, State, meeting}
 use Rattle.conflict_analysis.proofs.Beginnings.{empty, explains_place, meets_its_reason, meets_place}
 use Rattle.conflict_analysis.proofs.Literals.{few_entries}
 use Rattle.conflict_analysis.proofs.conflicts.explain_place.Goals as goal
-use Rattle.conflict_analysis.proofs.conflicts.explain_place.Goals.{After-meet, After-assigned, In-Ok}
+use Rattle.conflict_analysis.proofs.conflicts.explain_place.Goals.{After-assigned}
 
 pub meet-requires-clause-within : goal.meet-requires-clause-within
 meet-requires-clause-within c =
@@ -41,7 +41,7 @@ first_met c =
     let few = few_entries t c.are_entries.ensures in
     let n = length c.args.found.now.seen in
     let is : c.meet.new.self ≡ meeting t.entries c.args.place c.args.place c.args.place (empty n) =
-    c.in-Ok.ensures.ok ∙ ap (meeting t.entries c.args.place c.args.place c.args.place) c.clear.ensures in
+    c.in_ok-meet.ensures.ok ∙ ap (meeting t.entries c.args.place c.args.place c.args.place) c.clear.ensures in
     subst (AreMet c.args.arena.now t.entries c.args.place c.args.place (length t.entries)) (sym is)
     (meets_place c.args.arena.now t.entries c.args.place n
     (omega (arith, c.are_entries.ensures.few, c.requires.long))
@@ -54,7 +54,7 @@ complete-requires-clause-met c =
     (λ (e : Entry). e.lit) in
     subst (λ n. AreMet c.args.arena.now t.entries c.args.place c.args.place n c.meet_reason.new.found) (sym long)
     (meets_its_reason c.args.arena.now t.entries c.args.place c.meet.new.self c.meet_reason.new.found
-    c.requires.reasons (first_met c) c.in-Ok-meet_reason.ensures.ok)
+    c.requires.reasons (first_met c) c.in_ok-meet_reason.ensures.ok)
 
 pub returns-clause-ok : goal.returns-clause-ok
 returns-clause-ok c =
@@ -64,7 +64,7 @@ returns-clause-ok c =
     on_ok_weaker c.complete.result
     (λ x clause is. explains_place c.args.arena.now t.entries c.args.place clause c.meet.new.self
     c.meet_reason.new.found c.complete.new.found c.are_entries.ensures.once c.requires.reasons (first_met c.before)
-    c.in-Ok-meet_reason.ensures.ok
+    c.in_ok-meet_reason.ensures.ok
     (subst (λ n. Completes c.args.arena.now t.entries c.args.place c.args.place n c.meet_reason.new.found
     c.complete.new.found) long x) is)
     c.complete.ensures.ok

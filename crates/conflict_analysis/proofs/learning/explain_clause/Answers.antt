@@ -23,7 +23,7 @@ write_hints-requires c =
     let s = c.explain.new.found in
     subst (All (λ (q : ℕ). q < length t.entries)) (sym c.resolved.ensures)
     (all_below s.resolved (length t.entries) (resolved_inside c.args.arena.now t c.are_entries.ensures
-    c.requires.reasons _ _ _ s c.in-Ok.ensures.ok.ended))
+    c.requires.reasons _ _ _ s c.in_ok-explain.ensures.ok.ended))
 
 pub spell_all-requires : goal.spell_all-requires
 spell_all-requires c =
@@ -33,7 +33,7 @@ spell_all-requires c =
     (λ (e : Entry). e.lit) in
     subst (All (λ (q : ℕ). q < length t.entries)) (sym c.leaves.ensures)
     (all_below s.leaves (length t.entries) (leaf_inside c.args.arena.now t c.are_entries.ensures c.requires.reasons _
-    _ c.args.conflict.0 s c.in-Ok.ensures.ok c.requires.conflict long long))
+    _ c.args.conflict.0 s c.in_ok-explain.ensures.ok c.requires.conflict long long))
 
 pub returns-clause-derived : goal.returns-clause-derived
 returns-clause-derived c =
@@ -43,12 +43,12 @@ returns-clause-derived c =
     (λ (e : Entry). e.lit) in
     on_ok_weaker c.spell_all.result
     (λ (is : c.spell_all.new.lits.items ≡ _). explained c.args.arena.now t c.are_entries.ensures c.requires.reasons _
-    _ c.args.conflict.0 s c.in-Ok.ensures.ok c.requires.conflict long long
+    _ c.args.conflict.0 s c.in_ok-explain.ensures.ok c.requires.conflict long long
     c.spell_all.new.lits.items c.write_hints.new.hints.items (length c.assigned.result.now) long
     (is ∙ ap (λ (ls : List Lit). ls ++ map (negated t.entries)
     (without (length c.assigned.result.now) c.leaves.result.now)) c.clear.ensures.items
     ∙ ap (λ (ps : List ℕ). map (negated t.entries) (without (length c.assigned.result.now) ps)) c.leaves.ensures)
-    (c.in-Ok-write_hints.ensures ∙ ap (λ (ps : List ℕ). map (number_of t.entries) ps ++ c.args.conflict.0 ∷ [])
+    (c.in_ok-write_hints.ensures ∙ ap (λ (ps : List ℕ). map (number_of t.entries) ps ++ c.args.conflict.0 ∷ [])
     c.resolved.ensures))
     c.spell_all.ensures
 
@@ -60,7 +60,7 @@ returns-clause-assumed c =
     (λ (e : Entry). e.lit) in
     on_ok_weaker c.spell_all.result
     (λ (is : c.spell_all.new.lits.items ≡ _). of_assumed c.args.arena.now t c.are_entries.ensures c.requires.reasons
-    _ _ c.args.conflict.0 s c.in-Ok.ensures.ok c.requires.conflict long long
+    _ _ c.args.conflict.0 s c.in_ok-explain.ensures.ok c.requires.conflict long long
     c.spell_all.new.lits.items (length c.assigned.result.now)
     (is ∙ ap (λ (ls : List Lit). ls ++ map (negated t.entries)
     (without (length c.assigned.result.now) c.leaves.result.now)) c.clear.ensures.items

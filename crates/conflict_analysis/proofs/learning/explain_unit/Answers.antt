@@ -31,7 +31,7 @@ write_hints-requires c =
     subst (All (λ (q : ℕ). q < length t.entries)) (sym c.resolved.ensures)
     (all_below s.resolved (length t.entries)
     (resolved_inside c.args.arena.now t c.are_entries.ensures c.requires.reasons _ _ _ s
-    (c.in-Ok.ensures.ok c.in-Some.clause.0 (sym c.in-Some.ensures)).ended))
+    (c.in_ok-explain_place.ensures.ok c.in-Some.clause.0 (sym c.in-Some.ensures)).ended))
 
 pub returns-clause-derived : goal.returns-clause-derived
 returns-clause-derived c =
@@ -40,11 +40,11 @@ returns-clause-derived c =
     on_ok_weaker c.push_lit.result
     (λ (is : c.push_lit.new.lits.items ≡ _). explained_unit c.args.arena.now t c.are_entries.ensures
     c.requires.reasons c.place_of-place.result c.in-Some.clause.0 c.explain_place.new.found
-    (c.in-Ok.ensures.ok c.in-Some.clause.0 (sym c.in-Some.ensures)) c.requires.bottom c.args.lit p.entry p.is_entry
+    (c.in_ok-explain_place.ensures.ok c.in-Some.clause.0 (sym c.in-Some.ensures)) c.requires.bottom c.args.lit p.entry p.is_entry
     (stands_true t c.args.lit c.place_of-place.result c.are_entries.ensures p c.requires.holds)
     (sym (reason_here t.entries c.place_of-place.result p.entry p.is_entry) ∙ sym c.in-Some.ensures)
     c.push_lit.new.lits.items c.write_hints.new.hints.items (is ∙ ap (λ (ls : List Lit). ls ++ c.args.lit ∷ [])
     c.clear.ensures.items)
-    (c.in-Ok-write_hints.ensures ∙ ap (λ (ps : List ℕ). map (number_of t.entries) ps ++ c.in-Some.clause.0 ∷ [])
+    (c.in_ok-write_hints.ensures ∙ ap (λ (ps : List ℕ). map (number_of t.entries) ps ++ c.in-Some.clause.0 ∷ [])
     c.resolved.ensures))
     c.push_lit.ensures

@@ -22,7 +22,7 @@ loop-done-preserved c =
     record {
       long = c.close.ensures.long ∙ i.long;
       closes = closes_more c.args.arena.now t.entries c.args.bounds.base c.args.bounds.level c.args.at
-          c.loop-done.done _ c.args.found.now c.loop-done.found c.close.new.found i.closes there c.in-Ok.ensures.ok;
+          c.loop-done.done _ c.args.found.now c.loop-done.found c.close.new.found i.closes there c.in_ok-close.ensures.ok;
     }
 
 pub returns-clause-ok : goal.returns-clause-ok

@@ -10,10 +10,10 @@ loop-place-preserved c =
     let p = c.in-Some.ensures in
     record {
       long = c.minimize_at.ensures.long ∙ ap length p.seen ∙ i.long;
-      kept = rw c.in-Ok.ensures.kept (All-pop (λ (place : ℕ). place < length t.entries) c.loop-place.found.kept
+      kept = rw c.in_ok-minimize_at.ensures.kept (All-pop (λ (place : ℕ). place < length t.entries) c.loop-place.found.kept
           c.pop_kept.new.self.kept (Some c.in-Some.place) p.kept i.kept).0;
       minimizes = minimizes_more c.args.arena.now t.entries c.args.bounds.base c.args.bounds.level c.args.found.now
-          c.loop-place.found c.minimize_at.new.found i.minimizes (c.in-Ok.ensures.ok c.loop-place.found p);
+          c.loop-place.found c.minimize_at.new.found i.minimizes (c.in_ok-minimize_at.ensures.ok c.loop-place.found p);
     }
 
 pub returns-clause-ok : goal.returns-clause-ok

@@ -9,11 +9,11 @@ returns-then-not-is_met-clause-ok c =
     passes_unmet c.args.arena.now c.args.trail.now.entries c.args.bounds.base c.args.bounds.level c.args.place
     c.args.found.now (cc)
 
-pub returns-in-Ok-clause-ok : goal.returns-in-Ok-clause-ok
-returns-in-Ok-clause-ok c =
+pub returns-clause-ok : goal.returns-clause-ok
+returns-clause-ok c =
     let h = c.if-not-is_met.false in let g = c.is_met.ensures in
     on_ok_weaker c.resolve.result
     (λ (is : c.resolve.new.self ≡ _). rw is (passes_met c.args.arena.now c.args.trail.now.entries c.args.bounds.base
     c.args.bounds.level c.args.place c.args.found.now c.meet_reason.new.found
-    c.are_entries.ensures.once c.requires.reasons c.requires.order c.requires.top (cc) c.in-Ok.ensures.ok))
+    c.are_entries.ensures.once c.requires.reasons c.requires.order c.requires.top (cc) c.in_ok-meet_reason.ensures.ok))
     c.resolve.ensures.ok

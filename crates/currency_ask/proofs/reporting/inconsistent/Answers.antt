@@ -13,6 +13,7 @@ trim-requires c =
       reached = c.trimmed_logs_are_writable.ensures.reached;
       used = c.trimmed_logs_are_writable.ensures.used;
       no_more = c.trimmed_logs_are_writable.ensures.no_more;
+      right = c.search_logs_are_right.ensures.trimmed;
     } in
     can_trim laws c.args.search c.into_log-log.result c.args.place record {
       search_is = c.is_search.ensures;
@@ -33,6 +34,7 @@ returns c = λ q budget for_it within.
       reached = c.trimmed_logs_are_writable.ensures.reached;
       used = c.trimmed_logs_are_writable.ensures.used;
       no_more = c.trimmed_logs_are_writable.ensures.no_more;
+      right = c.search_logs_are_right.ensures.trimmed;
     } in
     let has : HasEmptyStep c.args.search c.into_log-log.result c.args.place = record {
       search_is = c.is_search.ensures;

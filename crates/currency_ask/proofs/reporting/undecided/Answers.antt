@@ -7,6 +7,7 @@ returns c = λ q for_it.
       accepted = c.search_logs_are_accepted.ensures.accepted;
       in_place = c.search_logs_are_accepted.ensures.in_place;
       writable = c.search_logs_are_writable.ensures;
+      right = c.search_logs_are_right.ensures.right;
       whole = c.axioms_agree.ensures.whole;
       few_counted = c.counted_steps_are_few.ensures;
     } in

@@ -10,6 +10,12 @@ returns-in-AddGiven c =
     subst (λ (e : Edit). StaysConsistent c.args.spec.now e c.args.completion.now) (sym c.in-AddGiven.is)
     (c.is_given.ensures is)
 
+pub returns-in-AddRule : goal.returns-in-AddRule
+returns-in-AddRule c =
+    λ is.
+    subst (λ (e : Edit). StaysConsistent c.args.spec.now e c.args.completion.now) (sym c.in-AddRule.is)
+    (c.keeps_rule.ensures is)
+
 pub returns-in-MapCopied : goal.returns-in-MapCopied
 returns-in-MapCopied c =
     λ is.

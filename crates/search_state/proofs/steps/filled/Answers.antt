@@ -12,7 +12,7 @@ put-requires-clause-fit c =
     let vars : c.prepare.new.self.trail.vars ≡ c.args.vars = ap (λ (t : Trail). t.vars) c.prepare.ensures.trail
     ∙ c.loop-place.invariant.trail_vars in
     subst (λ (n : ℕ). IsFit n c.prepare.new.self.lits.items) (sym vars)
-    (subst (IsFit c.args.vars) (sym c.in-Ok-prepare.ensures.lits)
+    (subst (IsFit c.args.vars) (sym c.in_ok-prepare.ensures.lits)
     (fit_at c.args.vars c.args.steps.now c.loop-place.place _ c.requires.fit c.lits.ensures))
 
 pub loop-place-preserved : goal.loop-place-preserved
@@ -22,7 +22,7 @@ loop-place-preserved c =
     c.put.new.self.arena c.loop-place.search.trail c.put.new.self.trail
     c.loop-place.search.refuted c.put.new.self.refuted c.lits.ensures
     (λ held. subst (λ (ls : List Lit). AreHeld (before ++ ls ∷ []) c.put.new.self.arena c.put.new.self.trail
-    c.put.new.self.refuted) c.in-Ok-prepare.ensures.lits
+    c.put.new.self.refuted) c.in_ok-prepare.ensures.lits
     (c.put.ensures.held before (c.prepare.ensures.held before held)))
     (c.put.ensures.vars ∙ ap (λ (t : Trail). t.vars) c.prepare.ensures.trail) c.put.ensures.ground
     (c.put.ensures.scope ∙ ap (λ (t : Trail). t.scope) c.prepare.ensures.trail)

@@ -10,10 +10,10 @@ use Rattle.watch_solver.proofs.decision.learn.Goals as goal
 pub start_over-requires-clause-kept : goal.start_over-requires-clause-kept
 start_over-requires-clause-kept g c =
     goal_learned c.args.state.now c.learn.new.self c.args.goal
-    (subst AreEntries c.trail.ensures c.are_entries.ensures) c.in-Ok.ensures.ok c.requires.kept
+    (subst AreEntries c.trail.ensures c.are_entries.ensures) c.in_ok-learn.ensures.ok c.requires.kept
 
 pub returns-clause-counted : goal.returns-clause-counted
 returns-clause-counted g c =
     subst (λ (steps : List Step). HasCounted (vars_of c.args.state.now) c.args.state.now.steps steps)
     (sym c.start_over.ensures.steps)
-    (counted_learned c.args.state.now c.learn.new.self c.in-Ok.ensures.ok)
+    (counted_learned c.args.state.now c.learn.new.self c.in_ok-learn.ensures.ok)

@@ -6,13 +6,13 @@ use Rattle.watch_solver.proofs.decision.prove.Goals as goal
 pub returns-in-Some-clause-grown : goal.returns-in-Some-clause-grown
 returns-in-Some-clause-grown c = grown_none _ _ _ refl
 
-pub returns-in-Ok-clause-grown : goal.returns-in-Ok-clause-grown
-returns-in-Ok-clause-grown c = grown_concluded c.args.state.now c.derive.new.self _ c.in-Ok.ensures.ok (omega arith)
+pub returns-clause-grown : goal.returns-clause-grown
+returns-clause-grown c = grown_concluded c.args.state.now c.derive.new.self _ c.in_ok-place.ensures.ok (omega arith)
 
-pub returns-in-Ok-clause-found : goal.returns-in-Ok-clause-found
-returns-in-Ok-clause-found c = λ (left : ℕ).
-    answer_derived c.args.state.now c.derive.new.self c.args.goal c.args.lit c.in-Ok.place left c.in-Ok.ensures.ok
-    c.in-Ok.ensures.place c.requires.holds.is_goal
+pub returns-clause-found : goal.returns-clause-found
+returns-clause-found c = λ (left : ℕ).
+    answer_derived c.args.state.now c.derive.new.self c.args.goal c.args.lit c.in_ok-place.place left c.in_ok-place.ensures.ok
+    c.in_ok-place.ensures.place c.requires.holds.is_goal
 
-pub returns-in-Err-clause-grown : goal.returns-in-Err-clause-grown
-returns-in-Err-clause-grown c = grown_none _ _ _ c.in-Err.ensures.err
+pub returns-in_err-place-clause-grown : goal.returns-in_err-place-clause-grown
+returns-in_err-place-clause-grown c = grown_none _ _ _ c.in_err-place.ensures.err

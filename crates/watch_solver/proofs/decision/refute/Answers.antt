@@ -14,22 +14,22 @@ returns-then-is_empty-clause-found g c = λ (left : ℕ).
     (subst (λ (steps : List Step). IsStepOf steps c.args.conflict []) c.log.ensures.steps
     (c.is_empty.ensures.empty c.if-is_empty.true))
 
-pub returns-in-Err-clause-grown : goal.returns-in-Err-clause-grown
-returns-in-Err-clause-grown g c = grown_none _ _ _ c.in-Err.ensures.err
+pub returns-in_err-place-clause-grown : goal.returns-in_err-place-clause-grown
+returns-in_err-place-clause-grown g c = grown_none _ _ _ c.in_err-place.ensures.err
 
 pub returns-then-is_empty-2-clause-grown : goal.returns-then-is_empty-2-clause-grown
 returns-then-is_empty-2-clause-grown g c =
-    grown_refuted c.args.state.now c.refute.new.self c.args.goal c.in-Ok.ensures.ok
+    grown_refuted c.args.state.now c.refute.new.self c.args.goal c.in_ok-place.ensures.ok
     c.requires.last
 
 pub returns-else-is_empty-2-clause-grown : goal.returns-else-is_empty-2-clause-grown
 returns-else-is_empty-2-clause-grown g c =
-    grown_refuted c.args.state.now c.refute.new.self c.args.goal c.in-Ok.ensures.ok
+    grown_refuted c.args.state.now c.refute.new.self c.args.goal c.in_ok-place.ensures.ok
     c.requires.last
 
 pub returns-else-is_empty-2-clause-found : goal.returns-else-is_empty-2-clause-found
 returns-else-is_empty-2-clause-found g c = λ (left : ℕ).
-    answer_refuted c.args.state.now c.refute.new.self c.args.goal c.in-Ok.place left c.in-Ok.ensures.ok
-    c.in-Ok.ensures.place c.requires.last
+    answer_refuted c.args.state.now c.refute.new.self c.args.goal c.in_ok-place.place left c.in_ok-place.ensures.ok
+    c.in_ok-place.ensures.place c.requires.last
     (λ empty. c.is_empty-2.ensures.other c.if-is_empty-2.false
-    (subst (λ (steps : List Step). IsStepOf steps c.in-Ok.place []) (sym c.log-2.ensures.steps) empty))
+    (subst (λ (steps : List Step). IsStepOf steps c.in_ok-place.place []) (sym c.log-2.ensures.steps) empty))

@@ -5,8 +5,8 @@ use Rattle.watch_solver.proofs.Grown.{grown_none}
 use Rattle.watch_solver.proofs.Shown.{answer_spent, is_due}
 use Rattle.watch_solver.proofs.decision.resolve.Goals as goal
 
-pub returns-in-Ok-clause-found : goal.returns-in-Ok-clause-found
-returns-in-Ok-clause-found g c = c.in-Ok.ensures.found c.args.budget.now
+pub returns-then-depth-goal_level-clause-found : goal.returns-then-depth-goal_level-clause-found
+returns-then-depth-goal_level-clause-found g c = c.in_ok-found.ensures.found c.args.budget.now
 
 pub returns-then-is_spent-clause-grown : goal.returns-then-is_spent-clause-grown
 returns-then-is_spent-clause-grown g c = grown_none _ _ _ refl
@@ -27,5 +27,5 @@ returns-then-is_spent-clause-found g c =
     (is_due c.args.state.now c.args.goal c.args.conflict c.is_state.ensures c.requires.conflict deep
     (subst (λ (t : Trail). IsGoalBelow t c.args.goal) c.trail-2.ensures (c.goal_level.ensures.below above)))
 
-pub returns-in-Err-learn-clause-grown : goal.returns-in-Err-learn-clause-grown
-returns-in-Err-learn-clause-grown g c = grown_none _ _ _ c.in-Err-learn.ensures.err
+pub returns-in_err-learn-clause-grown : goal.returns-in_err-learn-clause-grown
+returns-in_err-learn-clause-grown g c = grown_none _ _ _ c.in_err-learn.ensures.err

@@ -7,5 +7,5 @@ returns-in-Complete-clause-grown g c = grown_none _ _ _ c.search.ensures.steps
 pub returns-in-Complete-clause-found : goal.returns-in-Complete-clause-found
 returns-in-Complete-clause-found g c = c.found_model.ensures c.args.budget.now
 
-pub returns-in-Ok-clause-found : goal.returns-in-Ok-clause-found
-returns-in-Ok-clause-found g c = c.in-Ok.ensures.found c.args.budget.now
+pub returns-in_ok-prove-in-Holds-clause-found : goal.returns-in_ok-prove-in-Holds-clause-found
+returns-in_ok-prove-in-Holds-clause-found g c = c.in_ok-prove-in-Holds.ensures.found c.args.budget.now
