@@ -151,3 +151,14 @@ match_over_at s query search c indexed place tuple o m is completion over held l
       is_match = subst (λ (q : Query). IsMatch q indexed.instance tuple m) over.of_query
           (subst (λ (x : Option Match). IfSome x (IsMatch indexed.query indexed.instance tuple)) found some);
     })
+
+-- and each of its matches
+pub matches_over_at : (s : Spec) (query : Query) (search : Search) (c : Rankings) (indexed : IndexedQuery) (place : ℕ)
+    (tuple : List Value) (found : List Match) → IsSearchFor s query search → IsCompletion s.relations c
+    → IsOver s.relations query c indexed → IsSearch search → (log : Log)
+    → log ≡ search.log → slice_get log.answers place ≡ Some tuple
+    → All (IsMatch indexed.query indexed.instance tuple) found
+    → All (λ m. IsMatchAt search c m place) found
+matches_over_at s query search c indexed place tuple found is completion over held log log_is at each =
+    λ k d below. match_over_at s query search c indexed place tuple (Some (get_or found k d)) (get_or found k d) is
+    completion over held log log_is at refl (each k d below)

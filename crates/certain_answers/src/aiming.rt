@@ -57,8 +57,8 @@ pub(crate) fn aim(
     Ok(())
 }
 
-// Tells the guide that leads of a candidate, unless it is gone: of its lists, which are brought in, and then of its statement.
-// About how many variables these are.
+// Tells the guide that leads of a candidate, unless it is gone, or known to be an answer: of its lists, which are brought in, and
+// then of its statement. About how many variables these are.
 fn mention(
     alloc: Global,
     spec: &Specification,
@@ -75,7 +75,7 @@ fn mention(
     ensures gone { HasGone search.old search.new }
     ensures units { counted_steps search.new.log.steps ≡ counted_steps search.old.log.steps }
 {
-    if candidates.is_gone(place as usize) {
+    if candidates.is_gone(place as usize) || search.is_known(search.answer(place)) {
         return Ok(0);
     }
     let told = match bring_near(

@@ -11,6 +11,7 @@ ghost use Rattle.certain_answers.specs.Deciding.{IsRefuted, IsSearchFor, StaysGo
 use crate::aiming::aim;
 use crate::deciding::decide_answer;
 use crate::lists::bring_near;
+use crate::settled::settle;
 use answer_candidates::Candidates;
 use currency_base::{ItemList, NoMemory};
 use current_tuples::current;
@@ -44,8 +45,9 @@ pub enum Decisions {
 }
 
 /// Decides each candidate that is an answer over all listed completions, once the lists of rows that it is about are brought
-/// in. The guides begin from a guess in which no candidate is an answer, so that a completion which refutes one refutes as many
-/// others as it may; it is looked at for all.
+/// in. The axioms of settled matches come first, so those candidates are known and cost no decision. The guides begin from a guess
+/// in which no candidate is an answer, so that a completion which refutes one refutes as many others as it may; it is looked at for
+/// all.
 pub fn decide_left(
     alloc: Global,
     spec: &Specification,
@@ -66,7 +68,8 @@ pub fn decide_left(
     ensures units { counted_steps search.new.log.steps + units.new ≡ counted_steps search.old.log.steps + units.old }
     ensures outcome { IfOk result (TellsDecisions search.new candidates.new units.new) }
 {
-    let instance = match current(alloc, spec, candidates.first()) {
+    let first = candidates.first();
+    let instance = match current(alloc, spec, first) {
         Ok(instance) => instance,
         Err(error) => return Err(error),
     };
@@ -74,6 +77,12 @@ pub fn decide_left(
         Ok(indexed) => indexed,
         Err(error) => return Err(error),
     };
+    match settle(
+        alloc, spec, query, &indexed, candidates, first, search, guides,
+    ) {
+        Ok(()) => {}
+        Err(error) => return Err(error),
+    }
     match aim(alloc, spec, query, &indexed, candidates, 0, search, guides) {
         Ok(()) => {}
         Err(error) => return Err(error),
@@ -158,17 +167,8 @@ fn step_for(
     if candidates.is_gone(place) {
         return Ok(Step::Decided(Decision::Gone));
     }
-    match bring_near(
-        alloc,
-        spec,
-        query,
-        indexed,
-        search,
-        place as u32,
-        When::Next,
-        guides,
-    ) {
-        Ok(_) => {}
+    match bring_unknown(alloc, spec, query, indexed, search, place as u32, guides) {
+        Ok(()) => {}
         Err(error) => return Err(error),
     }
     match decide_answer(
@@ -187,6 +187,39 @@ fn step_for(
         ),
         Ok(Outcome::Empty(step)) => Ok(Step::Ended(Outcome::Empty(step))),
         Ok(Outcome::Spent) => Ok(Step::Ended(Outcome::Spent)),
+        Err(error) => Err(error),
+    }
+}
+
+// Brings in the lists of a candidate, unless it is known to be an answer.
+fn bring_unknown(
+    alloc: Global,
+    spec: &Specification,
+    query: &Query,
+    indexed: &IndexedInstance<'_>,
+    search: &mut Search<'_>,
+    place: u32,
+    guides: &mut Guides,
+) -> Result<(), NoMemory>
+    requires search { IsSearchFor spec.now query.now search.old }
+    requires place { place < length search.old.posed.answers }
+    ensures gone { HasGone search.old search.new }
+    ensures units { counted_steps search.new.log.steps ≡ counted_steps search.old.log.steps }
+{
+    if search.is_known(search.answer(place)) {
+        return Ok(());
+    }
+    match bring_near(
+        alloc,
+        spec,
+        query,
+        indexed,
+        search,
+        place,
+        When::Next,
+        guides,
+    ) {
+        Ok(_) => Ok(()),
         Err(error) => Err(error),
     }
 }

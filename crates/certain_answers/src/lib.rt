@@ -7,6 +7,7 @@ mod decisions;
 mod lists;
 mod matched;
 mod matches;
+mod settled;
 mod starting;
 mod violated;
 mod writable;

@@ -71,7 +71,7 @@ pub starts : (a : Arena) (t : Trail) (base level clause n : ℕ) (lits : List Li
     base level clause s
 starts a t base level clause n lits s reasons order few is m =
     record {
-      met = m.met a (length t.entries) reasons order (met_empty a t.entries base level (length t.entries) n few)
+      met = m.met a base (length t.entries) reasons (omega arith) order (met_empty a t.entries base level (length t.entries) n few)
           (all_inside t.entries (replicate n false) lits);
       lits = lits;
       is_clause = is;
@@ -160,8 +160,8 @@ meets_place a es place n few inside within =
     cond_both (slice_index_or (replicate n false) place false) _ _ (AreMet a es place place (length es))
     (λ h. absurd (none_seen n place h))
     (λ new. met_taking a es place place (length es) (empty n) (met_empty a es place place (length es) n few) place
-    (omega (arith, inside, length-replicate n false)) new within
-    (λ some less. absurd (omega (arith, less))) (omega arith))
+    (omega (arith, inside, length-replicate n false)) new place (omega arith) within
+    (λ some less. absurd (omega (arith, less))))
 
 pub explains_place : (a : Arena) (es : List Entry) (place clause : ℕ) (first mid last : State) → VarsOnce es
     → AreReasons a es → AreMet a es place place (length es) first
@@ -180,5 +180,5 @@ explains_place a es place clause first mid last once reasons m r c is =
 pub meets_its_reason : (a : Arena) (es : List Entry) (place : ℕ) (first mid : State) → AreReasons a es
     → AreMet a es place place (length es) first
     → MeetsReason a es place place place first mid → AreMet a es place place (length es) mid
-meets_its_reason a es place first mid reasons m r = r.meets.met a (length es) reasons (omega arith) m
+meets_its_reason a es place first mid reasons m r = r.meets.met a place (length es) reasons (omega arith) (omega arith) m
     (all_inside es first.seen r.lits)

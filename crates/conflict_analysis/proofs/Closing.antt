@@ -75,16 +75,16 @@ module _ (a : Arena) (es : List Entry) where
     -- it is met now
     pub closes_met : (old new : State) → AreReasons a es → base ≤ level → level ≤ at → AreMet a es base level at old
         → Contains old.resolved place
-        → MeetsReason a es base level place old new → Closes a es base level at place old new
+        → MeetsReason a es level level place old new → Closes a es base level at place old new
     closes_met old new reasons order above m there r =
         record {
           still = r.meets.still;
           added = r.meets.added;
           resolved = r.meets.resolved;
-          kept = (r.meets.quiet near order).0;
-          low = (r.meets.quiet near order).1;
-          met = r.meets.met a at reasons order m
-              (λ o h q d is var. elim (near o h q d is var) [ inl g ↦ inl g | inr g ↦ inr (omega (arith, g, order, above)) ]);
+          kept = (r.meets.quiet near (omega arith)).0;
+          low = (r.meets.quiet near (omega arith)).1;
+          met = r.meets.met a base at reasons order (omega arith) m
+              (λ o h q d is var. elim (near o h q d is var) [ inl g ↦ inl g | inr g ↦ inr (omega (arith, g, above)) ]);
           closed = record {
             entry = r.entry;
             is_entry = r.is_entry;
@@ -96,14 +96,14 @@ module _ (a : Arena) (es : List Entry) where
           };
         }
       where
-        near : AreSeen es old.seen base r.lits
+        near : AreSeen es old.seen level r.lits
         near =
             let h = (m.resolved place there).reason in
             let same : h.entry ≡ r.entry = same_Some _ _ (sym h.is_entry ∙ r.is_entry) in
             let clause : h.clause ≡ r.clause = same_Some _ _ (sym h.is_reason ∙ ap (λ (e : Entry). e.reason) same
             ∙ r.is_reason) in
             let lits : h.lits ≡ r.lits = same_Some _ _ (sym h.is_clause ∙ ap (λ n. slice_get a.clauses n) clause ∙ r.is_clause) in
-            subst (λ ls. AreSeen es old.seen base ls) lits h.are_seen
+            subst (λ ls. AreSeen es old.seen level ls) lits h.are_seen
 
   module _ (base level at : ℕ) where
     pub closes_none : (s : State) → AreMet a es base level at s → ClosesTo a es base level at 0 s s
@@ -163,4 +163,4 @@ module _ (a : Arena) (es : List Entry) where
 
     pub few_resolved : (s : State) → AreMet a es base level at s → length s.resolved ≤ length es
     few_resolved s m = few_places s.resolved (length es) m.resolved_once
-        (λ q there. has_entry s.seen base q (m.resolved q there).reason)
+        (λ q there. has_entry s.seen level q (m.resolved q there).reason)

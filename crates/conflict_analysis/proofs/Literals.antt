@@ -95,7 +95,7 @@ meets_none es base level s =
       resolved = sym (append-nil s.resolved);
       low = omega arith;
       quiet = λ h order. (refl, refl);
-      met = λ a at reasons order met h. met;
+      met = λ a floor at reasons over order met h. met;
     }
 
 module _ (es : List Entry) (base level : ℕ) (once : VarsOnce es) (front : List Lit) (lit : Lit) (old now : State)
@@ -128,7 +128,7 @@ module _ (es : List Entry) (base level : ℕ) (once : VarsOnce es) (front : List
         resolved = m.resolved;
         low = m.low;
         quiet = λ h. m.quiet (of_front old.seen base h);
-        met = λ a at reasons order met h. m.met a at reasons order met (of_front old.seen at h);
+        met = λ a floor at reasons over order met h. m.met a floor at reasons over order met (of_front old.seen at h);
       }
 
   -- it was not
@@ -144,10 +144,10 @@ module _ (es : List Entry) (base level : ℕ) (once : VarsOnce es) (front : List
         resolved = grown.1 ∙ ap (λ (ps : List ℕ). ps ++ grown.0) m.resolved ∙ append_assoc old.resolved m.added grown.0;
         low = omega (arith, taking_low es base level place now, m.low);
         quiet = λ h order. quiet h order;
-        met = λ a at reasons order met h. met_taking a es base level at now
-            (m.met a at reasons order met (of_front old.seen at h)) place within new
+        met = λ a floor at reasons over order met h. met_taking a es floor level at now
+            (m.met a floor at reasons over order met (of_front old.seen at h)) place within new base over
             (elim (of_last old.seen at h) [ inl seen ↦ absurd (both_ways _ new (m.still place seen)) | inr less ↦ less ])
-            (λ some less. reason a reasons some less) order;
+            (λ some less. reason a reasons some less);
       }
     where
       after : State
@@ -174,34 +174,17 @@ module _ (es : List Entry) (base level : ℕ) (once : VarsOnce es) (front : List
               let w = m.quiet (of_front old.seen base h) order in
               (q.0 ∙ w.0, q.1 ∙ w.1)
 
-      reason : (a : Arena) → AreReasons a es → is_some (reason_of es place) ≡ true → place < base
-          → HasSeen a es now.seen base place
+      reason : (a : Arena) → AreReasons a es → is_some (reason_of es place) ≡ true → place < level
+          → HasSeen a es now.seen level place
       reason a reasons some less = by (e.reason) refl
         where
-          by : (r : Option ℕ) → e.reason ≡ r → HasSeen a es now.seen base place
-          by (Some clause) is = reason_seen a es once reasons now.seen base place e clause is_entry is less
+          by : (r : Option ℕ) → e.reason ≡ r → HasSeen a es now.seen level place
+          by (Some clause) is = reason_seen a es once reasons now.seen level place e clause is_entry is less
           by None is = let none : reason_of es place ≡ None = reason_here es place e is_entry ∙ is in absurd (cc)
 
   pub meets_more : MeetsAll es base level (front ++ lit ∷ []) old (meeting es base level place now)
   meets_more = cond_both (slice_index_or now.seen place false) _ _ (MeetsAll es base level (front ++ lit ∷ []) old)
       meets_known meets_new
-
--- ---- one more that is seen
-
-pub seen_more : (es : List Entry) → VarsOnce es → (seen : List Bool) (below : ℕ) (front : List Lit) (lit : Lit)
-    (place : ℕ) (e : Entry) → slice_get es place ≡ Some e
-    → var_of e.lit ≡ var_of lit → AreSeen es seen below front → IsSeen seen place ⊎ (place < below)
-    → AreSeen es seen below (front ++ lit ∷ [])
-seen_more es once seen below front lit place e is_entry var before here o there q d at_q is =
-    by (Contains-push_cases front lit o there)
-  where
-    by : Contains front o ⊎ (lit ≡ o) → IsSeen seen q ⊎ (q < below)
-    by (inl h) = before o h q d at_q is
-    by (inr same) = subst (λ r. IsSeen seen r ⊎ (r < below)) (same_place es once place q e d is_entry at_q
-        (var ∙ ap var_of same ∙ sym is)) here
-
-pub seen_none : (es : List Entry) (seen : List Bool) (below : ℕ) → AreSeen es seen below []
-seen_none es seen below o there = absurd (in_none o there)
 
 -- ---- the literal at a place
 

@@ -60,8 +60,8 @@ module _ (a : Arena) (es : List Entry) (base level at : ℕ) (s : State) (met : 
   late_more xs q seen without there = elim (Contains-push_cases xs place q there)
       [ inl h ↦ without h | inr h ↦ old_differs q seen (sym h) ]
 
-  reason_kept : (q : ℕ) → HasSeen a es s.seen base q → HasSeen a es (slice_set s.seen place true) base q
-  reason_kept q h = reason_still a es s.seen (slice_set s.seen place true) base q still h
+  reason_kept : (q : ℕ) → HasSeen a es s.seen level q → HasSeen a es (slice_set s.seen place true) level q
+  reason_kept q h = reason_still a es s.seen (slice_set s.seen place true) level q still h
 
   away_kept : (q : ℕ) → (q < level) ⊎ ((at ≤ q) × HasSeen a es s.seen 0 q) →
       (q < level) ⊎ ((at ≤ q) × HasSeen a es (slice_set s.seen place true) 0 q)
@@ -237,7 +237,7 @@ module _ (a : Arena) (es : List Entry) (base level at : ℕ) (s : State) (met : 
       ]
 
   -- it is resolved
-  met_resolved : place < level → HasSeen a es s.seen base place
+  met_resolved : place < level → HasSeen a es s.seen level place
       → AreMet a es base level at (record {
         seen = slice_set s.seen place true;
         kept = s.kept;
@@ -408,16 +408,17 @@ module _ (a : Arena) (es : List Entry) (base level at : ℕ) (s : State) (met : 
         | waits h g ↦ waits h g
       ]
 
-  -- so it is wherever it goes
-  pub met_taking : place < at → (is_some (reason_of es place) ≡ true → place < base → HasSeen a es s.seen base place)
-      → base ≤ level
-      → AreMet a es base level at (taking es base level place s)
-  met_taking less reason order =
+  -- so it is wherever it goes, between bounds of which the lower one is no lower
+  pub met_taking : (bound : ℕ) → base ≤ bound → place < at
+      → (is_some (reason_of es place) ≡ true → place < level → HasSeen a es s.seen level place)
+      → AreMet a es base level at (taking es bound level place s)
+  met_taking bound over less reason =
       cond_both (leb level place) _ _ (AreMet a es base level at) (λ top. met_waiting (leb-true level place top) less)
-      (λ under. cond_both (leb base place) _ _ (AreMet a es base level at)
-      (λ above. met_kept (leb-false level place under) (leb-true base place above))
+      (λ under. cond_both (leb bound place) _ _ (AreMet a es base level at)
+      (λ above. met_kept (leb-false level place under)
+      (let h = leb-true bound place above in omega (arith, h, over)))
       (λ low. cond_both (is_some (reason_of es place)) _ _ (AreMet a es base level at)
-      (λ some. met_resolved (leb-false level place under) (reason some (leb-false base place low)))
+      (λ some. met_resolved (leb-false level place under) (reason some (leb-false level place under)))
       (λ none. met_leaf (leb-false level place under) (none_is (reason_of es place) none))))
     where
       none_is : (o : Option ℕ) → is_some o ≡ false → o ≡ None

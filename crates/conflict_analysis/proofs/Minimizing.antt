@@ -5,10 +5,13 @@ use Rattle.std.proofs.lemmas.List.Elements.{Contains-push, Contains-push_cases, 
 use Rattle.currency_base.specs.Lists.{OnlyOnce}
 use Rattle.search_trail.specs.Trails.{Entry}
 use Rattle.clause_arena.specs.Arenas.{Arena}
-use Rattle.conflict_analysis.specs.Steps.{AreMet, Fate, HasSeen, IsLeaf, IsResolved, Minimizes, PopsKept, State, leaving}
+use Rattle.watch_propagate.specs.WatchRule.{AreReasons}
+use Rattle.conflict_analysis.specs.Steps.{AreMet, Fate, HasSeen, IsLeaf, IsReasoned, IsResolved, Minimizes, PopsKept, State, leaving}
 use Rattle.conflict_analysis.specs.Steps.{resolving}
 use Rattle.conflict_analysis.specs.Steps.Fate.{is_kept, is_resolved, is_leaf, waits}
+use Rattle.conflict_analysis.proofs.Entries.{VarsOnce, reason_seen}
 use Rattle.conflict_analysis.proofs.Members.{once_more, once_front, last_apart}
+use Rattle.conflict_analysis.proofs.Passing.{reasoned_entry}
 
 -- a state whose last kept place was taken out, by its parts
 abbrev shorter : State → List ℕ → State
@@ -31,7 +34,7 @@ module _ (a : Arena) (es : List Entry) (base level place : ℕ) (s : State) (kep
   still_kept q there = Contains-push_cases kept place q (subst (λ ps. Contains ps q) is there)
 
   -- it is resolved
-  minimizes_resolved : HasSeen a es s.seen base place → (at : ℕ) → AreMet a es base level at s → AreMet a es base level
+  minimizes_resolved : HasSeen a es s.seen level place → (at : ℕ) → AreMet a es base level at s → AreMet a es base level
       at (resolving (shorter s kept) place)
   minimizes_resolved reason at m =
       record {
@@ -149,16 +152,18 @@ popped before old place p = cong_parts old before p.seen p.resolved p.leaves p.l
         ∙ ap (λ x. record { seen = b.seen; kept = o.kept; resolved = b.resolved; leaves = x; low = o.low }) j
         ∙ ap (λ x. record { seen = b.seen; kept = o.kept; resolved = b.resolved; leaves = b.leaves; low = x }) k
 
-pub minimizes_by_reason : (a : Arena) (es : List Entry) (base level place : ℕ) (before old : State)
-    → PopsKept before old (Some place) → HasSeen a es old.seen base place
+pub minimizes_by_reason : (a : Arena) (es : List Entry) (base level place : ℕ) (before old : State) → VarsOnce es
+    → AreReasons a es → PopsKept before old (Some place) → IsReasoned es place
     → Minimizes a es base level before (resolving old place)
-minimizes_by_reason a es base level place before old p reason =
+minimizes_by_reason a es base level place before old once reasons p reason =
     record {
       seen = p.seen;
       low = p.low;
       met = λ at m. subst (λ s. AreMet a es base level at (resolving s place)) (sym (popped before old place p))
           (minimizes_resolved a es base level place before old.kept p.kept
-          (subst (λ bs. HasSeen a es bs base place) p.seen reason) at m);
+          (let e = reasoned_entry es place reason.0 reason.1 in
+          reason_seen a es once reasons before.seen level place e.0 reason.0 e.1 e.2
+          (m.kept place (place_kept a es base level place before old.kept p.kept)).below) at m);
     }
 
 pub minimizes_as_leaf : (a : Arena) (es : List Entry) (base level place : ℕ) (before old : State)

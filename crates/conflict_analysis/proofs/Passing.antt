@@ -89,7 +89,7 @@ module _ (a : Arena) (es : List Entry) (base level place : ℕ) where
     low = r.meets.low;
     still = r.meets.still;
     met =
-        λ m. resolved (r.meets.met a (place + 1) reasons order m (upto m));
+        λ m. resolved (r.meets.met a base (place + 1) reasons (omega arith) order m (upto m));
   }
     where
       here : place < place + 1
@@ -166,7 +166,7 @@ module _ (a : Arena) (es : List Entry) (base level place : ℕ) where
           }
 
           is_new : IsResolved a es base level place (resolving mid place) place
-          is_new = record { seen = r.meets.still place seen; reason = closed base; away = inr (omega arith, closed 0) }
+          is_new = record { seen = r.meets.still place seen; reason = closed level; away = inr (omega arith, closed 0) }
 
           fate : (q : ℕ) → Fate level (place + 1) mid q → Fate level place (resolving mid place) q
           fate q (is_kept h) = is_kept h

@@ -127,7 +127,7 @@ pub record IsKept (base level : ℕ) (s : State) (place : ℕ) : Type 0 where
 -- of one that was resolved
 pub record IsResolved (a : Arena) (entries : List Entry) (base level at : ℕ) (s : State) (place : ℕ) : Type 0 where
   pub seen : IsSeen s.seen place
-  pub reason : HasSeen a entries s.seen base place
+  pub reason : HasSeen a entries s.seen level place
   pub away : (place < level) ⊎ ((at ≤ place) × HasSeen a entries s.seen 0 place)
 
 -- and of one whose negation is in the clause
@@ -157,8 +157,8 @@ pub record AreMet (a : Arena) (entries : List Entry) (base level at : ℕ) (s : 
 abbrev pub IsAssigned : Trail → Lit → Type 0
 IsAssigned t lit = (place : ℕ) × StandsAt t (var_of lit) place
 
--- the places of a clause's literals are met, and all else stays true; where those that were not are below the base, no
--- place is kept and the mark stays
+-- the places of a clause's literals are met, and all else stays true, from any place up to the base on; where those that
+-- were not are below the base, no place is kept and the mark stays
 pub record MeetsAll (entries : List Entry) (base level : ℕ) (lits : List Lit) (old new : State) : Type 0 where
   pub long : length new.seen ≡ length old.seen
   pub seen : AreSeen entries new.seen 0 lits
@@ -167,9 +167,9 @@ pub record MeetsAll (entries : List Entry) (base level : ℕ) (lits : List Lit) 
   pub resolved : new.resolved ≡ old.resolved ++ added
   pub low : new.low ≤ old.low
   pub quiet : AreSeen entries old.seen base lits → base ≤ level → (new.kept ≡ old.kept) × (new.low ≡ old.low)
-  pub met : (a : Arena) (at : ℕ) → AreReasons a entries → base ≤ level → AreMet a entries base level at old
+  pub met : (a : Arena) (floor at : ℕ) → AreReasons a entries → floor ≤ base → base ≤ level → AreMet a entries floor level at old
       → AreSeen entries old.seen at lits
-      → AreMet a entries base level at new
+      → AreMet a entries floor level at new
 
 -- the entry at a place was implied
 abbrev pub IsReasoned : List Entry → ℕ → Type 0

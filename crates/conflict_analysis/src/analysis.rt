@@ -78,12 +78,18 @@ impl Analysis {
         self.found.resolved()
     }
 
+    /// Does the literal at such a place lead from the conflict to the clause? Others are between a literal that was left
+    /// out and those that imply it.
+    pub fn leads(&self, place: u32) -> bool {
+        self.found.leads(place)
+    }
+
     /// Learns a clause from a conflict at the current level, which is not 0, by the first unique implication point
     /// (Zhang, Madigan, Moskewicz, Malik, 2001): literals of that level are resolved with their reasons, the last one
-    /// first, until one is left. Literals that the others imply are resolved too (self-subsumption: Sörensson, Biere,
-    /// 2009), and so are those of level 0, so that the hints tell all that was used: no hint twice, and each but the last
-    /// adds a literal. The clause has the literal of the current level first, and of the others one of the highest level
-    /// second.
+    /// first, until one is left. Literals that the others imply through any number of reasons are resolved too (Sörensson,
+    /// Biere, 2009), and so is what is between, and what holds at level 0, so that the hints tell all that was used: no
+    /// hint twice, and each but the last adds a literal. The clause has the literal of the current level first, and of the
+    /// others one of the highest level second.
     pub fn learn(
         &mut self,
         arena: &Arena,

@@ -1,6 +1,6 @@
-ghost use Rattle.std.specs.Prelude.{◌≡◌, ◌≤◌, ◌++◌, ◌∷◌, [], true, List, length, All, OnOk};
+ghost use Rattle.std.specs.Prelude.{◌≡◌, ◌≤◌, ◌++◌, ◌∷◌, [], List, length, All, OnOk};
 ghost use Rattle.currency_base.specs.declared.lit.Lit.{Lit};
-ghost use Rattle.conflict_analysis.specs.Steps.{AreSeen, IsAssigned, MeetsAll, State};
+ghost use Rattle.conflict_analysis.specs.Steps.{IsAssigned, MeetsAll, State};
 
 use crate::reasons::place_of;
 use crate::resolution::{Bounds, Resolution};
@@ -37,30 +37,4 @@ pub(crate) fn meet_all(
         meet_lit(found, trail, bounds, *lit)?;
     }
     Ok(())
-}
-
-// Was the place of a literal met, or is it below the base?
-fn is_met(found: &Resolution, trail: &Trail, base: u32, lit: Lit) -> bool
-    requires long { length trail.now.entries ≤ length found.now.seen }
-    requires assigned { IsAssigned trail.now lit }
-    ensures { (front : List Lit) → AreSeen trail.now.entries found.now.seen base front
-        → result ≡ true → AreSeen trail.now.entries found.now.seen base (front ++ lit ∷ []) }
-{
-    trail.are_entries();
-    let place = place_of(trail, lit);
-    place < base || found.is_met(place)
-}
-
-/// Were the places of a clause's literals all met, or are below the base?
-pub(crate) fn all_met(found: &Resolution, trail: &Trail, base: u32, lits: &[Lit]) -> bool
-    requires long { length trail.now.entries ≤ length found.now.seen }
-    requires assigned { All (IsAssigned trail.now) lits.now }
-    ensures { result ≡ true → AreSeen trail.now.entries found.now.seen base lits.now }
-{
-    for lit in lits {
-        if !is_met(found, trail, base, *lit) {
-            return false;
-        }
-    }
-    true
 }

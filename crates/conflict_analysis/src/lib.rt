@@ -10,6 +10,7 @@ mod marks;
 mod reasons;
 mod resolution;
 mod resolving;
+mod trial;
 mod writing;
 
 pub use analysis::Analysis;

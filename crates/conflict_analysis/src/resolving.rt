@@ -1,9 +1,9 @@
-ghost use Rattle.std.specs.Prelude.{◌≡◌, ◌≤◌, ◌<◌, ◌+◌, All, Contains, List, [], Some, OnOk, ℕ, true, length};
+ghost use Rattle.std.specs.Prelude.{◌≡◌, ◌≤◌, ◌<◌, ◌+◌, All, Contains, [], Some, OnOk, ℕ, length};
 ghost use Rattle.watch_propagate.specs.WatchRule.{AreReasons};
-ghost use Rattle.conflict_analysis.specs.Steps.{AreMet, AreReasoned, AreSeen, Closes, ClosesAll, Completes, HasSeen, IsAssigned};
+ghost use Rattle.conflict_analysis.specs.Steps.{AreMet, AreReasoned, Closes, ClosesAll, Completes};
 ghost use Rattle.conflict_analysis.specs.Steps.{IsReasoned, MeetsReason, Minimizes, Passes, PopsKept, State, Walks};
 
-use crate::clauses::{all_met, meet_all};
+use crate::clauses::meet_all;
 use crate::reasons::reason_at;
 use crate::resolution::{Bounds, Resolution};
 use clause_arena::Arena;
@@ -82,19 +82,6 @@ pub(crate) fn walk(
     Ok(())
 }
 
-// Has the literal at a place a reason whose other literals were all met, or are below the base?
-fn is_implied(found: &Resolution, arena: &Arena, trail: &Trail, base: u32, place: u32) -> bool
-    requires long { length trail.now.entries ≤ length found.now.seen }
-    requires reasons { AreReasons arena.now trail.now.entries }
-    requires there { place < length trail.now.entries }
-    ensures { result ≡ true → HasSeen arena.now trail.now.entries found.now.seen base place }
-{
-    match reason_at(trail, place) {
-        Some(clause) => all_met(found, trail, base, arena.lits(clause)),
-        None => false,
-    }
-}
-
 // Resolves the literal at a place that was kept, where the others imply it; else its negation goes into the clause.
 fn minimize_at(
     found: &mut Resolution,
@@ -111,7 +98,8 @@ fn minimize_at(
     ensures ok { OnOk result ((before : State) → PopsKept before found.old (Some place)
         → Minimizes arena.now trail.now.entries bounds.base bounds.level before found.new) }
 {
-    if is_implied(found, arena, trail, bounds.base, place) {
+    trail.are_entries();
+    if found.is_implied(arena, trail, bounds.base, place) {
         found.resolve(place)
     } else {
         found.leave(place)
@@ -132,13 +120,15 @@ pub(crate) fn minimize(
     ensures kept { OnOk result (found.new.kept ≡ []) }
     ensures ok { OnOk result (Minimizes arena.now trail.now.entries bounds.base bounds.level found.old found.new) }
 {
+    found.begin_trial(trail);
     while let Some(place) = found.pop_kept() {
         minimize_at(found, arena, trail, bounds, place)?;
     }
     Ok(())
 }
 
-// Meets the reason of a place that was resolved, where the walk has not done so.
+// Meets the reason of a place that was resolved, where the walk has not done so. What was not met before is resolved too,
+// where it has a reason.
 fn close(
     found: &mut Resolution,
     arena: &Arena,
@@ -159,7 +149,11 @@ fn close(
     if at <= place {
         return Ok(());
     }
-    meet_reason(found, arena, trail, bounds, place)
+    let below = Bounds {
+        base: bounds.level,
+        level: bounds.level,
+    };
+    meet_reason(found, arena, trail, below, place)
 }
 
 /// Meets the reasons of all places that were resolved, of those that come on the way too.

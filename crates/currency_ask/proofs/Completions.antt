@@ -1,24 +1,32 @@
 -- Reports that list completions.
-use Rattle.std.proofs.Common.{◌≡◌, ◌≢◌, ◌∙◌, ◌<◌, ◌≤◌, ℕ, zero, suc, List, [], ◌∷◌, All, Contains, length, slice_index_or, refl, sym, ap, subst, arith}
+use Rattle.std.proofs.Common.{◌≡◌, ◌≢◌, ◌∙◌, ◌<◌, ◌≤◌, ℕ, zero, suc, List, [], ◌∷◌, All, Contains, length, slice_index_or, refl, sym, ap, subst, inl, arith}
 use Rattle.std.proofs.lemmas.List.Elements.{All-cons, All-nil}
+use Rattle.std.proofs.lemmas.Option.{same_Some}
+use Rattle.answer_candidates.specs.Candidates.{AreCandidates, EachRefutes, Standing}
+use Rattle.answer_laws.specs.Answered.{IsAnswerIn}
+use Rattle.common_answers.specs.Common.{AreCommon}
+use Rattle.query_model.specs.Answers.{AreAscending}
+use Rattle.query_model.specs.declared.query.Query.{Query}
 use Rattle.refutation_log.specs.Writable.{AreFew, IsWritable}
 use Rattle.refutation_log.specs.declared.log.Log.{Log}
 use Rattle.refutation_log.specs.declared.statement.Statement.{Statement}
 use Rattle.refutation_log.specs.declared.step.Step.{Step}
+use Rattle.currency_base.specs.Values.{IsValue}
 use Rattle.currency_base.specs.declared.value.Value.{Value}
 use Rattle.spec_model.specs.Completion.{IsCompletion, Rankings, lists_of, ranking_of}
 use Rattle.spec_model.specs.Consistent.{IsConsistent}
 use Rattle.spec_model.specs.Spec.{Spec}
 use Rattle.spec_model.specs.declared.question.Question.{Question}
+use Rattle.spec_model.specs.declared.question.Question.TheVariants as asked
 use Rattle.spec_model.specs.declared.relation.Relation.{Relation}
 use Rattle.report_model.specs.declared.report.Report.{Report}
 use Rattle.report_model.specs.declared.verdict.Verdict.{Verdict}
 use Rattle.report_model.specs.declared.verdict.Verdict.TheVariants as verdict
-use Rattle.report_verify.specs.Supported.{IsOneOf, IsSupported}
+use Rattle.report_verify.specs.Supported.{IsDerived, IsOneOf, IsSupported}
 use Rattle.report_model.specs.Writable.{AllCover, Covers, IsWritableCompletion, IsWritableVerdict}
 use Rattle.search_logs.specs.Laws.{CompletionsAreWritable}
 use Rattle.search_logs.specs.SearchLogs.{IsWithin}
-use Rattle.currency_ask.specs.Answered.{IsAnswerWithin, IsDecidedBy, NamesFirst}
+use Rattle.currency_ask.specs.Answered.{EachLacksOne, IsAnswerWithin, IsDecidedBy, IsOfClaims, NamesFirst, variables_of}
 use Rattle.currency_ask.specs.Reported.{IsReported, ListsAlone}
 use Rattle.currency_ask.proofs.Places.{each_has, item_at, item_has}
 
@@ -170,10 +178,12 @@ written_nothing = record {
 
 alone_reported : (s : Spec) (q : Question) (budget : ℕ) (v : Verdict) (completions : List Rankings)
     → AreShown s completions → IsOneOf s q v
-    → IsSupported s q v completions empty → IsWritableVerdict s.relations v → IsShownBy v (length completions)
+    → IsSupported s q v completions empty → IsWritableVerdict s.relations v
+    → IsAnswerWithin s q budget (record { verdict = v; completions = completions; log = empty })
+    → IsDecidedBy s q budget (record { verdict = v; completions = completions; log = empty })
     → NamesFirst s q v → IsReported s q budget (record { verdict = v; completions = completions; log = empty })
 unfolding empty
-alone_reported s q budget v completions are one_of supported verdict_written shown first = record {
+alone_reported s q budget v completions are one_of supported verdict_written lists enough first = record {
   shown = record {
     sound = record {
       one_of = one_of;
@@ -190,18 +200,20 @@ alone_reported s q budget v completions are one_of supported verdict_written sho
         written_nothing;
     well_formed = refl;
   };
-  lists = lists_within s q budget v completions shown;
-  enough = decided s q budget v completions shown;
+  lists = lists;
+  enough = enough;
   first = first;
 }
 
 -- a report of these completions alone
-pub listed_reported : (s : Spec) (q : Question) (budget : ℕ) (v : Verdict) (completions : List Rankings) (r : Report)
+listed_with : (s : Spec) (q : Question) (budget : ℕ) (v : Verdict) (completions : List Rankings) (r : Report)
     → ListsAlone v completions r
     → AreShown s completions → IsOneOf s q v → ((log : Log) → IsSupported s q v completions log) → IsWritableVerdict s.relations v
-    → IsShownBy v (length completions) → NamesFirst s q v → IsReported s q budget r
+    → IsAnswerWithin s q budget (record { verdict = v; completions = completions; log = empty })
+    → IsDecidedBy s q budget (record { verdict = v; completions = completions; log = empty })
+    → NamesFirst s q v → IsReported s q budget r
 unfolding empty
-listed_reported s q budget v completions r is are one_of supported verdict_written shown first =
+listed_with s q budget v completions r is are one_of supported verdict_written lists enough first =
     let log_is = nothing_is r.log is.answers is.statements is.steps in
     let made : Report = record { verdict = v; completions = completions; log = empty } in
     let verdict_same : r ≡ record { verdict = v; completions = r.completions; log = r.log } =
@@ -219,4 +231,65 @@ listed_reported s q budget v completions r is are one_of supported verdict_writt
     (record { verdict = v; completions = completions; log = empty }) =
     ap (λ (x : Log). let made : Report = record { verdict = v; completions = completions; log = x } in made) log_is in
     subst (IsReported s q budget) (sym (verdict_same ∙ list_same ∙ log_same))
-    (alone_reported s q budget v completions are one_of (supported empty) verdict_written shown first)
+    (alone_reported s q budget v completions are one_of (supported empty) verdict_written lists enough first)
+
+pub listed_reported : (s : Spec) (q : Question) (budget : ℕ) (v : Verdict) (completions : List Rankings) (r : Report)
+    → ListsAlone v completions r
+    → AreShown s completions → IsOneOf s q v → ((log : Log) → IsSupported s q v completions log) → IsWritableVerdict s.relations v
+    → IsShownBy v (length completions) → NamesFirst s q v → IsReported s q budget r
+listed_reported s q budget v completions r is are one_of supported verdict_written shown first =
+    listed_with s q budget v completions r is are one_of supported verdict_written
+    (lists_within s q budget v completions shown) (decided s q budget v completions shown) first
+
+-- ---- a query that no tuple answers over the listed completions
+
+none_claimed : (s : Spec) (query : Query) (budget : ℕ) → IsOfClaims s (asked.Answers query) budget (verdict.Answers []) empty
+unfolding empty
+none_claimed s query budget = record {
+  goals = [];
+  one_each = refl;
+  units = λ k need goal at. let no : ⊥ = cc in absurd no;
+  needed = record {
+    reached = λ place below. absurd (omega (arith, below));
+    statements = λ var below. absurd (omega (arith, below));
+    answers = λ tuple below. absurd (omega (arith, below));
+    counted = let least : 0 ≤ budget = omega arith in least;
+    right = record {
+      demanded = λ place l lits at. let no : ⊥ = cc in absurd no;
+      free = λ place lits hints at. let no : ⊥ = cc in absurd no;
+      lean = λ place lits hints counted at. let no : ⊥ = cc in absurd no;
+    };
+  };
+  among = record {
+    answers = [];
+    numbered = inl refl;
+    each = All-nil (Contains (variables_of s (asked.Answers query) 0));
+    candidates = All-nil (Contains []);
+  };
+}
+
+none_common : (s : Spec) (query : Query) (standing : Standing) → AreCandidates s query standing → standing.tuples ≡ []
+    → AreCommon s.relations query [] standing.completions
+none_common s query standing are none = record {
+  each = All-nil (λ (tuple : List Value). All (IsAnswerIn s.relations query tuple) standing.completions);
+  all = λ tuple common. subst (λ (tuples : List (List Value)). Contains tuples tuple) none (are.all tuple common);
+}
+
+pub none_reported : CompletionsAreWritable → (s : Spec) → IsWithin s → (query : Query) (standing : Standing)
+    → AreCandidates s query standing
+    → standing.tuples ≡ [] → length standing.completions ≤ 4294967294 → (tuples : List (List Value)) → tuples ≡ []
+    → (completions : List Rankings) → completions ≡ standing.completions
+    → (r : Report) → ListsAlone (verdict.Answers tuples) completions r → (budget : ℕ)
+    → IsReported s (asked.Answers query) budget r
+none_reported law s within query standing are none few tuples no_tuples completions same r is budget =
+    let lists = subst (λ (ts : List (List Value)). ListsAlone (verdict.Answers ts) standing.completions r) no_tuples
+    (subst (λ (cs : List Rankings). ListsAlone (verdict.Answers tuples) cs r) same is) in
+    listed_with s (asked.Answers query) budget (verdict.Answers []) standing.completions r lists
+    (shown_each law s standing.completions within are.consistent few) (subst AreAscending none are.ascending)
+    (λ log. (are.some, All-nil (IsDerived s.relations log), none_common s query standing are none))
+    (record { few = omega arith; each = All-nil (AreFew IsValue) }) (are.some, lacks, none_claimed s query budget)
+    (λ count counts enough. refl) tt
+  where
+    lacks : EachLacksOne s (asked.Answers query) standing.completions
+    lacks own e =
+        subst (λ (x : Query). EachRefutes s.relations x standing.completions) (same_Some query own e) are.refuting

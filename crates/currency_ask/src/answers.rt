@@ -5,9 +5,11 @@ ghost use Rattle.certain_answers.specs.Deciding.{AreDecidedUpTo, IsSearchFor as 
 ghost use Rattle.certain_answers.specs.declared.decisions.Decision.TheVariants as decision;
 ghost use Rattle.refutation_log.specs.Counted.{counted_steps};
 ghost use Rattle.search_logs.specs.SearchLogs.{IsWithin};
+ghost use Rattle.query_model.specs.declared.query.Query.{Query};
 ghost use Rattle.spec_model.specs.Completion.{Rankings};
 ghost use Rattle.spec_model.specs.Consistent.{IsConsistent};
 ghost use Rattle.spec_model.specs.Queries.{IsQueryOn};
+ghost use Rattle.spec_model.specs.Spec.{Spec};
 ghost use Rattle.spec_model.specs.declared.question.Question.TheVariants as asked;
 ghost use Rattle.currency_ask.specs.Answered.{AreAnswersOverSome, HasTooMany};
 ghost use Rattle.order_search.specs.Searches.{HasGone};
@@ -18,14 +20,15 @@ ghost use Rattle.currency_ask.specs.declared.goal.Goal.TheVariants.{Answer};
 
 use crate::AskFault;
 use crate::goal::{Goal, GoalList};
-use crate::reporting::{derived, ended};
+use crate::reporting::{derived, ended, listed};
 use answer_candidates::{CandidateFault, Candidates, PlaceList, left_are_common};
 use certain_answers::{Decision, DecisionList, Decisions, decide_left, discard, note, search_for};
-use currency_base::NoMemory;
+use currency_base::{NoMemory, TupleList};
 use order_search::{Outcome, Search};
 use query_model::Query;
 use refutation_log::HintList;
 use report_model::{Report, Verdict};
+use search_logs::completions_are_writable;
 use solver_guides::Guides;
 use spec_model::{Completion, Specification};
 use std::alloc::Global;
@@ -71,7 +74,7 @@ fn of_candidates(told: CandidateFault) -> AskFault
     }
 }
 
-// The report, by a search in which each candidate has a statement.
+// The report, by a search in which each candidate has a statement; where there is none, without it.
 fn searched(
     alloc: Global,
     spec: &Specification,
@@ -86,10 +89,25 @@ fn searched(
     requires first { IsFirst spec.now query.now candidates }
     ensures { IfOk result (IsReported spec.now (asked.Answers query.now) budget) }
 {
+    if candidates.tuples().len() == 0 {
+        return Ok(unanswered(alloc, candidates));
+    }
     match search_for(alloc, spec, query, &candidates, candidates.first(), guides) {
         Ok(search) => second_compared(alloc, spec, query, candidates, search, budget, guides),
         Err(error) => Err(error),
     }
+}
+
+// The report on a query that no tuple answers over the first completion, which shows that by itself.
+fn unanswered(alloc: Global, candidates: Candidates) -> Report
+    requires none { length candidates.tuples ≡ 0 }
+    requires few { length candidates.completions ≤ 4294967294 }
+    ensures { (s : Spec) (query : Query) (budget : ℕ) → IsWithin s → AreCandidates s query candidates
+        → IsReported s (asked.Answers query) budget result }
+{
+    completions_are_writable();
+    let completions = candidates.into_completions();
+    listed(alloc, Verdict::Answers(TupleList::new(alloc)), completions)
 }
 
 // The report, once a completion from the opposite of the first guess is compared.

@@ -84,7 +84,7 @@ fn decide(
     }
 }
 
-// Decides whether an asked pair holds, once the list of its rows is brought in.
+// Decides whether an asked pair holds, once the list of its rows is brought in where it is not known.
 fn decide_pair(
     alloc: Global,
     spec: &Specification,
@@ -99,17 +99,40 @@ fn decide_pair(
     ensures units { counted_steps search.new.log.steps + units.new ≡ counted_steps search.old.log.steps + units.old }
     ensures outcome { IfOk result (TellsGoal search.new (Goal.Pair asked) units.new) }
 {
-    search.is_search();
-    let list = list_of(spec, asked);
-    match search.bring(alloc, list, When::Next, guides) {
-        Ok(_) => {}
+    match bring_pair(alloc, spec, search, asked, guides) {
+        Ok(()) => {}
         Err(error) => return Err(error),
     }
+    search.is_search();
     let pair = asked.pair;
     let lit = search.before(asked.rel, pair.attr, pair.earlier, pair.later);
     let outcome = search.decide(alloc, Some(lit), units, guides);
     search.is_search();
     outcome
+}
+
+// Brings in the list of the rows of an asked pair, unless it is known that the pair holds.
+fn bring_pair(
+    alloc: Global,
+    spec: &Specification,
+    search: &mut Search<'_>,
+    asked: Asked,
+    guides: &mut Guides,
+) -> Result<(), NoMemory>
+    requires spec { search.old.spec ≡ spec.now }
+    requires pair { IsAskedPair search.old.spec.relations asked }
+    ensures gone { HasGone search.old search.new }
+    ensures units { counted_steps search.new.log.steps ≡ counted_steps search.old.log.steps }
+{
+    search.is_search();
+    let pair = asked.pair;
+    if search.is_known(search.before(asked.rel, pair.attr, pair.earlier, pair.later)) {
+        return Ok(());
+    }
+    match search.bring(alloc, list_of(spec, asked), When::Next, guides) {
+        Ok(_) => Ok(()),
+        Err(error) => Err(error),
+    }
 }
 
 // The list in which the rows of an asked pair stand.
@@ -125,7 +148,8 @@ fn list_of(spec: &Specification, asked: Asked) -> ListId
     }
 }
 
-// Decides whether the value of a row is the current one of its entity, once the list of its rows is brought in.
+// Decides whether the value of a row is the current one of its entity, once the list of its rows is brought in where it is not
+// known.
 fn decide_current(
     alloc: Global,
     search: &mut Search<'_>,
@@ -138,6 +162,28 @@ fn decide_current(
     ensures units { counted_steps search.new.log.steps + units.new ≡ counted_steps search.old.log.steps + units.old }
     ensures outcome { IfOk result (TellsGoal search.new (Goal.Current place) units.new) }
 {
+    match bring_current(alloc, search, place, guides) {
+        Ok(()) => {}
+        Err(error) => return Err(error),
+    }
+    search.is_search();
+    let lit = search.current(place.rel, place.attr, place.row);
+    let outcome = search.decide(alloc, Some(lit), units, guides);
+    search.is_search();
+    outcome
+}
+
+// Brings in the list of a row, unless it is known that its value is the current one of its entity.
+fn bring_current(
+    alloc: Global,
+    search: &mut Search<'_>,
+    place: CurrentRow,
+    guides: &mut Guides,
+) -> Result<(), NoMemory>
+    requires { IsCurrentGoal search.old.spec search.old.wanted place }
+    ensures gone { HasGone search.old search.new }
+    ensures units { counted_steps search.new.log.steps ≡ counted_steps search.old.log.steps }
+{
     search.is_search();
     let CurrentRow {
         rel,
@@ -145,12 +191,11 @@ fn decide_current(
         ent,
         row,
     } = place;
-    match search.bring(alloc, ListId { rel, attr, ent }, When::Next, guides) {
-        Ok(_) => {}
-        Err(error) => return Err(error),
+    if search.is_known(search.current(rel, attr, row)) {
+        return Ok(());
     }
-    let lit = search.current(rel, attr, row);
-    let outcome = search.decide(alloc, Some(lit), units, guides);
-    search.is_search();
-    outcome
+    match search.bring(alloc, ListId { rel, attr, ent }, When::Next, guides) {
+        Ok(_) => Ok(()),
+        Err(error) => Err(error),
+    }
 }

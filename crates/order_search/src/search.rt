@@ -12,7 +12,7 @@ ghost use Rattle.value_names.specs.Names.{name_of};
 
 use crate::finding::found;
 use crate::linked::bring_linked;
-use crate::matching::{add_match, demand_match};
+use crate::matching::{add_match, add_settled, demand_match, is_known};
 use crate::opening::{begun, guess};
 use crate::parting::{Parting, none_done};
 use crate::progress::Progress;
@@ -235,6 +235,46 @@ impl<'a> Search<'a> {
         );
         self.failed = added.is_err();
         added
+    }
+
+    /// Puts the axiom of a match after the steps, as `add_match` does, if what it speaks of is true with nothing assumed, so that
+    /// its answer is, too. Says whether it was put. No unit is taken.
+    pub fn add_settled(
+        &mut self,
+        alloc: Global,
+        completion: &Completion,
+        m: &Match,
+        answer: u32,
+        guides: &mut Guides,
+    ) -> Result<bool, NoMemory>
+        requires { IsMatchOf self.old completion.now m.now answer }
+        ensures gone { HasGone self.old self.new }
+        ensures units { counted_steps self.new.log.steps ≡ counted_steps self.old.log.steps }
+        ensures put { IfOk result (λ is_put. is_put ≡ true → HasTaken self.old self.new completion.now m.now answer false) }
+        ensures stays { self.old.failed ≡ true → IsErr result }
+        ensures fails { OnErr result (self.new.failed ≡ true) }
+        ensures succeeds { OnOk result (self.new.failed ≡ false) }
+    {
+        if self.failed {
+            return Err(NoMemory);
+        }
+        self.is_matched = true;
+        let added = add_settled(
+            &self.subject,
+            &mut self.progress,
+            alloc,
+            completion,
+            m,
+            answer,
+            guides,
+        );
+        self.failed = added.is_err();
+        added
+    }
+
+    /// Is a literal true with nothing assumed, as far as unit propagation went? No clause says so: what it spares is work.
+    pub fn is_known(&self, lit: Lit) -> bool {
+        is_known(&self.progress.solver, lit)
     }
 
     /// Puts the axiom of a match after the steps as one that the search demands: over the current instance of a completion

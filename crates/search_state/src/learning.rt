@@ -38,14 +38,14 @@ pub(crate) fn note_learned(
     })
 }
 
-/// Tells the guides the variables that an analysis met: those of resolved literals that are not true anyway, and those of the
-/// clause. None of the others can be picked.
+/// Tells the guides the variables that led an analysis to its clause: those of resolved literals that are not true anyway,
+/// but for those that only imply a literal that was left out, and those of the clause.
 pub(crate) fn tell_seen(analysis: &Analysis, trail: &Trail, guides: &mut Guides)
     requires { All (λ place. place < length trail.now.entries) analysis.now.resolved }
 {
     let base = if trail.depth() > 0 { trail.start(1) } else { 0 };
     for place in analysis.resolved() {
-        if *place >= base {
+        if *place >= base && analysis.leads(*place) {
             guides.saw(trail.assigned()[*place as usize].var());
         }
     }

@@ -9,12 +9,12 @@ returns-then-at-place-clause-ok c =
 
 pub meet_reason-requires-clause-there : goal.meet_reason-requires-clause-there
 meet_reason-requires-clause-there c =
-    has_entry c.args.arena.now c.args.trail.now.entries c.args.found.now.seen c.args.bounds.base c.args.place
+    has_entry c.args.arena.now c.args.trail.now.entries c.args.found.now.seen c.args.bounds.level c.args.place
     (c.requires.met.resolved c.args.place c.requires.resolved).reason
 
 pub meet_reason-requires-clause-reasoned : goal.meet_reason-requires-clause-reasoned
 meet_reason-requires-clause-reasoned c =
-    has_reason c.args.arena.now c.args.trail.now.entries c.args.found.now.seen c.args.bounds.base c.args.place
+    has_reason c.args.arena.now c.args.trail.now.entries c.args.found.now.seen c.args.bounds.level c.args.place
     (c.requires.met.resolved c.args.place c.requires.resolved).reason
 
 pub returns-clause-ok : goal.returns-clause-ok
