@@ -115,23 +115,27 @@ impl<'a> PlannedDisjunct<'a> {
         self.disjunct.atoms.as_slice()
     }
 
-    /// The order of its atoms, those that say the same once: those first that have variables of the head, and after
-    /// these each time one that shares most variables with those before it. Where atoms hang together as a tree each
-    /// so stands after one that has all variables that it shares with those before it (maximum cardinality search).
-    pub fn from_nothing(&self) -> &[Step<'a>]
-        ensures same { AreSameAtoms self.now.atoms result.now }
+    /// The order in which its atoms are searched, those that say the same once: those first that have variables of the
+    /// head, and after these each time one that shares most variables with those before it. Where atoms hang together as
+    /// a tree each so stands after one that has all variables that it shares with those before it (maximum cardinality
+    /// search).
+    pub fn order(&self, alloc: Global) -> Result<Vec<Step<'a>>, NoMemory>
+        ensures same { IfOk result (λ steps. AreSameAtoms self.now.atoms steps.items) }
         ensures fits { IsDisjunct self.now }
     {
-        &self.steps
+        copied(alloc, &self.steps)
     }
+}
 
-    /// The order of its atoms where the head's variables have values: the same, since it begins with them.
-    pub fn from_head(&self) -> &[Step<'a>]
-        ensures same { AreSameAtoms self.now.atoms result.now }
-        ensures fits { IsDisjunct self.now }
-    {
-        &self.steps
+// The same steps.
+fn copied<'a>(alloc: Global, steps: &[Step<'a>]) -> Result<Vec<Step<'a>>, NoMemory>
+    ensures { IfOk result (λ copy. copy.items ≡ steps.now) }
+{
+    let mut copy = Vec::with_capacity(alloc, steps.len())?;
+    for step in steps {
+        copy.push(Step { atom: step.atom })?;
     }
+    Ok(copy)
 }
 
 // Of each variable, whether it is one of the head's.

@@ -8,7 +8,7 @@ use Rattle.currency_base.specs.declared.value.Cmp.TheVariants.{Eq}
 use Rattle.currency_base.specs.declared.value.Value.{Value}
 use Rattle.query_model.specs.declared.query.Term.{Term}
 use Rattle.query_model.specs.declared.query.Term.TheVariants as term
-use Rattle.ucq_answers.specs.Partly.{asked_at, asked_by, bind, fit, fit_term, given, value_at}
+use Rattle.ucq_answers.specs.Partly.{AreFitted, IsFitted, asked_at, asked_by, bind, fit, fit_term, given, value_at}
 use Rattle.ucq_answers.proofs.Values.{same_test, tested_same}
 
 -- ---- lists with a place written
@@ -47,21 +47,10 @@ extends_on b c d first rest = record {
       (first.kept v x is);
 }
 
--- a term fits a value where its variable has it
-abbrev pub IsFitted : List (Option Value) → Term → Value → Type 0
-IsFitted b (term.Var v) x = slice_get b v ≡ Some (Some x)
-IsFitted b term.Any x = Unit {0}
-IsFitted b (term.Constant c) x = c ≡ x
-
 pub fitted_on : (b c : List (Option Value)) (t : Term) (x : Value) → Extends b c → IsFitted b t x → IsFitted c t x
 fitted_on b c (term.Var v) x on is = on.kept v x is
 fitted_on b c term.Any x on is = tt
 fitted_on b c (term.Constant k) x on is = is
-
--- all terms fit the values of a tuple
-pub record AreFitted (b : List (Option Value)) (terms : List Term) (tuple : List Value) : Type 0 where
-  pub as_many : length terms ≡ length tuple
-  pub each : (k : ℕ) (t : Term) (x : Value) → slice_get terms k ≡ Some t → slice_get tuple k ≡ Some x → IsFitted b t x
 
 pub all_on : (b c : List (Option Value)) (terms : List Term) (tuple : List Value) → Extends b c
     → AreFitted b terms tuple → AreFitted c terms tuple

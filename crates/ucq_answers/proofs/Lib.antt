@@ -5,6 +5,7 @@ mod Bindings
 mod Collecting
 mod Determined
 mod GoingOn
+mod Keeping
 mod Listed
 mod Matches
 mod Meaning

@@ -17,9 +17,9 @@ use Rattle.query_plan.specs.Implied.{AreContrary, Equated}
 use Rattle.query_plan.specs.Plans.{Conditioned}
 use Rattle.ucq_answers.specs.Found.{Adds, Bounded, FitsAt, HasUnfit, IsAnswerBy, IsFound, IsMatchBy, IsMet, IsMetFound}
 use Rattle.ucq_answers.specs.Lookups.{AreCandidates}
-use Rattle.ucq_answers.specs.Partly.{IsFit, IsHeadOfSome, bind, bind_all, fit, head_at, spread, tuples_of, values_of}
+use Rattle.ucq_answers.specs.Partly.{AreFitted, IsFit, IsFitted, IsHeadOfSome, bind, bind_all, fit, head_at, spread, tuples_of, values_of}
 use Rattle.ucq_answers.proofs.Collecting.{adds_same}
-use Rattle.ucq_answers.proofs.GoingOn.{AreFitted, CanBind, Extends, IsFitted, all_fitted, all_on, can_fit, extends_on, extends_same}
+use Rattle.ucq_answers.proofs.GoingOn.{CanBind, Extends, all_fitted, all_on, can_fit, extends_on, extends_same}
 use Rattle.ucq_answers.proofs.Meaning.{IsSearched, full, full_extends, full_get, full_head, get_full, head_full, many_none, met_agrees, met_solution, nothing_extends, solution_met, tuple_fitted, fitted_tuple}
 use Rattle.ucq_answers.proofs.Searching.{reached_extends}
 use Rattle.ucq_answers.proofs.Spreading.{mapped_some, spread_extends, spread_on}
@@ -48,10 +48,10 @@ fits_some instance atom b next ent is =
 -- ---- answers by a disjunct
 
 -- what is known before an atom is searched
-abbrev begun : Disjunct → Conditioned → List (Option Value)
+abbrev pub begun : Disjunct → Conditioned → List (Option Value)
 begun d conditions = spread conditions.equalities (replicate d.vars None)
 
-many_begun : (d : Disjunct) (conditions : Conditioned) → length (begun d conditions) ≡ d.vars
+pub many_begun : (d : Disjunct) (conditions : Conditioned) → length (begun d conditions) ≡ d.vars
 many_begun d conditions = sym (spread_extends conditions.equalities (replicate d.vars None)).as_many ∙ many_none d.vars
 
 from_nothing : (d : Disjunct) (values : List Value) → length values ≡ d.vars → Extends (replicate d.vars None) (full values)
@@ -194,6 +194,17 @@ met_found instance d conditions atoms b tuple (Some c) searched bound solution =
       meets = met.meets;
       is_head = fitted_head (values_of c) d.head tuple (subst (λ e. AreFitted e (map (λ v. Var v) d.head) tuple) met.same on);
     }
+
+-- values in which the head's variables have those of a tuple are as many as before
+pub many_bound : (d : Disjunct) (conditions : Conditioned) (b : List (Option Value)) (tuple : List Value)
+    → option_map (spread conditions.equalities) (bind_all (replicate d.vars None) d.head tuple) ≡ Some b → length b ≡ d.vars
+many_bound d conditions b tuple bound =
+    let parts = mapped_some (spread conditions.equalities) (bind_all (replicate d.vars None) d.head tuple) b bound in
+    let given : fit (replicate d.vars None) (map (λ v. Var v) d.head) tuple ≡ Some parts.0 =
+    sym (as_fit (replicate d.vars None) d.head tuple) ∙ parts.1 in
+    let own = all_fitted (replicate d.vars None) (map (λ v. Var v) d.head) tuple parts.0 given in
+    let first : Extends parts.0 b = subst (Extends parts.0) parts.2 (spread_extends conditions.equalities parts.0) in
+    sym first.as_many ∙ sym own.extends.as_many ∙ many_none d.vars
 
 -- ---- entities
 

@@ -18,9 +18,9 @@ use Rattle.query_model.specs.declared.query.TestTerm.{TestTerm}
 use Rattle.query_model.specs.declared.query.TestTerm.TheVariants as test
 use Rattle.query_plan.specs.Implied.{Equated, IsImplied}
 use Rattle.query_plan.specs.Plans.{AreSameAtoms, Conditioned}
-use Rattle.ucq_answers.specs.Partly.{IsSolution, Reached, head_at, may_hold, passes, put_before, side_of, tuples_of, value_at, values_of}
+use Rattle.ucq_answers.specs.Partly.{AreFitted, IsFitted, IsSolution, Reached, head_at, may_hold, passes, put_before, side_of, tuples_of, value_at, values_of}
 use Rattle.ucq_answers.proofs.Among.{Among, from_contains}
-use Rattle.ucq_answers.proofs.GoingOn.{AreFitted, Extends, IsFitted, all_on, get_none}
+use Rattle.ucq_answers.proofs.GoingOn.{Extends, all_on, get_none}
 use Rattle.ucq_answers.proofs.Searching.{put_some, reached_extends}
 use Rattle.ucq_answers.proofs.Spreading.{Agrees, all_joined, can_join}
 

@@ -11,9 +11,9 @@ use Rattle.query_model.specs.declared.query.Term.{Term}
 use Rattle.query_model.specs.declared.query.TestTerm.{TestTerm}
 use Rattle.query_model.specs.declared.query.TestTerm.TheVariants as test
 use Rattle.query_plan.specs.Implied.{Equated}
-use Rattle.ucq_answers.specs.Partly.{fit, given, join, joined_at, put_free, put_side, side_of, spread, tuples_of, value_at}
+use Rattle.ucq_answers.specs.Partly.{AreFitted, fit, given, join, joined_at, put_free, put_side, side_of, spread, tuples_of, value_at}
 use Rattle.ucq_answers.proofs.Bindings.{read_drop}
-use Rattle.ucq_answers.proofs.GoingOn.{AreFitted, CanBind, Extends, Fitted, all_fitted, all_on, bound_one, can_bind, can_fit, extends_on, extends_same, value_is}
+use Rattle.ucq_answers.proofs.GoingOn.{CanBind, Extends, Fitted, all_fitted, all_on, bound_one, can_bind, can_fit, extends_on, extends_same, value_is}
 
 pub value_on : (b c : List (Option Value)) (v : ℕ) (x : Value) → Extends b c → value_at b v ≡ Some x → value_at c v ≡ Some x
 value_on b c v x on is = ap (λ o. unwrap_or o None) (on.kept v x (value_is b v x is))

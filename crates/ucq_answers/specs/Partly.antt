@@ -1,5 +1,5 @@
 -- Values of some of the variables, and what they say of atoms and comparisons.
-use Rattle.std.specs.Prelude.{◌≡◌, ℕ, Bool, true, cond, List, [], ◌∷◌, Option, Some, None, slice_get, slice_set, slice_index_or, unwrap_or, option_and_then, option_map}
+use Rattle.std.specs.Prelude.{◌≡◌, ℕ, Bool, true, cond, length, List, [], ◌∷◌, Option, Some, None, slice_get, slice_set, slice_index_or, unwrap_or, option_and_then, option_map}
 use Rattle.std.specs.List.{list_all}
 use Rattle.currency_base.specs.Values.{value_test}
 use Rattle.currency_base.specs.declared.ids.EntId.{EntId}
@@ -99,6 +99,19 @@ spread (e ∷ es) b = spread es (put_side (side_of b e.side) b e.var)
 -- the values once terms fit a tuple, and what follows, if they can
 abbrev pub join : List Equated → List (Option Value) → List Term → List Value → Option (List (Option Value))
 join equalities b terms tuple = option_map (spread equalities) (fit b terms tuple)
+
+-- ---- values that fit
+
+-- a term fits a value where its variable has it
+abbrev pub IsFitted : List (Option Value) → Term → Value → Type 0
+IsFitted b (term.Var v) x = slice_get b v ≡ Some (Some x)
+IsFitted b term.Any x = Unit {0}
+IsFitted b (term.Constant c) x = c ≡ x
+
+-- all terms fit the values of a tuple
+pub record AreFitted (b : List (Option Value)) (terms : List Term) (tuple : List Value) : Type 0 where
+  pub as_many : length terms ≡ length tuple
+  pub each : (k : ℕ) (t : Term) (x : Value) → slice_get terms k ≡ Some t → slice_get tuple k ≡ Some x → IsFitted b t x
 
 -- ---- the head
 

@@ -2,10 +2,12 @@ ghost use Rattle.std.specs.Prelude.{◌≡◌, ◌≤◌, All, IfOk, IfSome, IfN
 ghost use Rattle.query_model.specs.Answers.{AreAnswers, HasMore, IsAnswer, IsMatch};
 ghost use Rattle.query_model.specs.Fitting.{IsQuery};
 ghost use Rattle.ucq_answers.specs.Found.{Adds, IsAnswerBy, IsAnswerOf, IsMatchAmong, IsMatchOf};
+ghost use Rattle.ucq_answers.specs.Kept.{IsPreparedFor, disjuncts_of};
 
 use crate::answer_set::AnswerSet;
 use crate::binding::Binding;
 use crate::matching::{disjunct_match, disjunct_matches};
+use crate::prepared::PreparedDisjunct;
 use crate::relation_index::RelationIndex;
 use crate::search::{Search, collect};
 use currency_base::{ItemList, NoMemory, Tuple, TupleList};
@@ -19,20 +21,24 @@ use std::marker::Model;
 /// them up. Contracts see the query, and for each relation its tuples.
 #[derive(Drop)]
 pub struct IndexedInstance<'a> {
-    disjuncts: Vec<PlannedDisjunct<'a>>,
+    disjuncts: Vec<PreparedDisjunct<'a>>,
     relations: Vec<RelationIndex<'a>>,
 }
 
 impl<'a> Model for IndexedInstance<'a> {
+    ghost use Rattle.std.specs.Prelude.{All};
+    ghost use Rattle.ucq_answers.specs.Kept.{IsPreparedFor, disjuncts_of};
     ghost use Rattle.ucq_answers.specs.Planned.{IndexedQuery};
 
     ghost Value = { IndexedQuery };
 
-    ghost view = { λ i. record { query = record { disjuncts = i.disjuncts.items }; instance = i.relations.items } };
+    ghost view = { λ i. record { query = record { disjuncts = disjuncts_of i.disjuncts.items }; instance = i.relations.items } };
+
+    ghost invariant = { λ i. All (IsPreparedFor i.relations.items) i.disjuncts.items };
 }
 
 impl<'a> IndexedInstance<'a> {
-    /// Makes the indexes, in time in proportion to n log n for n tuples.
+    /// Makes the indexes, and looks at which tuples can take part in a match, in time in proportion to n log n for n tuples.
     pub fn new(
         alloc: Global,
         query: &'a Query,
@@ -42,7 +48,7 @@ impl<'a> IndexedInstance<'a> {
         ensures { IfOk result (λ indexed. indexed ≡ record { query = query.now; instance = instance.now.relations }) }
     {
         let mut looked_up = Vec::new(alloc);
-        let disjuncts = planned_disjuncts(alloc, query, &mut looked_up)?;
+        let disjuncts = prepared_disjuncts(alloc, query, instance, &mut looked_up)?;
         looked_up.sort_unstable();
         looked_up.dedup();
         let relations = indexed_relations(alloc, instance, &looked_up)?;
@@ -91,18 +97,21 @@ impl<'a> IndexedInstance<'a> {
     }
 }
 
-// The plans of the disjuncts. Adds the places at which values are looked up.
-fn planned_disjuncts<'a>(
+// The disjuncts, each planned and prepared. Adds the places at which values are looked up.
+fn prepared_disjuncts<'a>(
     alloc: Global,
     query: &'a Query,
+    instance: &Instance,
     looked_up: &mut Vec<LookedUp>,
-) -> Result<Vec<PlannedDisjunct<'a>>, NoMemory>
+) -> Result<Vec<PreparedDisjunct<'a>>, NoMemory>
     requires { IsQuery query.now }
-    ensures { IfOk result (λ planned. planned.items ≡ query.now.disjuncts) }
+    ensures same { IfOk result (λ prepared. disjuncts_of prepared.items ≡ query.now.disjuncts) }
+    ensures right { IfOk result (λ prepared. All (IsPreparedFor instance.now.relations) prepared.items) }
 {
     let mut all = Vec::new(alloc);
     for disjunct in query.disjuncts.as_slice() {
-        all.push(PlannedDisjunct::new(alloc, disjunct, looked_up)?)?;
+        let planned = PlannedDisjunct::new(alloc, disjunct, looked_up)?;
+        all.push(PreparedDisjunct::new(alloc, planned, instance)?)?;
     }
     Ok(all)
 }
@@ -142,13 +151,14 @@ fn places_of(
 fn collect_all<'a>(
     alloc: Global,
     relations: &'a [RelationIndex<'a>],
-    disjuncts: &'a [PlannedDisjunct<'a>],
+    disjuncts: &'a [PreparedDisjunct<'a>],
     answers: &mut AnswerSet,
 ) -> Result<bool, NoMemory>
-    ensures { IfOk result (Adds (IsAnswerOf disjuncts.now relations.now) answers.old answers.new) }
+    requires { All (IsPreparedFor relations.now) disjuncts.now }
+    ensures { IfOk result (Adds (IsAnswerOf (disjuncts_of disjuncts.now) relations.now) answers.old answers.new) }
 {
-    for planned in disjuncts {
-        if collect_disjunct(alloc, relations, planned, answers)? {
+    for prepared in disjuncts {
+        if collect_disjunct(alloc, relations, prepared, answers)? {
             return Ok(true);
         }
     }
@@ -159,13 +169,18 @@ fn collect_all<'a>(
 fn collect_disjunct<'a>(
     alloc: Global,
     relations: &'a [RelationIndex<'a>],
-    planned: &'a PlannedDisjunct<'a>,
+    prepared: &'a PreparedDisjunct<'a>,
     answers: &mut AnswerSet,
 ) -> Result<bool, NoMemory>
-    ensures { IfOk result (Adds (IsAnswerBy relations.now planned.now) answers.old answers.new) }
+    requires { IsPreparedFor relations.now prepared.now }
+    ensures { IfOk result (Adds (IsAnswerBy relations.now prepared.now.disjunct) answers.old answers.new) }
 {
+    let planned = prepared.planned();
     let conditions = planned.conditions();
     if conditions.is_contrary() {
+        return Ok(false);
+    }
+    if prepared.is_unmatched() {
         return Ok(false);
     }
     let mut values = Binding::new(alloc, planned.vars())?;
@@ -175,7 +190,7 @@ fn collect_disjunct<'a>(
         conditions,
         head: planned.head(),
     };
-    let full = collect(alloc, &search, planned.from_nothing(), &values, answers)?;
+    let full = collect(alloc, &search, prepared.atoms(), &values, answers)?;
     Ok(full)
 }
 
@@ -183,16 +198,17 @@ fn collect_disjunct<'a>(
 fn first_match<'a>(
     alloc: Global,
     relations: &'a [RelationIndex<'a>],
-    disjuncts: &'a [PlannedDisjunct<'a>],
+    disjuncts: &'a [PreparedDisjunct<'a>],
     tuple: &'a Tuple,
 ) -> Result<Option<Match>, NoMemory>
-    ensures { IfOk result (IsMatchOf disjuncts.now relations.now tuple.now) }
+    requires { All (IsPreparedFor relations.now) disjuncts.now }
+    ensures { IfOk result (IsMatchOf (disjuncts_of disjuncts.now) relations.now tuple.now) }
 {
-    for (place, planned) in disjuncts.iter().enumerate() {
+    for (place, prepared) in disjuncts.iter().enumerate() {
         let Ok(number) = u32::try_from(place) else {
             return Err(NoMemory);
         };
-        if let Some(found) = disjunct_match(alloc, relations, planned, number, tuple)? {
+        if let Some(found) = disjunct_match(alloc, relations, prepared, number, tuple)? {
             return Ok(Some(found));
         }
     }
@@ -203,15 +219,15 @@ fn first_match<'a>(
 fn all_matches<'a>(
     alloc: Global,
     relations: &'a [RelationIndex<'a>],
-    disjuncts: &'a [PlannedDisjunct<'a>],
+    disjuncts: &'a [PreparedDisjunct<'a>],
     tuple: &'a Tuple,
     at_most: usize,
 ) -> Result<ItemList<Match>, NoMemory>
-    ensures each { IfOk result (λ found. All (IsMatchAmong disjuncts.now relations.now tuple.now) found) }
+    ensures each { IfOk result (λ found. All (IsMatchAmong (disjuncts_of disjuncts.now) relations.now tuple.now) found) }
     ensures few { IfOk result (λ found. length found ≤ at_most) }
 {
     let mut all = Vec::new(alloc);
-    for (place, planned) in disjuncts.iter().enumerate() {
+    for (place, prepared) in disjuncts.iter().enumerate() {
         if all.len() >= at_most {
             return Ok(ItemList::from_items(all));
         }
@@ -219,7 +235,7 @@ fn all_matches<'a>(
             return Err(NoMemory);
         };
         let left = at_most - all.len();
-        let found = disjunct_matches(alloc, relations, planned, number, tuple, left)?;
+        let found = disjunct_matches(alloc, relations, prepared, number, tuple, left)?;
         let mut more = found.into_items();
         all.append(&mut more)?;
     }

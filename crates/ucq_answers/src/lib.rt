@@ -14,6 +14,7 @@ mod match_search;
 mod match_set;
 mod matching;
 mod place_index;
+mod prepared;
 mod relation_index;
 mod search;
 

@@ -1,15 +1,16 @@
 ghost use Rattle.std.specs.Prelude.{◌∷◌, IfOk};
 ghost use Rattle.std.specs.List.{AllZip};
 ghost use Rattle.ucq_answers.specs.Found.{AddsMatches, AllFitAt, IsMatchFrom, IsMatchWith};
+ghost use Rattle.ucq_answers.specs.Kept.{atoms_of};
 
 use crate::binding::Binding;
 use crate::choices::{choice, choices_of};
 use crate::comparisons::passes;
 use crate::match_set::MatchSet;
+use crate::prepared::SearchedAtom;
 use crate::search::{Search, candidates, fit_atom, join_atom, next_step};
 use currency_base::{EntId, EntList, NoMemory};
 use query_model::{Atom, Match, Term};
-use query_plan::Step;
 use std::alloc::Global;
 
 /// What is searched for the matches by a disjunct: what is searched for values, and the disjunct's atoms and number.
@@ -26,22 +27,22 @@ pub(crate) struct MatchSearch<'a> {
 pub(crate) fn collect_matches<'a>(
     alloc: Global,
     sought: &MatchSearch<'a>,
-    steps: &'a [Step<'a>],
+    steps: &'a [SearchedAtom<'a>],
     values: &Binding<'a>,
     found: &mut MatchSet,
 ) -> Result<bool, NoMemory>
     ensures { IfOk result (λ full. AddsMatches (IsMatchFrom sought.now.search.relations.now sought.now.search.conditions.now
-        sought.now.atoms.now sought.now.number steps.now values.now) found.old found.new) }
+        sought.now.atoms.now sought.now.number (atoms_of steps.now) values.now) found.old found.new) }
 {
     if !passes(values, sought.search.conditions.tests()) {
         return Ok(false);
     }
-    let Some((atom, rest)) = next_step(steps) else {
+    let Some((step, rest)) = next_step(steps) else {
         let full = add_matches(alloc, sought, values, found)?;
         return Ok(full);
     };
-    for ent in starts(alloc, &sought.search, atom, values)? {
-        if matches_at(alloc, sought, atom, rest, *ent, values, found)? {
+    for ent in starts(alloc, &sought.search, step.atom(), values)? {
+        if matches_at(alloc, sought, step, rest, *ent, values, found)? {
             return Ok(true);
         }
     }
@@ -53,16 +54,19 @@ pub(crate) fn collect_matches<'a>(
 fn matches_at<'a>(
     alloc: Global,
     sought: &MatchSearch<'a>,
-    atom: &'a Atom,
-    rest: &'a [Step<'a>],
+    step: &'a SearchedAtom<'a>,
+    rest: &'a [SearchedAtom<'a>],
     ent: EntId,
     values: &Binding<'a>,
     found: &mut MatchSet,
 ) -> Result<bool, NoMemory>
     ensures { IfOk result (λ full. AddsMatches (IsMatchFrom sought.now.search.relations.now sought.now.search.conditions.now
-        sought.now.atoms.now sought.now.number (atom.now ∷ rest.now) values.now) found.old found.new) }
+        sought.now.atoms.now sought.now.number (atoms_of (step.now ∷ rest.now)) values.now) found.old found.new) }
 {
-    let Some(next) = join_atom(alloc, &sought.search, atom, ent, values)? else {
+    if !step.keeps(ent) {
+        return Ok(false);
+    }
+    let Some(next) = join_atom(alloc, &sought.search, step.atom(), ent, values)? else {
         return Ok(false);
     };
     let full = collect_matches(alloc, sought, rest, &next, found)?;

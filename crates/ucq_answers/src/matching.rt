@@ -1,12 +1,14 @@
 ghost use Rattle.std.specs.Prelude.{◌≡◌, ◌≤◌, All, List, None, Some, IfOk, length, option_map, replicate};
 ghost use Rattle.currency_base.specs.declared.value.Value.{Value};
 ghost use Rattle.ucq_answers.specs.Found.{AreEntities, IsEntity, IsMatchBy, IsMatchFound, IsMetFound};
+ghost use Rattle.ucq_answers.specs.Kept.{IsPreparedFor};
 ghost use Rattle.ucq_answers.specs.Partly.{bind_all, spread};
 
 use crate::binding::Binding;
 use crate::fitting::bound;
 use crate::match_search::{MatchSearch, collect_matches};
 use crate::match_set::MatchSet;
+use crate::prepared::PreparedDisjunct;
 use crate::relation_index::RelationIndex;
 use crate::search::{Search, candidates, find, fit_atom};
 use currency_base::{EntId, EntList, ItemList, NoMemory, Tuple};
@@ -18,16 +20,18 @@ use std::alloc::Global;
 pub(crate) fn disjunct_match<'a>(
     alloc: Global,
     relations: &'a [RelationIndex<'a>],
-    planned: &'a PlannedDisjunct<'a>,
+    prepared: &'a PreparedDisjunct<'a>,
     number: u32,
     tuple: &'a Tuple,
 ) -> Result<Option<Match>, NoMemory>
-    ensures { IfOk result (IsMatchFound relations.now planned.now number tuple.now) }
+    requires { IsPreparedFor relations.now prepared.now }
+    ensures { IfOk result (IsMatchFound relations.now prepared.now.disjunct number tuple.now) }
 {
-    let Some(values) = met_values(alloc, relations, planned, tuple)? else {
+    let Some(values) = met_values(alloc, relations, prepared, tuple)? else {
         return Ok(None);
     };
-    let Some(entities) = entities_of(alloc, relations, planned.atoms(), &values)? else {
+    let atoms = prepared.planned().atoms();
+    let Some(entities) = entities_of(alloc, relations, atoms, &values)? else {
         return Ok(None);
     };
     let values = values.values(alloc)?;
@@ -42,13 +46,18 @@ pub(crate) fn disjunct_match<'a>(
 fn met_values<'a>(
     alloc: Global,
     relations: &'a [RelationIndex<'a>],
-    planned: &'a PlannedDisjunct<'a>,
+    prepared: &'a PreparedDisjunct<'a>,
     tuple: &'a Tuple,
 ) -> Result<Option<Binding<'a>>, NoMemory>
-    ensures { IfOk result (IsMetFound relations.now planned.now tuple.now) }
+    requires { IsPreparedFor relations.now prepared.now }
+    ensures { IfOk result (IsMetFound relations.now prepared.now.disjunct tuple.now) }
 {
+    let planned = prepared.planned();
     let conditions = planned.conditions();
     if conditions.is_contrary() {
+        return Ok(None);
+    }
+    if prepared.is_unmatched() {
         return Ok(None);
     }
     let Some(values) = head_values(alloc, planned, conditions, tuple)? else {
@@ -59,7 +68,7 @@ fn met_values<'a>(
         conditions,
         head: planned.head(),
     };
-    let found = find(alloc, &search, planned.from_head(), &values)?;
+    let found = find(alloc, &search, prepared.atoms(), &values)?;
     Ok(found)
 }
 
@@ -121,14 +130,15 @@ fn entity_of<'a>(
 pub(crate) fn disjunct_matches<'a>(
     alloc: Global,
     relations: &'a [RelationIndex<'a>],
-    planned: &'a PlannedDisjunct<'a>,
+    prepared: &'a PreparedDisjunct<'a>,
     number: u32,
     tuple: &'a Tuple,
     at_most: usize,
 ) -> Result<ItemList<Match>, NoMemory>
-    ensures each { IfOk result (λ found. All (IsMatchBy relations.now planned.now number tuple.now) found) }
+    ensures each { IfOk result (λ found. All (IsMatchBy relations.now prepared.now.disjunct number tuple.now) found) }
     ensures few { IfOk result (λ found. length found ≤ at_most) }
 {
+    let planned = prepared.planned();
     let conditions = planned.conditions();
     if conditions.is_contrary() {
         return Ok(ItemList::new(alloc));
@@ -146,6 +156,6 @@ pub(crate) fn disjunct_matches<'a>(
         number,
     };
     let mut found = MatchSet::new(alloc, at_most);
-    let _ = collect_matches(alloc, &sought, planned.from_head(), &values, &mut found)?;
+    let _ = collect_matches(alloc, &sought, prepared.atoms(), &values, &mut found)?;
     Ok(found.into_list())
 }

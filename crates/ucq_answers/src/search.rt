@@ -1,15 +1,17 @@
 ghost use Rattle.std.specs.Prelude.{◌≡◌, ◌∷◌, [], Some, IfNone, IfOk, IfSome, option_and_then, slice_get, true, Contains};
 ghost use Rattle.ucq_answers.specs.Found.{Adds, IsFound, IsFoundAt, IsHeadAt};
+ghost use Rattle.ucq_answers.specs.Kept.{FitKept, atoms_of};
 ghost use Rattle.ucq_answers.specs.Lookups.{AreCandidates};
 ghost use Rattle.ucq_answers.specs.Partly.{IsHeadOfSome, fit, head_at, joined_at, tuples_of};
 
 use crate::answer_set::{Answer, AnswerSet};
 use crate::binding::Binding;
 use crate::comparisons::passes;
+use crate::prepared::SearchedAtom;
 use crate::relation_index::RelationIndex;
 use currency_base::{EntId, NoMemory, Tuple};
 use query_model::{Atom, Test};
-use query_plan::{Conditions, Step};
+use query_plan::Conditions;
 use std::alloc::Global;
 
 /// What is searched for a disjunct: the relations, its comparisons with what follows of them, and the variables of its
@@ -27,20 +29,21 @@ pub(crate) struct Search<'a> {
 pub(crate) fn find<'a>(
     alloc: Global,
     search: &Search<'a>,
-    steps: &'a [Step<'a>],
+    steps: &'a [SearchedAtom<'a>],
     values: &Binding<'a>,
 ) -> Result<Option<Binding<'a>>, NoMemory>
-    ensures { IfOk result (IsFound search.now.relations.now search.now.conditions.now steps.now values.now) }
+    requires { FitKept search.now.relations.now search.now.conditions.now steps.now values.now }
+    ensures { IfOk result (IsFound search.now.relations.now search.now.conditions.now (atoms_of steps.now) values.now) }
 {
     let tests = search.conditions.tests();
     if !passes(values, tests) {
         return Ok(None);
     }
-    let Some((atom, rest)) = next_step(steps) else {
+    let Some((step, rest)) = next_step(steps) else {
         return Ok(Some(values.duplicate(alloc)?));
     };
-    for ent in candidates(search.relations, tests, atom, values) {
-        if let Some(found) = find_at(alloc, search, atom, rest, *ent, values)? {
+    for ent in candidates(search.relations, tests, step.atom(), values) {
+        if let Some(found) = find_at(alloc, search, step, rest, *ent, values)? {
             return Ok(Some(found));
         }
     }
@@ -52,14 +55,19 @@ pub(crate) fn find<'a>(
 fn find_at<'a>(
     alloc: Global,
     search: &Search<'a>,
-    atom: &'a Atom,
-    rest: &'a [Step<'a>],
+    step: &'a SearchedAtom<'a>,
+    rest: &'a [SearchedAtom<'a>],
     ent: EntId,
     values: &Binding<'a>,
 ) -> Result<Option<Binding<'a>>, NoMemory>
-    ensures { IfOk result (IsFoundAt search.now.relations.now search.now.conditions.now atom.now rest.now values.now ent) }
+    requires { FitKept search.now.relations.now search.now.conditions.now (step.now ∷ rest.now) values.now }
+    ensures { IfOk result (IsFoundAt search.now.relations.now search.now.conditions.now step.now.atom (atoms_of rest.now) values.now
+        ent) }
 {
-    let Some(next) = join_atom(alloc, search, atom, ent, values)? else {
+    if !step.keeps(ent) {
+        return Ok(None);
+    }
+    let Some(next) = join_atom(alloc, search, step.atom(), ent, values)? else {
         return Ok(None);
     };
     let found = find(alloc, search, rest, &next)?;
@@ -74,12 +82,13 @@ fn find_at<'a>(
 pub(crate) fn collect<'a>(
     alloc: Global,
     search: &Search<'a>,
-    steps: &'a [Step<'a>],
+    steps: &'a [SearchedAtom<'a>],
     values: &Binding<'a>,
     answers: &mut AnswerSet,
 ) -> Result<bool, NoMemory>
-    ensures { IfOk result (Adds (IsHeadOfSome search.now.relations.now search.now.conditions.now search.now.head.now steps.now values.now)
-        answers.old answers.new) }
+    requires { FitKept search.now.relations.now search.now.conditions.now steps.now values.now }
+    ensures { IfOk result (Adds (IsHeadOfSome search.now.relations.now search.now.conditions.now search.now.head.now (atoms_of steps.now)
+        values.now) answers.old answers.new) }
 {
     let tests = search.conditions.tests();
     if !passes(values, tests) {
@@ -88,11 +97,11 @@ pub(crate) fn collect<'a>(
     if let Some(tuple) = values.head(alloc, search.head)? {
         return add_found(alloc, search, steps, values, Answer::new(tuple), answers);
     }
-    let Some((atom, rest)) = next_step(steps) else {
+    let Some((step, rest)) = next_step(steps) else {
         return Ok(false);
     };
-    for ent in candidates(search.relations, tests, atom, values) {
-        if collect_at(alloc, search, atom, rest, *ent, values, answers)? {
+    for ent in candidates(search.relations, tests, step.atom(), values) {
+        if collect_at(alloc, search, step, rest, *ent, values, answers)? {
             return Ok(true);
         }
     }
@@ -104,16 +113,20 @@ pub(crate) fn collect<'a>(
 fn collect_at<'a>(
     alloc: Global,
     search: &Search<'a>,
-    atom: &'a Atom,
-    rest: &'a [Step<'a>],
+    step: &'a SearchedAtom<'a>,
+    rest: &'a [SearchedAtom<'a>],
     ent: EntId,
     values: &Binding<'a>,
     answers: &mut AnswerSet,
 ) -> Result<bool, NoMemory>
-    ensures { IfOk result (Adds (IsHeadAt search.now.relations.now search.now.conditions.now search.now.head.now atom.now rest.now values.now
-        ent) answers.old answers.new) }
+    requires { FitKept search.now.relations.now search.now.conditions.now (step.now ∷ rest.now) values.now }
+    ensures { IfOk result (Adds (IsHeadAt search.now.relations.now search.now.conditions.now search.now.head.now step.now.atom
+        (atoms_of rest.now) values.now ent) answers.old answers.new) }
 {
-    let Some(next) = join_atom(alloc, search, atom, ent, values)? else {
+    if !step.keeps(ent) {
+        return Ok(false);
+    }
+    let Some(next) = join_atom(alloc, search, step.atom(), ent, values)? else {
         return Ok(false);
     };
     let full = collect(alloc, search, rest, &next, answers)?;
@@ -124,13 +137,14 @@ fn collect_at<'a>(
 fn add_found<'a>(
     alloc: Global,
     search: &Search<'a>,
-    steps: &'a [Step<'a>],
+    steps: &'a [SearchedAtom<'a>],
     values: &Binding<'a>,
     answer: Answer,
     answers: &mut AnswerSet,
 ) -> Result<bool, NoMemory>
+    requires { FitKept search.now.relations.now search.now.conditions.now steps.now values.now }
     ensures { IfOk result (λ full. head_at values.now search.now.head.now ≡ Some answer
-        → Adds (IsHeadOfSome search.now.relations.now search.now.conditions.now search.now.head.now steps.now values.now)
+        → Adds (IsHeadOfSome search.now.relations.now search.now.conditions.now search.now.head.now (atoms_of steps.now) values.now)
         answers.old answers.new full) }
 {
     if is_known(steps, answers, &answer) {
@@ -143,20 +157,22 @@ fn add_found<'a>(
 }
 
 // Is a tuple an answer by now? It is not looked for where no atom is left, since it is added as soon then.
-fn is_known(steps: &[Step], answers: &AnswerSet, answer: &Answer) -> bool
+fn is_known(steps: &[SearchedAtom], answers: &AnswerSet, answer: &Answer) -> bool
     ensures { result ≡ true → Contains answers.now.tuples answer.now }
 {
     steps.len() > 0 && answers.has(answer)
 }
 
 /// The atom that is searched next, and those after it.
-pub(crate) fn next_step<'a>(steps: &'a [Step<'a>]) -> Option<(&'a Atom, &'a [Step<'a>])>
+pub(crate) fn next_step<'a>(
+    steps: &'a [SearchedAtom<'a>],
+) -> Option<(&'a SearchedAtom<'a>, &'a [SearchedAtom<'a>])>
     ensures some { IfSome result (λ next. steps.now ≡ next.0.now ∷ next.1.now) }
     ensures none { IfNone result (steps.now ≡ []) }
 {
     match steps {
         [] => None,
-        [step, rest @ ..] => Some((step.atom(), rest)),
+        [step, rest @ ..] => Some((step, rest)),
     }
 }
 
