@@ -100,7 +100,8 @@ IsDecided search standing place (decision.Proved step) = IsProved search place s
 -- so many first candidates are decided, each as the list says at its place
 pub record AreDecidedUpTo (search : Search) (standing : Standing) (count : ℕ) (decisions : List Decision) : Type 0 where
   pub as_many : length decisions ≡ count
-  pub each : (place : ℕ) (decision : Decision) → slice_get decisions place ≡ Some decision → IsDecided search standing place decision
+  pub each : (place : ℕ) (decision : Decision) → slice_get decisions place ≡ Some decision
+      → IsDecided search standing place decision
 
 -- what deciding all candidates came to, with so many units left
 abbrev pub TellsDecisions : Search → Standing → ℕ → Decisions → Type 0

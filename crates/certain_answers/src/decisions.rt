@@ -45,9 +45,9 @@ pub enum Decisions {
 }
 
 /// Decides each candidate that is an answer over all listed completions, once the lists of rows that it is about are brought
-/// in. The axioms of settled matches come first, so those candidates are known and cost no decision. The guides begin from a guess
-/// in which no candidate is an answer, so that a completion which refutes one refutes as many others as it may; it is looked at for
-/// all.
+/// in. The axioms of settled matches come first, so those candidates are known and cost no decision. The guides begin from
+/// a guess in which no candidate is an answer, so that a completion which refutes one refutes as many others as it may; it
+/// is looked at for all.
 pub fn decide_left(
     alloc: Global,
     spec: &Specification,

@@ -20,9 +20,9 @@ use ucq_answers::IndexedInstance;
 // The most matches of all candidates together that are looked at.
 const MANY_MATCHES: usize = 1_048_576;
 
-/// Brings in the axiom of a match over a completion of each candidate that has a settled one: all current values of which it speaks
-/// are known with nothing assumed. So it is known that the candidate is an answer, and it costs no decision over all variables. No
-/// unit is taken.
+/// Brings in the axiom of a match over a completion of each candidate that has a settled one: all current values of which
+/// it speaks are known with nothing assumed. So it is known that the candidate is an answer, and it costs no decision over
+/// all variables. No unit is taken.
 pub(crate) fn settle(
     alloc: Global,
     spec: &Specification,
@@ -55,8 +55,8 @@ pub(crate) fn settle(
     Ok(())
 }
 
-// Brings in the axiom of a settled match of the candidate at a place, if one is among so many of its matches over a completion. Says
-// how many these are.
+// Brings in the axiom of a settled match of the candidate at a place, if one is among so many of its matches over a
+// completion. Says how many these are.
 fn settle_at(
     alloc: Global,
     spec: &Specification,

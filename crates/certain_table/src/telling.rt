@@ -76,7 +76,8 @@ fn printed_brief(
     ending: Ending,
 ) -> Result<Done, Trouble>
     requires { IsWritableReport spec.now.relations report.now }
-    ensures printed { IfOk result (λ done. done ≡ record { text = answer_text spec.now.relations true report.now; ending = ending }) }
+    ensures printed { IfOk result
+        (λ done. done ≡ record { text = answer_text spec.now.relations true report.now; ending = ending }) }
     ensures memory { IfErr result (λ e. e ≡ Trouble.NoMemory) }
 {
     let Done { text, .. } = printed_report(alloc, spec, true, report)?;

@@ -76,7 +76,8 @@ fn write_unit(into: &mut TextWriter, unit: u32) -> Result<(), NoMemory>
     into.symbol(";")
 }
 
-/// Writes needed items, each with a completion without it: the first one whole, and of each later one what differs from the first.
+/// Writes needed items, each with a completion without it: the first one whole, and of each later one what differs from
+/// the first.
 fn write_needed(
     into: &mut TextWriter,
     spec: &Specification,

@@ -86,7 +86,8 @@ fn some(
 
 /// What a report on whether there is a consistent completion makes known.
 fn of_consistent(report: Report) -> Known
-    ensures { (s : Spec) (budget : ℕ) → IsAnswerReport s asked.Consistent budget report → IsKnown s asked.Consistent budget result }
+    ensures { (s : Spec) (budget : ℕ) → IsAnswerReport s asked.Consistent budget report
+        → IsKnown s asked.Consistent budget result }
 {
     match &report.verdict {
         Verdict::Inconsistent => Known::Inconsistent(report),

@@ -51,7 +51,8 @@ fn read_the_report<S: Shelf>(
 ) -> Result<ReadReport, Trouble>
     ensures kept { S.texts shelf.new ≡ S.texts shelf.old }
     ensures later { S.faults shelf.old ≤ S.faults shelf.new }
-    ensures stage { IsDetermined result → IfSome (S.texts shelf.old) (λ told. IsReportRead told spec.now.relations name.now result) }
+    ensures stage { IsDetermined result → IfSome (S.texts shelf.old)
+        (λ told. IsReportRead told spec.now.relations name.now result) }
     ensures read_fault { IsReadFault result → Rose (S.faults shelf.old) (S.faults shelf.new) }
     ensures shape { IfOk result (λ r. All (HasShape spec.now.relations) r.report.completions) }
     ensures few { IfOk result (λ r. length r.report.completions < 2 ^ 32) }

@@ -127,7 +127,8 @@ fn seen_rows(
     order: &[Step],
     conditions: &Conditions,
 ) -> Result<Seen, NoMemory>
-    ensures { IfOk result (λ seen. IsSeen instance.now.relations order.now conditions.now.tests seen.kept.items seen.is_unmatched) }
+    ensures { IfOk result (λ seen. IsSeen instance.now.relations order.now conditions.now.tests seen.kept.items
+        seen.is_unmatched) }
 {
     if order.len() <= 2 {
         return Ok(Seen {

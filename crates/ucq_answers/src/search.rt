@@ -61,8 +61,8 @@ fn find_at<'a>(
     values: &Binding<'a>,
 ) -> Result<Option<Binding<'a>>, NoMemory>
     requires { FitKept search.now.relations.now search.now.conditions.now (step.now ∷ rest.now) values.now }
-    ensures { IfOk result (IsFoundAt search.now.relations.now search.now.conditions.now step.now.atom (atoms_of rest.now) values.now
-        ent) }
+    ensures { IfOk result (IsFoundAt search.now.relations.now search.now.conditions.now step.now.atom
+        (atoms_of rest.now) values.now ent) }
 {
     if !step.keeps(ent) {
         return Ok(None);
@@ -87,8 +87,8 @@ pub(crate) fn collect<'a>(
     answers: &mut AnswerSet,
 ) -> Result<bool, NoMemory>
     requires { FitKept search.now.relations.now search.now.conditions.now steps.now values.now }
-    ensures { IfOk result (Adds (IsHeadOfSome search.now.relations.now search.now.conditions.now search.now.head.now (atoms_of steps.now)
-        values.now) answers.old answers.new) }
+    ensures { IfOk result (Adds (IsHeadOfSome search.now.relations.now search.now.conditions.now search.now.head.now
+        (atoms_of steps.now) values.now) answers.old answers.new) }
 {
     let tests = search.conditions.tests();
     if !passes(values, tests) {
@@ -144,8 +144,8 @@ fn add_found<'a>(
 ) -> Result<bool, NoMemory>
     requires { FitKept search.now.relations.now search.now.conditions.now steps.now values.now }
     ensures { IfOk result (λ full. head_at values.now search.now.head.now ≡ Some answer
-        → Adds (IsHeadOfSome search.now.relations.now search.now.conditions.now search.now.head.now (atoms_of steps.now) values.now)
-        answers.old answers.new full) }
+        → Adds (IsHeadOfSome search.now.relations.now search.now.conditions.now search.now.head.now
+        (atoms_of steps.now) values.now) answers.old answers.new full) }
 {
     if is_known(steps, answers, &answer) {
         return Ok(false);
@@ -200,8 +200,8 @@ pub(crate) fn join_atom<'a>(
     ent: EntId,
     values: &Binding<'a>,
 ) -> Result<Option<Binding<'a>>, NoMemory>
-    ensures { IfOk result (λ next. next ≡ joined_at search.now.conditions.now.equalities search.now.relations.now atom.now values.now
-        ent) }
+    ensures { IfOk result (λ next. next ≡ joined_at search.now.conditions.now.equalities search.now.relations.now
+        atom.now values.now ent) }
 {
     let Some(mut next) = fit_atom(alloc, search.relations, atom, ent, values)? else {
         return Ok(None);

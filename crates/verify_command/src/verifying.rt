@@ -41,7 +41,8 @@ fn verify_documents<S: Shelf>(
 pub fn verified<S: Shelf>(alloc: Global, shelf: &mut S, asked: Verify<'_>) -> Result<Done, Trouble>
     ensures later { S.faults shelf.old ≤ S.faults shelf.new }
     ensures due { IsDetermined result → IfSome (S.texts shelf.old) (λ told. IsVerifyDue told (verify_said asked.entry) result) }
-    ensures printed { IfOk result (λ done. IfSome (S.texts shelf.old) (λ told. IsVerifyPrinted told (verify_said asked.entry) done)) }
+    ensures printed { IfOk result (λ done. IfSome (S.texts shelf.old)
+        (λ told. IsVerifyPrinted told (verify_said asked.entry) done)) }
     ensures read_fault { IsReadFault result → Rose (S.faults shelf.old) (S.faults shelf.new) }
     ensures unread { (n : List ℕ) → IsReadFaultOf result n
         → IfSome (S.texts shelf.old) (λ told. IsVerifyDocumentDue told (verify_said asked.entry) n) }

@@ -117,6 +117,7 @@ collect_at-collect-requires t c =
     let instance = c.args.search.now.relations.now in
     let conditions = c.args.search.now.conditions.now in
     let count = c.decreases in
-    (omega (arith, count), kept_on instance conditions c.args.step.now c.args.rest.now c.args.values.now c.in-Some.next c.args.ent c.requires
+    (omega (arith, count), kept_on instance conditions c.args.step.now c.args.rest.now c.args.values.now c.in-Some.next
+    c.args.ent c.requires
     (subst (λ (a : Atom). Some c.in-Some.next ≡ joined_at conditions.equalities instance a c.args.values.now c.args.ent)
     c.atom.ensures (sym c.in-Some.is ∙ c.in_ok-next.ensures)))

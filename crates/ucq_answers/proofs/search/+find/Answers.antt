@@ -14,8 +14,8 @@ use Rattle.ucq_answers.proofs.Searching.{fails_all, never_any, unfit_none, unfou
 use Rattle.ucq_answers.proofs.search.+find.Goals as goal
 
 pub find-returns-then-not-passes : goal.find-returns-then-not-passes
-find-returns-then-not-passes t c = λ d is. fails_all c.args.search.now.relations.now c.args.search.now.conditions.now c.tests-tests.result.now
-    (atoms_of c.args.steps.now) c.args.values.now d c.tests-tests.ensures c.if-not-passes.ensures is
+find-returns-then-not-passes t c = λ d is.
+    fails_all c.args.search.now.relations.now c.args.search.now.conditions.now c.tests-tests.result.now (atoms_of c.args.steps.now) c.args.values.now d c.tests-tests.ensures c.if-not-passes.ensures is
 
 pub find-find_at-requires : goal.find-find_at-requires
 find-find_at-requires t c =
@@ -51,7 +51,8 @@ find_at-find-requires t c =
     let instance = c.args.search.now.relations.now in
     let conditions = c.args.search.now.conditions.now in
     let count = c.decreases in
-    (omega (arith, count), kept_on instance conditions c.args.step.now c.args.rest.now c.args.values.now c.in-Some.next c.args.ent c.requires
+    (omega (arith, count), kept_on instance conditions c.args.step.now c.args.rest.now c.args.values.now c.in-Some.next
+    c.args.ent c.requires
     (subst (λ (a : Atom). Some c.in-Some.next ≡ joined_at conditions.equalities instance a c.args.values.now c.args.ent)
     c.atom.ensures (sym c.in-Some.is ∙ c.in_ok-next.ensures)))
 
