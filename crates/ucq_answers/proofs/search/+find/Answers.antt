@@ -15,7 +15,8 @@ use Rattle.ucq_answers.proofs.search.+find.Goals as goal
 
 pub find-returns-then-not-passes : goal.find-returns-then-not-passes
 find-returns-then-not-passes t c = λ d is.
-    fails_all c.args.search.now.relations.now c.args.search.now.conditions.now c.tests-tests.result.now (atoms_of c.args.steps.now) c.args.values.now d c.tests-tests.ensures c.if-not-passes.ensures is
+    fails_all c.args.search.now.relations.now c.args.search.now.conditions.now c.tests-tests.result.now
+    (atoms_of c.args.steps.now) c.args.values.now d c.tests-tests.ensures c.if-not-passes.ensures is
 
 pub find-find_at-requires : goal.find-find_at-requires
 find-find_at-requires t c =

@@ -1,0 +1,4 @@
+mod Keeping
+mod Linking
+mod Marking
+mod Telling
