@@ -1,27 +1,27 @@
 -- Tuples that are not kept take part in no solution.
-use Rattle.std.proofs.Common.{◌≡◌, ◌<◌, ◌≤◌, ◌+◌, ◌*◌, ◌⊎◌, inl, inr, ℕ, zero, suc, Bool, true, false, List, [], ◌∷◌, ◌++◌, map, length, get_or, Option, None, Some, IfSome, slice_get, take, refl, sym, ap, subst, ◌∙◌, arith}
+use Rattle.std.proofs.Common.{◌≡◌, ◌<◌, ◌≤◌, ◌+◌, ◌*◌, ◌⊎◌, inl, inr, ℕ, zero, suc, Bool, true, false, List, [], ◌∷◌, ◌++◌, length, get_or, Option, None, Some, IfSome, slice_get, take, refl, sym, ap, subst, ◌∙◌, arith}
 use Rattle.std.specs.Bool.{OnTrue}
 use Rattle.std.specs.List.{All, AllZip, Contains}
 use Rattle.std.proofs.lemmas.Bool.{false≢true}
 use Rattle.std.proofs.lemmas.List.{length-map, map-append, take_more}
 use Rattle.std.proofs.lemmas.List.Elements.{All-contains, All-push, Contains-get_or}
-use Rattle.std.proofs.lemmas.Option.{none-some, option_and_then_some}
+use Rattle.std.proofs.lemmas.Option.{option_and_then_some}
 use Rattle.currency_base.specs.declared.ids.EntId.{EntId}
 use Rattle.currency_base.specs.declared.value.Value.{Value}
-use Rattle.query_model.specs.Answers.{AtomHolds, FitsTuple, Meets, TestHolds}
+use Rattle.query_model.specs.Answers.{AtomHolds, FitsTuple, Meets}
 use Rattle.query_model.specs.declared.query.Atom.{Atom}
 use Rattle.query_model.specs.declared.query.Disjunct.{Disjunct}
 use Rattle.query_model.specs.declared.query.Test.{Test}
 use Rattle.query_plan.specs.Plans.{AreSameAtoms, Conditioned}
-use Rattle.semi_joins.specs.Kept.{AreKept, IsMatched, KeepsAll, is_kept}
+use Rattle.semi_joins.specs.Kept.{AreKept, IsMatched, KeepsAll}
 use Rattle.ucq_answers.specs.Found.{Adds, Bounded, IsAnswerBy, IsHeadAt, NoneAt}
-use Rattle.ucq_answers.specs.Kept.{FitKept, FitsKept, IsPreparedFor, KeptAtom, Prepared, atoms_of, disjuncts_of, keeps, zip_kept}
+use Rattle.ucq_answers.specs.Kept.{FitKept, IsPreparedFor, KeptAtom, Prepared, atoms_of, disjuncts_of, keeps, zip_kept}
 use Rattle.ucq_answers.specs.Partly.{AreFitted, IsSolution, join, joined_at, tuples_of, values_of}
 use Rattle.ucq_answers.specs.Seen.{IsSeen}
 use Rattle.ucq_answers.proofs.Among.{from_contains}
 use Rattle.ucq_answers.proofs.Collecting.{adds_none}
 use Rattle.ucq_answers.proofs.GoingOn.{Extends, Fitted, all_on}
-use Rattle.ucq_answers.proofs.Meaning.{IsSearched, fitted_tuple, full, solution_met}
+use Rattle.ucq_answers.proofs.Meaning.{IsSearched, fitted_tuple, solution_met}
 use Rattle.ucq_answers.proofs.Searching.{reached_extends, solved_more}
 use Rattle.ucq_answers.proofs.Spreading.{all_joined}
 use Rattle.ucq_answers.proofs.Union.{NoAnswerBy}

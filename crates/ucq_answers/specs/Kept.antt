@@ -1,5 +1,5 @@
 -- Atoms that are searched, and which tuples of their relations can take part in a match.
-use Rattle.std.specs.Prelude.{◌≡◌, ℕ, Bool, true, List, [], ◌∷◌, All, Contains, Option, None, Some, IfSome, map, slice_get}
+use Rattle.std.specs.Prelude.{◌≡◌, ℕ, Bool, true, List, [], ◌∷◌, Contains, Option, None, Some, IfSome, map, slice_get}
 use Rattle.std.specs.Bool.{OnTrue}
 use Rattle.currency_base.specs.declared.value.Value.{Value}
 use Rattle.query_model.specs.Answers.{Meets}

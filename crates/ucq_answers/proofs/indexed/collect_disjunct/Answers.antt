@@ -1,4 +1,4 @@
-use Rattle.std.proofs.Common.{◌≡◌, ◌∙◌, List, None, Option, ap, length, replicate, subst, sym}
+use Rattle.std.proofs.Common.{◌∙◌, List, None, ap, length, replicate, subst, sym}
 use Rattle.query_model.specs.declared.query.Disjunct.{Disjunct}
 use Rattle.query_plan.specs.Plans.{AreSameAtoms}
 use Rattle.ucq_answers.specs.Found.{IsAnswerBy}

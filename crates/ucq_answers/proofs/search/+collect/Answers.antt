@@ -102,10 +102,10 @@ collect-collect_at-requires t c =
     let falls = fewer c.args.steps.now c.in-Some-next_step.rest.now c.in-Some-next_step.step.now
     c.in-Some-next_step.ensures.some in
     let count = c.decreases in (
-  omega (arith, falls, count),
-  subst (λ (l : List KeptAtom). FitKept c.args.search.now.relations.now c.args.search.now.conditions.now l c.args.values.now)
-      c.in-Some-next_step.ensures.some c.requires,
-)
+      omega (arith, falls, count),
+      subst (λ (l : List KeptAtom). FitKept c.args.search.now.relations.now c.args.search.now.conditions.now l c.args.values.now)
+          c.in-Some-next_step.ensures.some c.requires,
+    )
 
 pub collect_at-returns-then-not-keeps : goal.collect_at-returns-then-not-keeps
 collect_at-returns-then-not-keeps t c = adds_unkept c.args.search.now.relations.now c.args.search.now.conditions.now
@@ -116,8 +116,10 @@ pub collect_at-collect-requires : goal.collect_at-collect-requires
 collect_at-collect-requires t c =
     let instance = c.args.search.now.relations.now in
     let conditions = c.args.search.now.conditions.now in
-    let count = c.decreases in
-    (omega (arith, count), kept_on instance conditions c.args.step.now c.args.rest.now c.args.values.now c.in-Some.next
-    c.args.ent c.requires
-    (subst (λ (a : Atom). Some c.in-Some.next ≡ joined_at conditions.equalities instance a c.args.values.now c.args.ent)
-    c.atom.ensures (sym c.in-Some.is ∙ c.in_ok-next.ensures)))
+    let count = c.decreases in (
+      omega (arith, count),
+      kept_on instance conditions c.args.step.now c.args.rest.now c.args.values.now c.in-Some.next
+          c.args.ent c.requires
+          (subst (λ (a : Atom). Some c.in-Some.next ≡ joined_at conditions.equalities instance a c.args.values.now c.args.ent)
+          c.atom.ensures (sym c.in-Some.is ∙ c.in_ok-next.ensures)),
+    )

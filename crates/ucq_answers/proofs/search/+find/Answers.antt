@@ -1,4 +1,4 @@
-use Rattle.std.proofs.Common.{◌≡◌, ◌+◌, ◌∙◌, arith, List, Some, get_or, subst, sym, take}
+use Rattle.std.proofs.Common.{◌≡◌, ◌∙◌, arith, List, Some, get_or, subst, sym, take}
 use Rattle.std.specs.List.{All}
 use Rattle.std.proofs.lemmas.List.{take_all, take_more}
 use Rattle.std.proofs.lemmas.List.Elements.{All-push}
@@ -10,7 +10,7 @@ use Rattle.ucq_answers.specs.Kept.{FitKept, KeptAtom, atoms_of}
 use Rattle.ucq_answers.specs.Lookups.{AreCandidates}
 use Rattle.ucq_answers.specs.Partly.{IsSolution, joined_at, tuples_of}
 use Rattle.ucq_answers.proofs.Keeping.{fewer, kept_on, unkept_none}
-use Rattle.ucq_answers.proofs.Searching.{fails_all, never_any, unfit_none, unfound_none}
+use Rattle.ucq_answers.proofs.Searching.{fails_all, never_any}
 use Rattle.ucq_answers.proofs.search.+find.Goals as goal
 
 pub find-returns-then-not-passes : goal.find-returns-then-not-passes
@@ -22,10 +22,10 @@ pub find-find_at-requires : goal.find-find_at-requires
 find-find_at-requires t c =
     let falls = fewer c.args.steps.now c.in-Some.rest.now c.in-Some.step.now c.in-Some.ensures.some in
     let count = c.decreases in (
-  omega (arith, falls, count),
-  subst (λ (l : List KeptAtom). FitKept c.args.search.now.relations.now c.args.search.now.conditions.now l c.args.values.now)
-      c.in-Some.ensures.some c.requires,
-)
+      omega (arith, falls, count),
+      subst (λ (l : List KeptAtom). FitKept c.args.search.now.relations.now c.args.search.now.conditions.now l c.args.values.now)
+          c.in-Some.ensures.some c.requires,
+    )
 
 pub find-returns : goal.find-returns
 find-returns t c = λ d is.
@@ -51,11 +51,13 @@ pub find_at-find-requires : goal.find_at-find-requires
 find_at-find-requires t c =
     let instance = c.args.search.now.relations.now in
     let conditions = c.args.search.now.conditions.now in
-    let count = c.decreases in
-    (omega (arith, count), kept_on instance conditions c.args.step.now c.args.rest.now c.args.values.now c.in-Some.next
-    c.args.ent c.requires
-    (subst (λ (a : Atom). Some c.in-Some.next ≡ joined_at conditions.equalities instance a c.args.values.now c.args.ent)
-    c.atom.ensures (sym c.in-Some.is ∙ c.in_ok-next.ensures)))
+    let count = c.decreases in (
+      omega (arith, count),
+      kept_on instance conditions c.args.step.now c.args.rest.now c.args.values.now c.in-Some.next
+          c.args.ent c.requires
+          (subst (λ (a : Atom). Some c.in-Some.next ≡ joined_at conditions.equalities instance a c.args.values.now c.args.ent)
+          c.atom.ensures (sym c.in-Some.is ∙ c.in_ok-next.ensures)),
+    )
 
 pub find-loop-ent-preserved : goal.find-loop-ent-preserved
 find-loop-ent-preserved t c =
