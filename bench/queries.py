@@ -3,8 +3,9 @@
 
 Each row is an entity of its own, so that the current values are known, but in the last family. The families: two atoms joined by an equality, alone,
 with an order of their entities and with comparisons that contradict each other; a chain of three and one of eight atoms over a relation
-of a hundred values in each column, whose last atom tells ten answers; eight atoms over eight relations with no answer; a
-cycle of three atoms; and pairs of entities of rows of which nothing is known. SQLite (Python's module) has the same rows in
+of a hundred values in each column, whose last atom tells ten answers; eight atoms over eight relations with no answer, where a row has
+one partner in the next relation, and where it has four; the entities of the first of eight relations from which a chain goes to the last;
+a cycle of three atoms; and pairs of entities of rows of which nothing is known. SQLite (Python's module) has the same rows in
 memory, reads them from the same tables, and counts the distinct answers with an index on each column that is joined. Runs
 the program as built; prints for each family and N the seconds of both, their ratio, and the power at which the program's
 time grows from one N to the next. A query of SQLite is stopped after a minute. Where a case is above a mark, this is said
@@ -70,6 +71,16 @@ def sparse(seed):
     return records
 
 
+def partnered(seed, partners=4):
+    """Records of two columns of which each value stands in so many rows; asked as those of `sparse`."""
+
+    def records(rows):
+        chosen = random.Random(seed)
+        return [(chosen.randrange(rows // partners), chosen.randrange(rows // partners)) for _ in range(rows)]
+
+    return records
+
+
 def doubled(rows):
     """Rows of which two are of one entity each, and have values that others have."""
     return [(row // 2 % (rows // 4), row % 2) for row in range(rows)]
@@ -84,6 +95,15 @@ CHAIN_SQL = (
     + ", T where "
     + " and ".join(f"r{place}.b = r{place + 1}.a" for place in range(WIDE - 2))
     + f" and r{WIDE - 2}.b = T.a)"
+)
+EACH = [f"R{place}(a)" for place in range(WIDE)]
+NO_END = "answers () where " + " and ".join(f"R{place}(_, x{place}, x{place + 1})" for place in range(WIDE)) + f" and x{WIDE} < 0"
+NO_END_SQL = (
+    "select exists(select 1 from "
+    + ", ".join(f"R{place}" for place in range(WIDE))
+    + " where "
+    + " and ".join(f"R{place}.b = R{place + 1}.a" for place in range(WIDE - 1))
+    + f" and R{WIDE - 1}.b < 0)"
 )
 FAMILIES = {
     "joined": Family(PAIR, "answers (e, f) where R(e, x, _) and S(f, y, _) and x = y", JOINED.format(""), ["R(x)", "S(y)"]),
@@ -105,15 +125,18 @@ FAMILIES = {
     "chain of eight": Family(
         [("R", "ab", valued(1)), ("T", "ab", valued(2, ANSWERS))], f"answers (z) where {CHAIN}", CHAIN_SQL, ["R(a)", "R(b)", "T(a)"]
     ),
-    "eight relations, no answer": Family(
+    "eight relations, no answer": Family([(f"R{place}", "ab", sparse(place)) for place in range(WIDE)], NO_END, NO_END_SQL, EACH),
+    "eight relations, four partners, no answer": Family(
+        [(f"R{place}", "ab", partnered(place)) for place in range(WIDE)], NO_END, NO_END_SQL, EACH
+    ),
+    "entities through eight relations": Family(
         [(f"R{place}", "ab", sparse(place)) for place in range(WIDE)],
-        "answers () where " + " and ".join(f"R{place}(_, x{place}, x{place + 1})" for place in range(WIDE)) + f" and x{WIDE} < 0",
-        "select exists(select 1 from "
-        + ", ".join(f"R{place}" for place in range(WIDE))
-        + " where "
-        + " and ".join(f"R{place}.b = R{place + 1}.a" for place in range(WIDE - 1))
-        + f" and R{WIDE - 1}.b < 0)",
-        [f"R{place}(a)" for place in range(WIDE)],
+        "answers (e) where R0(e, x0, x1) and " + " and ".join(f"R{place}(_, x{place}, x{place + 1})" for place in range(1, WIDE)),
+        "select count(*) from (select distinct e from R0 where "
+        + "".join(f"b in (select a from R{place} where " for place in range(1, WIDE))
+        + "true"
+        + ")" * WIDE,
+        EACH,
     ),
     "cycle of three": Family(
         [("R", "ab", sparse(1))],
