@@ -10,6 +10,7 @@ ghost use Rattle.solver_guides.specs.Rings.{count_of};
 use currency_base::NoMemory;
 use currency_cli::run;
 use currency_edge::{FileShelf, Shelf, Sink, StdSink};
+use kept_documents::KeptShelf;
 use solver_guides::{Activity, FirstFree, Guide, Guides, KeepPhase, Seeded};
 use std::alloc::Global;
 use std::process::ExitCode;
@@ -79,12 +80,12 @@ fn guided<S: Shelf, K: Sink>(
     Ok(run_with_four(alloc, words, shelf, out, &mut guides))
 }
 
-// The same over files and standard output, of which contracts see no content.
+// The same over files, each read once, and standard output, of which contracts see no content.
 fn over_files(rt: &HostRuntime, words: &[String]) -> u8
     ensures no_command { result ≡ 2 → command_for 4 (map (λ w. string_bytes w) words.now) ≡ None }
     ensures words_refused { WordsRefused 4 (map (λ w. string_bytes w) words.now) result }
 {
-    let mut shelf = FileShelf::new(rt);
+    let mut shelf = KeptShelf::new(rt.alloc(), FileShelf::new(rt));
     let mut sink = StdSink::new(io::writer(rt));
     match guided(rt.alloc(), words, &mut shelf, &mut sink) {
         Ok(status) => status,
