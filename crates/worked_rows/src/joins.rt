@@ -143,6 +143,30 @@ answers () where R(_, a, b) and R(_, b, c) and R(_, c, d) and R(_, d, e) and R(_
 verdict answers;
 completion;
 ...
+:: tuples that have no partner in an atom beside theirs, or that do not fit alone
+-- q: answers (e, f) where R(e, x, y) and S(f, y) and R(_, w, x) and w < x;
+>> ask s q
+0 currency report 2;
+verdict answers;
+answer ("c", "k");
+answer ("c", "l");
+answer ("h", "m");
+completion;
+...
+>> verify s q p => 0 accepted answers
+-- q: answers (f) where R(_, x, x) and S(f, x) and R(_, 4, y) and y < 5;
+>> ask s q
+0 currency report 2;
+verdict answers;
+answer ("o");
+completion;
+...
+-- q: answers (f) where R(_, x, x) and S(f, x) and R(_, 4, y) and y < 4;
+>> ask s q
+0 currency report 2;
+verdict answers;
+completion;
+...
 :: a circle of three atoms
 -- q: answers (x) where R(_, x, y) and R(_, y, z) and R(_, z, x) and x != 4;
 >> ask s q
