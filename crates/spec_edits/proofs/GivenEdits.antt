@@ -8,11 +8,11 @@ use Rattle.currency_base.specs.declared.ids.RelId.{RelId}
 use Rattle.currency_base.specs.declared.ids.RowId.{RowId}
 use Rattle.currency_base.specs.declared.pair.Pair.{Pair}
 use Rattle.partial_orders.specs.Pairs.{entity_of, has_pair, pair_cmp, without_pair}
-use Rattle.spec_limits.specs.Instances.{is_one_entity}
+use Rattle.spec_limits.specs.Instances.{are_of_one_entity, is_one_entity}
 use Rattle.spec_model.specs.Facts.{AddsGiven, IsGivenPair, TakesGiven, with_given, without_given}
 use Rattle.spec_model.specs.Spec.{Spec}
 use Rattle.spec_model.specs.declared.relation.Relation.{Relation}
-use Rattle.spec_edits.specs.Edits.{IsPairOf, edited, is_of_one_entity, with_relation_at}
+use Rattle.spec_edits.specs.Edits.{IsPairOf, edited, with_relation_at}
 use Rattle.spec_edits.specs.declared.edit.Edit.TheVariants.{AddGiven, WithdrawGiven}
 use Rattle.spec_edits.specs.declared.fault.EditFault.TheVariants.{NotOneEntity, NotThere}
 use Rattle.spec_edits.proofs.Counting.{spec_is}
@@ -31,7 +31,7 @@ one_entity (Some x) None is = cc
 one_entity None b is = cc
 
 -- a pair that passes the test is a given pair
-pub given_pair : (r : Relation) (p : Pair) → IsPairOf r p → is_of_one_entity r.rows p ≡ true → IsGivenPair r p
+pub given_pair : (r : Relation) (p : Pair) → IsPairOf r p → are_of_one_entity r.rows p.earlier p.later ≡ true → IsGivenPair r p
 given_pair r p h is =
     let parts = and_parts (not (eqb p.earlier.0 p.later.0))
     (is_one_entity (entity_of r.rows p.earlier.0) (entity_of r.rows p.later.0)) is in
@@ -55,12 +55,12 @@ pub giving_is : (s t : Spec) (rel : ℕ) (p : Pair) (r : Relation) → slice_get
 giving_is s t rel p r at adds rules copies = spec_is (with_relation_at s rel (with_given r p)) t (adds r at) rules copies
 
 pub given_edit : (s t : Spec) (rel : RelId) (p : Pair) (r : Relation) → slice_get s.relations rel.0 ≡ Some r
-    → is_of_one_entity r.rows p ≡ true → t ≡ with_relation_at s rel.0 (with_given r p) → edited s (AddGiven rel p) ≡ Ok t
+    → are_of_one_entity r.rows p.earlier p.later ≡ true → t ≡ with_relation_at s rel.0 (with_given r p) → edited s (AddGiven rel p) ≡ Ok t
 unfolding edited
 given_edit s t rel p r at is new = rw (at, is) (ap Ok (sym new))
 
 pub given_refused : (s : Spec) (rel : RelId) (p : Pair) (r : Relation) → slice_get s.relations rel.0 ≡ Some r
-    → is_of_one_entity r.rows p ≡ false → edited s (AddGiven rel p) ≡ Err NotOneEntity
+    → are_of_one_entity r.rows p.earlier p.later ≡ false → edited s (AddGiven rel p) ≡ Err NotOneEntity
 unfolding edited
 given_refused s rel p r at is = rw (at, is) refl
 

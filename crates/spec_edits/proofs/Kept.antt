@@ -5,12 +5,12 @@ use Rattle.copy_functions.specs.declared.fault.CopyFault.{CopyFault}
 use Rattle.currency_base.specs.declared.ids.RowId.{RowId}
 use Rattle.currency_base.specs.declared.pair.Pair.{Pair}
 use Rattle.partial_orders.specs.Pairs.{has_pair}
-use Rattle.spec_limits.specs.Instances.{too_many_instances}
+use Rattle.spec_limits.specs.Instances.{are_of_one_entity, too_many_instances}
 use Rattle.spec_limits.specs.Limits.{exceeded}
 use Rattle.spec_model.specs.Facts.{copied_due, with_given, without_given}
 use Rattle.spec_model.specs.Spec.{Spec}
 use Rattle.spec_model.specs.declared.relation.Relation.{Relation}
-use Rattle.spec_edits.specs.Edits.{edited, first_of_limits, giving, is_mapped_to, is_of_one_entity, limited, mapping, taking, unless_above, unless_due, unmapping, with_copy_at, with_relation_at, with_rule, without_rule}
+use Rattle.spec_edits.specs.Edits.{edited, first_of_limits, giving, is_mapped_to, limited, mapping, taking, unless_above, unless_due, unmapping, with_copy_at, with_relation_at, with_rule, without_rule}
 use Rattle.spec_edits.specs.Kept.{AreSameButGiven, without_pairs}
 use Rattle.spec_edits.specs.declared.edit.Edit.{Edit}
 use Rattle.spec_edits.specs.declared.edit.Edit.TheVariants.{AddGiven, AddRule, MapCopied, UnmapCopied, WithdrawGiven, WithdrawRule}
@@ -47,7 +47,7 @@ giving_kept : (s t : Spec) (rel : ℕ) (pair : Pair) (o : Option Relation) → s
 giving_kept s t rel pair None at is = itself s t is
 giving_kept s t rel pair (Some r) at is =
     let new = with_relation_at s rel (with_given r pair) in
-    let same = passed (is_of_one_entity r.rows pair) new t NotOneEntity is in
+    let same = passed (are_of_one_entity r.rows pair.earlier pair.later) new t NotOneEntity is in
     ap (λ (u : Spec). map without_pairs u.relations) (sym same) ∙ given_aside s.relations rel r (with_given r pair).given at
 
 taking_kept : (s t : Spec) (rel : ℕ) (pair : Pair) (o : Option Relation) → slice_get s.relations rel ≡ o

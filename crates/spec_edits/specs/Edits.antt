@@ -1,19 +1,18 @@
 -- What an edit makes of a specification, and why it is refused.
-use Rattle.std.specs.Prelude.{◌≡◌, ◌⊎◌, ◌<◌, ◌≤◌, ◌&&◌, ◌==◌, ◌∷◌, ◌++◌, [], ℕ, Bool, false, not, List, length, map, Contains, Option, Some, None, Result, Ok, Err, if◌then◌else◌, slice_get, slice_set}
+use Rattle.std.specs.Prelude.{◌≡◌, ◌⊎◌, ◌<◌, ◌≤◌, ◌==◌, ◌∷◌, ◌++◌, [], ℕ, Bool, false, List, length, map, Contains, Option, Some, None, Result, Ok, Err, if◌then◌else◌, slice_get, slice_set}
 use Rattle.std.specs.List.{remove}
 use Rattle.copy_functions.specs.Copies.{CopyFunction, source_at, with_source, without_source}
 use Rattle.copy_functions.specs.declared.fault.CopyFault.{CopyFault}
 use Rattle.copy_functions.specs.declared.fault.CopyFault.TheVariants as copy_fault
 use Rattle.currency_base.specs.declared.ids.RowId.{RowId}
 use Rattle.currency_base.specs.declared.pair.Pair.{Pair}
-use Rattle.currency_base.specs.declared.row.Row.{Row}
 use Rattle.denial_rules.specs.declared.rule.Rule.{Rule}
-use Rattle.partial_orders.specs.Pairs.{entity_of, has_pair}
+use Rattle.partial_orders.specs.Pairs.{has_pair}
 use Rattle.spec_edits.specs.declared.edit.Edit.{Edit}
 use Rattle.spec_edits.specs.declared.edit.Edit.TheVariants.{AddGiven, AddRule, MapCopied, UnmapCopied, WithdrawGiven, WithdrawRule}
 use Rattle.spec_edits.specs.declared.fault.EditFault.{EditFault}
 use Rattle.spec_edits.specs.declared.fault.EditFault.TheVariants.{CopyDiffers, CopyTwice, Limit, NoMemory, NotOneEntity, NotThere}
-use Rattle.spec_limits.specs.Instances.{is_one_entity, too_many_instances}
+use Rattle.spec_limits.specs.Instances.{are_of_one_entity, too_many_instances}
 use Rattle.spec_limits.specs.Limits.{exceeded}
 use Rattle.spec_model.specs.Facts.{IsRuleOf, copied_due, rows_of, with_given, without_given}
 use Rattle.spec_model.specs.Spec.{Spec}
@@ -43,11 +42,6 @@ limited s = unless_above (first_of_limits (exceeded s) (too_many_instances s)) s
 
 -- ---- edits
 
--- two different rows of one entity
-abbrev pub is_of_one_entity : List Row → Pair → Bool
-is_of_one_entity rows p =
-    not (p.earlier.0 == p.later.0) && is_one_entity (entity_of rows p.earlier.0) (entity_of rows p.later.0)
-
 -- the specification with one more rule
 abbrev pub with_rule : Spec → Rule → Spec
 with_rule s rule = record s { rules = s.rules ++ rule ∷ [] }
@@ -68,7 +62,7 @@ with_copy_at s copy c = record s { copies = slice_set s.copies copy c }
 abbrev pub giving : Spec → ℕ → Pair → Option Relation → Result Spec EditFault
 giving s rel pair None = Ok s
 giving s rel pair (Some r) =
-    if is_of_one_entity r.rows pair then Ok (with_relation_at s rel (with_given r pair)) else Err NotOneEntity
+    if are_of_one_entity r.rows pair.earlier pair.later then Ok (with_relation_at s rel (with_given r pair)) else Err NotOneEntity
 
 -- with one given pair less, if it is there
 abbrev pub taking : Spec → ℕ → Pair → Option Relation → Result Spec EditFault

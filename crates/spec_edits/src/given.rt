@@ -3,7 +3,8 @@
 ghost use Rattle.std.specs.Prelude.{◌≡◌, ℕ, List, Ok, IfErr, IfSome, OnErr, OnOk, slice_get};
 ghost use Rattle.currency_base.specs.declared.ids.RowId.{RowId};
 ghost use Rattle.spec_edits.specs.Counted.{IsCounted};
-ghost use Rattle.spec_edits.specs.Edits.{IsDueOf, IsPairAt, IsRefused, edited, is_of_one_entity};
+ghost use Rattle.spec_edits.specs.Edits.{IsDueOf, IsPairAt, IsRefused, edited};
+ghost use Rattle.spec_limits.specs.Instances.{are_of_one_entity};
 
 use crate::{Edit, EditFault};
 use currency_base::{Pair, RelId};
@@ -49,7 +50,8 @@ pub(crate) fn withdraw_given(
 /// Are the rows of a pair two different rows of one entity of this relation?
 fn is_of_one_entity(spec: &Specification, rel: RelId, pair: &Pair) -> bool
     requires { IsPairAt spec.now.relations rel.0 pair.now }
-    ensures { IfSome (slice_get spec.now.relations rel.0) (λ r. result ≡ is_of_one_entity r.rows pair.now) }
+    ensures { IfSome (slice_get spec.now.relations rel.0) (λ r. result ≡
+        are_of_one_entity r.rows pair.now.earlier pair.now.later) }
 {
     let rows = spec.relations()[rel.0 as usize].rows.as_slice();
     are_of_one_entity(rows, pair.earlier, pair.later)

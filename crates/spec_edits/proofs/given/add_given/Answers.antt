@@ -4,7 +4,7 @@ use Rattle.spec_model.specs.Facts.{with_given}
 use Rattle.spec_model.specs.Spec.{Spec}
 use Rattle.spec_model.specs.declared.relation.Relation.{Relation}
 use Rattle.spec_edits.specs.Counted.{IsCounted}
-use Rattle.spec_edits.specs.Edits.{is_of_one_entity}
+use Rattle.spec_limits.specs.Instances.{are_of_one_entity}
 use Rattle.spec_edits.proofs.Counting.{counted_given, if_some}
 use Rattle.spec_edits.proofs.GivenEdits.{given_edit, given_refused, giving_is}
 use Rattle.spec_edits.proofs.given.add_given.Goals as goal
@@ -14,7 +14,7 @@ returns-then-not-is_of_one_entity-clause-due c =
     let s = c.args.spec.now in
     let r = c.requires.relation in
     let at = c.requires.is_relation in
-    let told = if_some (λ (q : Relation). c.is_of_one_entity.result ≡ is_of_one_entity q.rows c.args.pair)
+    let told = if_some (λ (q : Relation). c.is_of_one_entity.result ≡ are_of_one_entity q.rows c.args.pair.earlier c.args.pair.later)
     (slice_get s.relations c.args.rel.0) r at c.is_of_one_entity.ensures in
     let not : c.is_of_one_entity.result ≡ false = search rules in
     inr (given_refused s c.args.rel c.args.pair r at (sym told ∙ not))
@@ -29,7 +29,7 @@ returns-clause-ok c =
     let t = c.add_given.new.self in
     let r = c.requires.relation in
     let at = c.requires.is_relation in
-    let told = if_some (λ (q : Relation). c.is_of_one_entity.result ≡ is_of_one_entity q.rows c.args.pair)
+    let told = if_some (λ (q : Relation). c.is_of_one_entity.result ≡ are_of_one_entity q.rows c.args.pair.earlier c.args.pair.later)
     (slice_get s.relations c.args.rel.0) r at c.is_of_one_entity.ensures in
     let yes : c.is_of_one_entity.result ≡ true = search rules in
     given_edit s t c.args.rel c.args.pair r at (sym told ∙ yes)
