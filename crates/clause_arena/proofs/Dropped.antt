@@ -1,17 +1,19 @@
--- Slots whose clauses do not stay are taken off the lists.
-use Rattle.std.proofs.Common.{◌≡◌, ◌==◌, ◌⊎◌, ◌<◌, ◌≤◌, ◌+◌, ◌*◌, ◌∙◌, ℕ, Bool, true, false, not, cond, List, [], ◌∷◌, Option, Some, None, All, length, map, slice_get, slice_set, refl, sym, ap, subst, inl, inr, arith}
+-- The slots of a clause are taken off the lists.
+use Rattle.std.proofs.Common.{◌≡◌, ◌≢◌, ◌==◌, ◌⊎◌, ◌<◌, ◌≤◌, ◌+◌, ◌*◌, ◌∙◌, ℕ, Bool, true, false, not, cond, List, [], ◌∷◌, Option, Some, IfSome, None, All, length, get_or, map, slice_get, slice_set, refl, sym, ap, subst, inl, inr, arith}
 use Rattle.std.specs.List.{filter}
-use Rattle.std.proofs.lemmas.List.{length-map, length-set, set-set, set-get_or, get_or-set_same, get_or-set_other, ext_get_or}
-use Rattle.std.proofs.lemmas.Option.{get_or_from_slice_get}
-use Rattle.std.proofs.lemmas.Bool.{cases_eq}
+use Rattle.std.proofs.lemmas.List.{length-map, length-set, set-set, set-get_or, get_or-set_same, ext_get_or}
+use Rattle.std.proofs.lemmas.Option.{same_Some, slice_get-get_or}
+use Rattle.std.proofs.lemmas.Bool.{cases_eq, ne_eqb}
 use Rattle.std.proofs.lemmas.Bool.Decides.{eqb_tells}
 use Rattle.currency_base.specs.declared.lit.Lit.{Lit}
 use Rattle.watch_links.specs.Links.{IsIn, HasNoneTwice, coming_after, head_of, following, without, rest_from, list_of, lists_without}
 use Rattle.watch_links.proofs.SlotLists.{Tells, coming_in, cut_follows, in_without, not_in_without, rest_at_head, rest_at_end, rest_is, rest_without}
-use Rattle.clause_arena.specs.Arenas.{is_satisfied, place_of}
-use Rattle.clause_arena.specs.Slots.{AreSlots, IsLinked, IsSide, clause_of, stays}
+use Rattle.watch_links.proofs.ListsChanged.{changed_or_same}
+use Rattle.clause_arena.specs.Arenas.{Arena, place_of}
+use Rattle.clause_arena.specs.Slots.{AreSlots, IsLinked, IsSide, clause_of, is_of_other}
+use Rattle.clause_arena.proofs.Changed.{all_at}
 use Rattle.clause_arena.proofs.Halves.{list_map, in_filter, stays_in_filter}
-use Rattle.clause_arena.proofs.Sides.{half, side_of}
+use Rattle.clause_arena.proofs.Sides.{arena_of, first_or_second, half, same_lits, seen_clauses, side_of}
 
 -- the lists without the slots of clauses that fail a test
 module _ (clauses : List (List Lit)) (slots : ℕ) (lists : List (List ℕ)) (are : AreSlots clauses slots lists) (p : ℕ → Bool) where
@@ -228,47 +230,124 @@ drop_ends p before at owner now was d is =
     all y (inl i) = let none : ⊥ = subst (IsIn y) rest i in absurd none
     all y (inr h) = h
 
--- the lists of owners below a number have been filtered, the others are as they were
-pub record AreFiltered (p : ℕ → Bool) (below : ℕ) (now was : List (List ℕ)) : Type 0 where
-  pub filtered : (k : ℕ) → k < below → list_of now k ≡ filter p (list_of was k)
-  pub still : (k : ℕ) → below ≤ k → list_of now k ≡ list_of was k
-  pub owners : length now ≡ length was
+-- ---- both lists of a clause
 
-pub filtered_none : (p : ℕ → Bool) (lists : List (List ℕ)) → AreFiltered p 0 lists lists
-filtered_none p lists = record { filtered = λ k h. absurd (omega (arith, h)); still = λ k h. refl; owners = refl }
+-- what passes twice is what passes
+filter_twice : (p : ℕ → Bool) (xs : List ℕ) → filter p (filter p xs) ≡ filter p xs
+filter_twice p xs = filter_all p (filter p xs) (λ y i. (in_filter p y xs i).1)
 
-pub filtered_more : (p : ℕ → Bool) (below : ℕ) (now next was : List (List ℕ)) → AreFiltered p below now was → below < length was
-    → next ≡ slice_set now below (filter p (list_of now below)) → AreFiltered p (below + 1) next was
-filtered_more p below now next was d within is =
+module _ (clauses : List (List Lit)) (slots : ℕ) (lists : List (List ℕ)) (are : AreSlots clauses slots lists)
+    (clause : ℕ) (lits : List Lit) (first second : Lit) (is_clause : slice_get clauses clause ≡ Some lits)
+    (is_first : slice_get lits 0 ≡ Some first) (is_second : slice_get lits 1 ≡ Some second) where
+  -- a slot of the clause stands in no list but those of its first two literals
+  passes : (owner slot : ℕ) → (owner ≡ place_of first → ⊥) → (owner ≡ place_of second → ⊥) → IsIn slot (list_of lists owner)
+      → is_of_other clause slot ≡ true
+  passes owner slot not_first not_second i = go (cases_eq (clause_of slot) clause)
+    where
+      s : IsSide clauses lists owner slot
+      s = are.sides owner slot i
+
+      at : (side : ℕ) → clause_of slot ≡ clause → s.side ≡ side → slice_get lits side ≡ Some s.lit
+      at side e is =
+          let same : s.clause ≡ clause = sym (half s.clause s.side s.first_or_second) ∙ ap clause_of (sym s.is_slot) ∙ e in
+          let here : s.linked.lits ≡ lits = same_lits clauses s.clause clause s.linked.lits lits s.linked.is_clause is_clause same in
+          ap (slice_get lits) (sym is) ∙ ap (λ (ls : List Lit). slice_get ls s.side) (sym here) ∙ s.is_lit
+
+      none : clause_of slot ≡ clause → (s.side ≡ 0) ⊎ (s.side ≡ 1) → ⊥
+      none e (inl is) = not_first (s.is_owner ∙ ap place_of (same_Some s.lit first (sym (at 0 e is) ∙ is_first)))
+      none e (inr is) = not_second (s.is_owner ∙ ap place_of (same_Some s.lit second (sym (at 1 e is) ∙ is_second)))
+
+      go : (clause_of slot ≡ clause) ⊎ (clause_of slot ≢ clause) → is_of_other clause slot ≡ true
+      go (inl e) = absurd (none e (first_or_second s.side s.first_or_second))
+      go (inr d) = ap not (ne_eqb (clause_of slot) clause d)
+
+  -- so where both lists are without its slots, all are
+  pub both_filtered : (one two : List (List ℕ)) → place_of first < length lists → place_of second < length lists
+      → one ≡ slice_set lists (place_of first) (filter (is_of_other clause) (list_of lists (place_of first)))
+      → two ≡ slice_set one (place_of second) (filter (is_of_other clause) (list_of one (place_of second)))
+      → two ≡ map (filter (is_of_other clause)) lists
+  both_filtered one two first_within second_within is_one is_two =
+      ext_get_or [] two (map (filter (is_of_other clause)) lists)
+      (ap length is_two ∙ length-set one (place_of second) (filter (is_of_other clause) (list_of one (place_of second)))
+      ∙ as_many ∙ sym (length-map lists (filter (is_of_other clause))))
+      (λ k h. at k (changed_or_same one (place_of second) k (filter (is_of_other clause) (list_of one (place_of second)))
+      (omega (arith, second_within, as_many)))
+      ∙ sym (list_map (filter (is_of_other clause)) refl lists k))
+    where
+      as_many : length one ≡ length lists
+      as_many = ap length is_one ∙ length-set lists (place_of first) (filter (is_of_other clause) (list_of lists (place_of first)))
+
+      -- in one of them
+      once : (k : ℕ) → ((k ≡ place_of first) × (list_of one k ≡ filter (is_of_other clause) (list_of lists k)))
+          ⊎ ((k ≡ place_of first → ⊥) × (list_of one k ≡ list_of lists k))
+      once k =
+          elim (changed_or_same lists (place_of first) k (filter (is_of_other clause) (list_of lists (place_of first))) first_within) [
+            | inl h ↦ inl (
+              h.0,
+              ap (λ (ls : List (List ℕ)). list_of ls k) is_one ∙ h.1
+                  ∙ ap (λ (i : ℕ). filter (is_of_other clause) (list_of lists i)) (sym h.0),
+            )
+            | inr h ↦ inr (h.0, ap (λ (ls : List (List ℕ)). list_of ls k) is_one ∙ h.1)
+          ]
+
+      again : (k : ℕ) → filter (is_of_other clause) (list_of one k) ≡ filter (is_of_other clause) (list_of lists k)
+      again k =
+          elim (once k) [
+            | inl h ↦ ap (filter (is_of_other clause)) h.1 ∙ filter_twice (is_of_other clause) (list_of lists k)
+            | inr h ↦ ap (filter (is_of_other clause)) h.1
+          ]
+
+      other : (k : ℕ) → (k ≡ place_of second → ⊥) → list_of one k ≡ filter (is_of_other clause) (list_of lists k)
+      other k differs =
+          elim (once k) [
+            | inl h ↦ h.1
+            | inr h ↦ h.1 ∙ sym (filter_all (is_of_other clause) (list_of lists k) (λ y i. passes k y h.0 differs i))
+          ]
+
+      at : (k : ℕ) → ((k ≡ place_of second) × (list_of (slice_set one (place_of second)
+          (filter (is_of_other clause) (list_of one (place_of second)))) k
+          ≡ filter (is_of_other clause) (list_of one (place_of second))))
+          ⊎ ((k ≡ place_of second → ⊥) × (list_of (slice_set one (place_of second)
+          (filter (is_of_other clause) (list_of one (place_of second)))) k ≡ list_of one k))
+          → list_of two k ≡ filter (is_of_other clause) (list_of lists k)
+      at k (inl h) = ap (λ (ls : List (List ℕ)). list_of ls k) is_two ∙ h.1
+          ∙ ap (λ (i : ℕ). filter (is_of_other clause) (list_of one i)) (sym h.0) ∙ again k
+      at k (inr h) = ap (λ (ls : List (List ℕ)). list_of ls k) is_two ∙ h.1 ∙ other k h.0
+
+-- the two literals that a clause of two or more watches, if it is watched
+pub record HasTwo (lists : List (List ℕ)) (lits : List Lit) (first second : Lit) : Type 0 where
+  pub is_first : slice_get lits 0 ≡ Some first
+  pub is_second : slice_get lits 1 ≡ Some second
+  pub first_within : place_of first < length lists
+  pub second_within : place_of second < length lists
+
+-- what a caller says of the clause is enough
+pub has_two : (clauses : List (List Lit)) (slots : ℕ) (lists : List (List ℕ)) (clauses_left lits_left : ℕ) (a : Arena)
+    (clause : ℕ) (lits : List Lit) (some : Lit)
+    → AreSlots clauses slots lists → arena_of clauses lists clauses_left lits_left ≡ a → slice_get clauses clause ≡ Some lits
+    → IfSome (slice_get a.clauses clause) (λ (ls : List Lit). 2 ≤ length ls)
+    → HasTwo lists lits (get_or lits 0 some) (get_or lits 1 some)
+has_two clauses slots lists clauses_left lits_left a clause lits some are view is long =
     record {
-      filtered = λ k h. filtered k h (cases_eq k below);
-      still = λ k h. other k (λ e. absurd (omega (arith, e, h))) ∙ d.still k (omega (arith, h));
-      owners = ap length is ∙ length-set now below (filter p (list_of now below)) ∙ d.owners;
+      is_first = is_first;
+      is_second = is_second;
+      first_within = all_at (λ (l : Lit). place_of l < length lists) lits 0 (get_or lits 0 some) within is_first;
+      second_within = all_at (λ (l : Lit). place_of l < length lists) lits 1 (get_or lits 1 some) within is_second;
     }
   where
-    other : (k : ℕ) → (k ≡ below → ⊥) → list_of next k ≡ list_of now k
-    other k differs = ap (λ (ls : List (List ℕ)). list_of ls k) is ∙ get_or-set_other now below k
-        (filter p (list_of now below)) [] differs
+    there : slice_get a.clauses clause ≡ Some lits
+    there =
+        ap (λ (ls : List (List Lit)). slice_get ls clause)
+        (sym (seen_clauses clauses slots lists are clauses_left lits_left a view)) ∙ is
 
-    filtered : (k : ℕ) → k < below + 1 → (k ≡ below) ⊎ (k ≡ below → ⊥) → list_of next k ≡ filter p (list_of was k)
-    filtered k h (inl e) =
-        let here : list_of next below ≡ filter p (list_of now below) =
-        ap (λ (ls : List (List ℕ)). list_of ls below) is ∙ get_or-set_same now below (filter p (list_of now below))
-        [] (omega (arith, within, d.owners)) in
-        ap (list_of next) e ∙ here ∙ ap (filter p) (d.still below (omega arith))
-        ∙ ap (λ (i : ℕ). filter p (list_of was i)) (sym e)
-    filtered k h (inr differs) = other k differs ∙ d.filtered k (omega (arith, h, differs))
+    two : 2 ≤ length lits
+    two = subst (λ (o : Option (List Lit)). IfSome o (λ (ls : List Lit). 2 ≤ length ls)) there long
 
-pub filtered_all : (p : ℕ → Bool) (below : ℕ) (now was : List (List ℕ)) → AreFiltered p below now was
-    → length was ≤ below → now ≡ map (filter p) was
-filtered_all p below now was d all =
-    ext_get_or [] now (map (filter p) was) (d.owners ∙ sym (length-map was (filter p)))
-    (λ k h. d.filtered k (omega (arith, h, d.owners, all)) ∙ sym (list_map (filter p) refl was k))
+    is_first : slice_get lits 0 ≡ Some (get_or lits 0 some)
+    is_first = slice_get-get_or lits 0 some (omega (arith, two))
 
--- whether the clause of a slot stays
-pub stays_is : (truths : List Bool) (clauses : List (List Lit)) (slot : ℕ) (lits : List Lit) (b : Bool)
-    → slice_get clauses (clause_of slot) ≡ Some lits
-    → is_satisfied truths lits ≡ b → stays truths clauses slot ≡ not b
-stays_is truths clauses slot lits b is satisfied =
-    ap (λ (ls : List Lit). not (is_satisfied truths ls)) (get_or_from_slice_get clauses (clause_of slot) lits [] is)
-    ∙ ap not satisfied
+    is_second : slice_get lits 1 ≡ Some (get_or lits 1 some)
+    is_second = slice_get-get_or lits 1 some (omega (arith, two))
+
+    within : All (λ (l : Lit). place_of l < length lists) lits
+    within = all_at (All (λ (l : Lit). place_of l < length lists)) clauses clause lits are.within is

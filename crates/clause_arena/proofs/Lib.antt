@@ -6,3 +6,4 @@ mod Sides
 mod Added
 mod Moved
 mod Dropped
+pub mod Left

@@ -34,7 +34,7 @@ same_place a b e =
 pub half : (clause side : ℕ) → side < 2 → clause_of (2 * clause + side) ≡ clause
 half clause side few = omega (arith, few)
 
-first_or_second : (side : ℕ) → side < 2 → (side ≡ 0) ⊎ (side ≡ 1)
+pub first_or_second : (side : ℕ) → side < 2 → (side ≡ 0) ⊎ (side ≡ 1)
 first_or_second zero few = inl refl
 first_or_second (suc zero) few = inr refl
 first_or_second (suc (suc side)) few = absurd (omega arith)

@@ -1,6 +1,5 @@
 -- Arenas of clauses: the clauses, and for each literal the clauses that watch it.
-use Rattle.std.specs.Prelude.{◌≡◌, ◌⊎◌, ◌<◌, ◌+◌, ◌*◌, ℕ, Bool, false, not, if◌then◌else◌, List, [], ◌∷◌, All, Some, length, slice_get, slice_set, slice_index_or}
-use Rattle.std.specs.List.{list_any}
+use Rattle.std.specs.Prelude.{◌≡◌, ◌==◌, ◌⊎◌, ◌<◌, ◌+◌, ◌*◌, ℕ, Bool, not, if◌then◌else◌, List, ◌∷◌, All, Some, length, slice_get, slice_set}
 use Rattle.currency_base.specs.Lists.{OnlyOnce}
 use Rattle.currency_base.specs.Literals.{var_of, is_negative}
 use Rattle.currency_base.specs.declared.lit.Lit.{Lit}
@@ -55,13 +54,9 @@ pub record MovesWatch (old new : Arena) (clause from to : ℕ) : Type 0 where
   pub clauses : new.clauses ≡ slice_set old.clauses clause (slice_set (slice_set lits from taken) to left)
   pub watchers : new.watchers ≡ lists_with (lists_without old.watchers (place_of left) clause) (place_of taken) clause
 
--- one of these literals is true, by the truth of each literal's place
-abbrev pub is_satisfied : List Bool → List Lit → Bool
-is_satisfied truths lits = list_any (λ lit. slice_index_or truths (place_of lit) false) lits
-
--- the clause of that number has no true literal
-abbrev pub is_left : List Bool → List (List Lit) → ℕ → Bool
-is_left truths clauses clause = not (is_satisfied truths (slice_index_or clauses clause []))
+-- the number is not that of this clause
+abbrev pub is_other : ℕ → ℕ → Bool
+is_other clause number = not (number == clause)
 
 -- what is true of an arena at any moment: a clause stands once among the watchers of a literal, and watches the first two of
 -- its literals, both or none

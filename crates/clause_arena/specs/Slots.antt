@@ -3,7 +3,7 @@ use Rattle.std.specs.Prelude.{◌≡◌, ◌⊎◌, ◌<◌, ◌≤◌, ◌+◌,
 use Rattle.currency_base.specs.Lists.{OnlyOnce}
 use Rattle.currency_base.specs.declared.lit.Lit.{Lit}
 use Rattle.watch_links.specs.Links.{IsIn, Links, list_of, lists_with}
-use Rattle.clause_arena.specs.Arenas.{is_left, place_of}
+use Rattle.clause_arena.specs.Arenas.{is_other, place_of}
 
 -- the clauses, and for how many more clauses and literals there is room
 pub record Clauses : Type 0 where
@@ -67,6 +67,6 @@ abbrev pub linking : List (List ℕ) → List Lit → ℕ → List (List ℕ)
 linking lists (first ∷ second ∷ rest) slot = lists_with (lists_with lists (place_of first) slot) (place_of second) (slot + 1)
 linking lists lits slot = lists
 
--- the clause of the slot has no true literal
-abbrev pub stays : List Bool → List (List Lit) → ℕ → Bool
-stays truths clauses slot = is_left truths clauses (clause_of slot)
+-- the slot is one of another clause
+abbrev pub is_of_other : ℕ → ℕ → Bool
+is_of_other clause slot = is_other clause (clause_of slot)

@@ -3,11 +3,11 @@ ghost use Rattle.std.specs.List.{filter};
 ghost use Rattle.currency_base.specs.Lists.{OnlyOnce};
 ghost use Rattle.currency_base.specs.declared.lit.Lit.{Lit};
 ghost use Rattle.watch_links.specs.Links.{IsIn, coming_after, head_of, following};
-ghost use Rattle.clause_arena.specs.Arenas.{AreWatchers, AreWithin, IsWatched, MovesWatch, is_left, watchers_of, watching};
+ghost use Rattle.clause_arena.specs.Arenas.{AreWatchers, AreWithin, IsWatched, MovesWatch, is_other, watchers_of, watching};
 
 use crate::ClauseNo;
 use crate::clause_lits::ClauseLits;
-use crate::satisfied::drop_slots;
+use crate::leaving::drop_from;
 use crate::watches::{
     clause_at, exchange, lit_of, owner_of, push_links, side_by, slot_by, slot_of,
 };
@@ -205,16 +205,21 @@ impl Arena {
         self.links.attach(slot, taken);
     }
 
-    /// Takes the clauses with a true literal off the watch lists. The truths are by the literals' places.
-    /// Takes time in proportion to the literals of all clauses, and to the variables.
-    pub fn drop_satisfied(&mut self, truths: &[bool])
-        requires { length truths.now ≡ length self.old.watchers }
+    /// Takes a clause of two literals or more off the watch lists, if it is watched; it stays among the clauses. Takes time in
+    /// proportion to the watchers of its first two literals.
+    pub fn leave(&mut self, clause: ClauseNo)
+        requires clause { clause.0 < length self.old.clauses }
+        requires long { IfSome (slice_get self.old.clauses clause.0) (λ lits. 2 ≤ length lits) }
         ensures clauses { self.new.clauses ≡ self.old.clauses }
-        ensures watchers { self.new.watchers ≡ map (filter (is_left truths.now self.old.clauses)) self.old.watchers }
+        ensures watchers { self.new.watchers ≡ map (filter (is_other clause.0)) self.old.watchers }
         ensures clauses_left { self.new.clauses_left ≡ self.old.clauses_left }
         ensures lits_left { self.new.lits_left ≡ self.old.lits_left }
     {
-        drop_slots(&mut self.links, &self.clauses, truths);
+        let lits = self.clauses.get(clause.0 as usize);
+        let first = owner_of(lits[0]);
+        let second = owner_of(lits[1]);
+        drop_from(&mut self.links, clause.0, first);
+        drop_from(&mut self.links, clause.0, second);
     }
 
     /// No work: the caller learns what is true of the watchers at any moment.

@@ -4,7 +4,7 @@
 mod arena;
 mod clause;
 mod clause_lits;
-mod satisfied;
+mod leaving;
 mod watches;
 
 pub use arena::Arena;

@@ -10,12 +10,12 @@ use Rattle.clause_arena.specs.Arenas.{Arena, AreWithin, IsWatched, place_of}
 use Rattle.search_trail.specs.Trails.{AreEntries, Entry, Trail, assumed, entries_up_to, focused, implied, lits_of, rebased, undone, with_reason}
 use Rattle.refutation_log.specs.Counted.{HasTrue, IsOpen, IsUnit}
 use Rattle.watch_propagate.specs.WatchRule.{AreGuarded, AreReordered, AreSameLits, HasAdded, HasReason, Implies, IsDueTo, IsQuiet, IsRewatched, KeepsWatch}
-use Rattle.watch_propagate.proofs.KeptLists.{contains_at, get_end, get_left, get_push}
+use Rattle.watch_propagate.proofs.KeptLists.{contains_at, get_end, get_left, get_push, same_get}
 use Rattle.watch_propagate.proofs.KeptRules.{keeps_assumed, keeps_begun, keeps_learned, keeps_quiet, keeps_rebased, keeps_undone}
 use Rattle.watch_propagate.proofs.KeptWatchers.{added_is_watched, watched_added}
 use Rattle.watch_propagate.proofs.ReasonFacts.{lits_rebased, reasons_added, reasons_assumed, reasons_dropped, reasons_implied, reasons_propagated, reasons_rebased, reasons_undone}
 use Rattle.watch_propagate.proofs.SameFacts.{clause_there, has_true_same, reordered_then}
-use Rattle.search_state.specs.Held.{AreHeld, AreWatchedOrTrue, BeginsOpen, BeginsTrue, BeginsUnit, IsAllFalse, IsRefuted}
+use Rattle.search_state.specs.Held.{AreCovered, AreHeld, BeginsOpen, BeginsTrue, BeginsUnit, HasWatched, IsAllFalse, IsRefuted}
 use Rattle.search_state.specs.Held.{ground_lits}
 use Rattle.search_state.proofs.Grounds.{ground_all, ground_assumed, ground_more, ground_undone, undone_none}
 
@@ -26,12 +26,33 @@ has_true_more truths more lits grows h = record { lit = h.lit; is_in = h.is_in; 
 
 -- the same clauses, where those that hold at level 0 hold still
 covered_more : (a : Arena) (t u : Trail) → ((x : Lit) → Contains (ground_lits t) x → Contains (ground_lits u) x)
-    → AreWatchedOrTrue a t → AreWatchedOrTrue a u
+    → AreCovered a t → AreCovered a u
 covered_more a t u grows covered clause lits is = go (covered clause lits is)
   where
-    go : IsWatched a clause ⊎ HasTrue (ground_lits t) lits → IsWatched a clause ⊎ HasTrue (ground_lits u) lits
-    go (inl w) = inl w
+    go : HasWatched a lits ⊎ HasTrue (ground_lits t) lits → HasWatched a lits ⊎ HasTrue (ground_lits u) lits
+    go (inl h) = inl h
     go (inr h) = inr (has_true_more (ground_lits t) (ground_lits u) lits grows h)
+
+-- a clause that is watched is a part of itself
+by_itself : (a : Arena) (clause : ℕ) (lits : List Lit) → slice_get a.clauses clause ≡ Some lits → IsWatched a clause
+    → HasWatched a lits
+by_itself a clause lits is w =
+    record {
+      clause = clause;
+      watched = w;
+      among = λ lit c. subst (λ (ls : List Lit). Contains ls lit) (same_get a.clauses clause w.lits lits w.is_clause is) c;
+    }
+
+-- the part is watched still, and has the literals that it had
+pub watched_still : (a b : Arena) (lits : List Lit) (h : HasWatched a lits) → IsWatched b h.clause
+    → slice_get b.clauses h.clause ≡ Some h.watched.lits → HasWatched b lits
+watched_still a b lits h w is =
+    record {
+      clause = h.clause;
+      watched = w;
+      among = λ lit c. h.among lit
+          (subst (λ (ls : List Lit). Contains ls lit) (same_get b.clauses h.clause w.lits h.watched.lits w.is_clause is) c);
+    }
 
 no_clause : (clause : ℕ) → None ≡ Some clause → ⊥
 no_clause clause e = cc
@@ -70,14 +91,24 @@ held_propagated clauses old new was is are re implies rule held =
       stuck = λ clause e. absurd (no_clause clause e);
     }
   where
-    covered : AreWatchedOrTrue new is
+    covered : AreCovered new is
     covered clause lits there = go (clause_there new.clauses old.clauses clause lits (sym re.clauses.as_many) there)
       where
-        go : (xs : List Lit) × (slice_get old.clauses clause ≡ Some xs) → IsWatched new clause ⊎ HasTrue (ground_lits is) lits
+        go : (xs : List Lit) × (slice_get old.clauses clause ≡ Some xs) → HasWatched new lits ⊎ HasTrue (ground_lits is) lits
         go (xs, before) = by ((held.goes_on refl).covered clause xs before)
           where
-            by : IsWatched old clause ⊎ HasTrue (ground_lits was) xs → IsWatched new clause ⊎ HasTrue (ground_lits is) lits
-            by (inl w) = inl (re.still clause w)
+            part : HasWatched old xs → HasWatched new lits
+            part h =
+                let w = re.still h.clause h.watched in
+                record {
+                  clause = h.clause;
+                  watched = w;
+                  among = λ lit c. (re.clauses.same clause xs lits before there).none_lost lit
+                      (h.among lit ((re.clauses.same h.clause h.watched.lits w.lits h.watched.is_clause w.is_clause).none_new lit c));
+                }
+
+            by : HasWatched old xs ⊎ HasTrue (ground_lits was) xs → HasWatched new lits ⊎ HasTrue (ground_lits is) lits
+            by (inl h) = inl (part h)
             by (inr h) =
                 inr (has_true_same (ground_lits is) xs lits (re.clauses.same clause xs lits before there)
                 (has_true_more (ground_lits was) (ground_lits is) xs
@@ -201,20 +232,27 @@ reordered_push clauses old new xs ys re same added =
 
 covered_push : (old new : Arena) (lits : List Lit) (t u : Trail) → HasAdded old new lits →
     ((x : Lit) → Contains (ground_lits t) x → Contains (ground_lits u) x)
-    → AreWatchedOrTrue old t → IsWatched new (length old.clauses) ⊎ HasTrue (ground_lits u) lits → AreWatchedOrTrue new u
+    → AreCovered old t → IsWatched new (length old.clauses) ⊎ HasTrue (ground_lits u) lits → AreCovered new u
 covered_push old new lits t u added grows covered last clause xs is =
     go (get_push old.clauses lits clause xs (ap (λ (cs : List (List Lit)). slice_get cs clause) (sym added.clauses) ∙ is))
   where
-    before : IsWatched old clause ⊎ HasTrue (ground_lits t) xs → IsWatched new clause ⊎ HasTrue (ground_lits u) xs
-    before (inl w) = inl (watched_added old new lits clause added w)
+    before : HasWatched old xs ⊎ HasTrue (ground_lits t) xs → HasWatched new xs ⊎ HasTrue (ground_lits u) xs
+    before (inl h) =
+        inl (watched_still old new xs h (watched_added old new lits h.clause added h.watched)
+        (ap (λ (cs : List (List Lit)). slice_get cs h.clause) added.clauses
+        ∙ get_left old.clauses (lits ∷ []) h.clause h.watched.lits h.watched.is_clause))
     before (inr h) = inr (has_true_more (ground_lits t) (ground_lits u) xs grows h)
 
+    at_end : IsWatched new (length old.clauses) ⊎ HasTrue (ground_lits u) lits → HasWatched new lits ⊎ HasTrue (ground_lits u) lits
+    at_end (inl w) =
+        inl (by_itself new (length old.clauses) lits
+        (ap (λ (cs : List (List Lit)). slice_get cs (length old.clauses)) added.clauses ∙ get_end old.clauses lits) w)
+    at_end (inr h) = inr h
+
     go : (slice_get old.clauses clause ≡ Some xs) ⊎ ((clause ≡ length old.clauses) × (lits ≡ xs))
-        → IsWatched new clause ⊎ HasTrue (ground_lits u) xs
+        → HasWatched new xs ⊎ HasTrue (ground_lits u) xs
     go (inl there) = before (covered clause xs there)
-    go (inr h) =
-        subst (λ (zs : List Lit). IsWatched new clause ⊎ HasTrue (ground_lits u) zs) h.1
-        (subst (λ (n : ℕ). IsWatched new n ⊎ HasTrue (ground_lits u) lits) (sym h.0) last)
+    go (inr h) = subst (λ (zs : List Lit). HasWatched new zs ⊎ HasTrue (ground_lits u) zs) h.1 (at_end last)
 
 -- a clause that is watched, if it has two literals
 watched_or_short : (old new : Arena) (truths lits : List Lit) (first : Lit) → HasAdded old new lits
@@ -411,9 +449,11 @@ held_same clauses a b t refuted same watchers held =
           };
     }
   where
-    go : (clause : ℕ) (lits : List Lit) → IsWatched a clause ⊎ HasTrue (ground_lits t) lits → IsWatched b clause ⊎
+    go : (clause : ℕ) (lits : List Lit) → HasWatched a lits ⊎ HasTrue (ground_lits t) lits → HasWatched b lits ⊎
         HasTrue (ground_lits t) lits
-    go clause lits (inl w) = inl (watched_same a b same watchers clause w)
+    go clause lits (inl h) =
+        inl (watched_still a b lits h (watched_same a b same watchers h.clause h.watched)
+        (ap (λ (cs : List (List Lit)). slice_get cs h.clause) same ∙ h.watched.is_clause))
     go clause lits (inr h) = inr h
 
 -- by other names of the trail and of what was found

@@ -2,6 +2,7 @@ mod Grounds
 mod Following
 mod Fresh
 mod Holding
+mod Dropping
 mod Swaps
 mod Standings
 mod Units

@@ -1,21 +1,21 @@
 -- What the parts of a state show of it: conflicts, and where unit propagation is at rest.
-use Rattle.std.proofs.Common.{◌≡◌, ◌⊎◌, ◌<◌, ◌-◌, ℕ, List, All, Some, Contains, length, slice_get, slice_index_or, sym, subst, inl, inr, arith}
+use Rattle.std.proofs.Common.{◌≡◌, ◌⊎◌, ◌<◌, ◌-◌, ℕ, List, All, Some, Contains, length, slice_get, slice_index_or, sym, inl, inr, arith}
 use Rattle.std.proofs.lemmas.List.Elements.{All-contains}
 use Rattle.std.proofs.lemmas.Option.{slice_get-get_or}
 use Rattle.currency_base.specs.declared.lit.Lit.{Lit}
-use Rattle.clause_arena.specs.Arenas.{Arena, AreWatchers, IsWatched}
+use Rattle.clause_arena.specs.Arenas.{Arena, AreWatchers}
 use Rattle.search_trail.specs.Trails.{AreEntries, Trail, entries_up_to, lits_of}
 use Rattle.refutation_log.specs.Steps.{clauses_of}
 use Rattle.refutation_log.specs.declared.step.Step.{Step}
 use Rattle.refutation_log.specs.Counted.{HasTrue, IsAtRest}
 use Rattle.watch_propagate.specs.WatchRule.{AreAtRest, AreReordered, IsConflict}
-use Rattle.watch_propagate.proofs.KeptLists.{contains_at, from_front, same_get}
+use Rattle.watch_propagate.proofs.KeptLists.{contains_at, from_front}
 use Rattle.watch_propagate.proofs.KeptLits.{lits_consistent}
 use Rattle.watch_propagate.proofs.RestFacts.{rest_at_starts}
 use Rattle.watch_propagate.proofs.SameFacts.{at_rest_same, clause_there, same_back}
 use Rattle.conflict_analysis.specs.Analyses.{IsFalsified, IsOfLevel, lits_below}
 use Rattle.search_state.specs.States.{IsFalse, IsNotBelow, State}
-use Rattle.search_state.specs.Held.{AreWatchedOrTrue, CanGoOn, ground_lits}
+use Rattle.search_state.specs.Held.{AreCovered, CanGoOn, HasWatched, ground_lits}
 use Rattle.search_state.proofs.Grounds.{ground_below}
 
 -- ---- conflicts
@@ -72,9 +72,25 @@ not_below s place are rest f = go (All-contains (IsAtRest (lits_below s.trail)) 
 
 -- ---- at rest
 
+-- on a clause, where on a part of it
+at_rest_more : (truths part lits : List Lit) → ((lit : Lit) → Contains part lit → Contains lits lit) → IsAtRest truths part
+    → IsAtRest truths lits
+at_rest_more truths part lits among (inl h) =
+    inl (record { lit = h.lit; is_in = among h.lit h.is_in; is_true = h.is_true })
+at_rest_more truths part lits among (inr h) =
+    inr (record {
+      first = h.first;
+      second = h.second;
+      differ = h.differ;
+      first_in = among h.first h.first_in;
+      second_in = among h.second h.second_in;
+      first_open = h.first_open;
+      second_open = h.second_open;
+    })
+
 -- on the clause of each step, where on each watched clause
 pub quiet_of : (steps : List Step) (a : Arena) (t : Trail) (truths : List Lit) → AreReordered (clauses_of steps)
-    a.clauses → AreWatchedOrTrue a t
+    a.clauses → AreCovered a t
     → ((x : Lit) → Contains (ground_lits t) x → Contains truths x) → AreAtRest a truths → All (IsAtRest truths) (clauses_of steps)
 quiet_of steps a t truths re covered grows rest k d h = go (clause_there (clauses_of steps) a.clauses k lits re.as_many is)
   where
@@ -87,8 +103,8 @@ quiet_of steps a t truths re covered grows rest k d h = go (clause_there (clause
     go : (ys : List Lit) × (slice_get a.clauses k ≡ Some ys) → IsAtRest truths lits
     go (ys, there) = at_rest_same truths ys lits (same_back lits ys (re.same k lits ys is there)) (by (covered k ys there))
       where
-        by : IsWatched a k ⊎ HasTrue (ground_lits t) ys → IsAtRest truths ys
-        by (inl w) = subst (IsAtRest truths) (same_get a.clauses k w.lits ys w.is_clause there) (rest k w)
+        by : HasWatched a ys ⊎ HasTrue (ground_lits t) ys → IsAtRest truths ys
+        by (inl h) = at_rest_more truths h.watched.lits ys h.among (rest h.clause h.watched)
         by (inr h) = inl (record { lit = h.lit; is_in = h.is_in; is_true = grows h.lit h.is_true })
 
 -- below the current level

@@ -15,15 +15,21 @@ use Rattle.search_state.specs.States.{IsFit}
 abbrev pub ground_lits : Trail → List Lit
 ground_lits t = take (entries_up_to t 0) (lits_of t)
 
--- each clause is watched, or has a literal that is true where nothing is assumed
-abbrev pub AreWatchedOrTrue : Arena → Trail → Type 0
-AreWatchedOrTrue a t = (clause : ℕ) (lits : List Lit) → slice_get a.clauses clause ≡ Some lits → IsWatched a clause ⊎
+-- a watched clause is a part of these literals
+pub record HasWatched (a : Arena) (lits : List Lit) : Type 0 where
+  pub clause : ℕ
+  pub watched : IsWatched a clause
+  pub among : (lit : Lit) → Contains watched.lits lit → Contains lits lit
+
+-- each clause has a part that is watched, itself or another one, or a literal that is true where nothing is assumed
+abbrev pub AreCovered : Arena → Trail → Type 0
+AreCovered a t = (clause : ℕ) (lits : List Lit) → slice_get a.clauses clause ≡ Some lits → HasWatched a lits ⊎
     HasTrue (ground_lits t) lits
 
 -- unit propagation over the watched clauses finds all that is implied
 pub record CanGoOn (a : Arena) (t : Trail) : Type 0 where
   pub rule : KeepsWatch a t
-  pub covered : AreWatchedOrTrue a t
+  pub covered : AreCovered a t
 
 -- the clause of that number is false while nothing is assumed
 pub record IsRefuted (a : Arena) (t : Trail) (clause : ℕ) : Type 0 where

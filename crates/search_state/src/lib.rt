@@ -3,6 +3,7 @@
 #![tactic(auto)]
 
 mod learning;
+mod leaving;
 mod orders;
 mod search;
 mod state;

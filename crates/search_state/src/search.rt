@@ -8,6 +8,7 @@ ghost use Rattle.watch_propagate.specs.WatchRule.{HasAdded, IsDueTo};
 ghost use Rattle.search_state.specs.Held.{AreHeld, BeginsOpen, BeginsTrue, BeginsUnit};
 ghost use Rattle.search_state.specs.States.{IsFit};
 
+use crate::leaving::drop_supersets;
 use crate::orders::{Standing, arrange};
 use clause_arena::{Arena, ClauseNo};
 use currency_base::{Lit, NoMemory};
@@ -135,8 +136,9 @@ impl Search {
         self.trail.rebase(&self.arena, self.lits[0], number);
     }
 
-    /// Puts a clause in whose first literal is open and whose others are false, and makes that literal true.
-    pub(crate) fn put_unit(&mut self, lits: &[Lit])
+    /// Puts a clause in whose first literal is open and whose others are false, and makes that literal true. Those of the hints of
+    /// which it is a part leave the watch lists.
+    pub(crate) fn put_unit(&mut self, lits: &[Lit], hints: &[u32])
         requires vars { length self.old.arena.watchers ≡ 2 * self.old.trail.vars }
         requires fit { IsFit self.old.trail.vars lits.now }
         requires room { 1 ≤ self.old.arena.clauses_left }
@@ -155,6 +157,7 @@ impl Search {
         let number = enter(&mut self.arena, lits);
         self.trail.are_entries();
         self.trail.imply(&self.arena, lits[0], number);
+        drop_supersets(&mut self.arena, hints);
     }
 }
 

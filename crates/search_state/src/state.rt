@@ -198,7 +198,8 @@ impl State {
         };
         tell_seen(&self.analysis, &self.search.trail, guides);
         go_back(&mut self.search.trail, back_of(&self.analysis), guides);
-        self.search.put_unit(self.analysis.lits());
+        self.search
+            .put_unit(self.analysis.lits(), self.analysis.hints());
         Ok(())
     }
 

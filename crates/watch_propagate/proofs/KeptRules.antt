@@ -1,5 +1,5 @@
 -- What keeps the watch rule.
-use Rattle.std.proofs.Common.{◌≡◌, ◌⊎◌, ◌<◌, ◌≤◌, ◌∙◌, ℕ, min, List, [], ◌∷◌, ◌++◌, Some, None, Bool, Contains, length, map, take, slice_get, sym, ap, subst, inl, inr, arith}
+use Rattle.std.proofs.Common.{◌≡◌, ◌⊎◌, ◌<◌, ◌≤◌, ◌∙◌, ℕ, min, List, [], ◌∷◌, ◌++◌, Some, None, Contains, length, map, take, slice_get, sym, ap, subst, inl, inr, arith}
 use Rattle.std.specs.List.{filter}
 use Rattle.std.proofs.lemmas.Bool.{cases_eq, cases_lt}
 use Rattle.std.proofs.lemmas.List.{length-map, map-append, take_all, take-append-le, take-map, take-take, get_or_past}
@@ -7,14 +7,15 @@ use Rattle.std.proofs.lemmas.List.Elements.{Contains-append_left, Contains-push}
 use Rattle.std.proofs.lemmas.Option.{same_Some, slice_get-get_or}
 use Rattle.currency_base.specs.Literals.{negation}
 use Rattle.currency_base.specs.declared.lit.Lit.{Lit}
-use Rattle.clause_arena.specs.Arenas.{Arena, IsWatched, is_left}
+use Rattle.clause_arena.specs.Arenas.{Arena, IsWatched, is_other}
+use Rattle.clause_arena.proofs.Left.{was_watched}
 use Rattle.search_trail.specs.Trails.{AreEntries, Entry, Trail, assumed, entries_up_to, implied, lits_of, rebased, undone}
 use Rattle.refutation_log.specs.Counted.{IsOpen}
 use Rattle.watch_propagate.specs.WatchRule.{AreGuarded, HasAdded, IsDueTo, IsGuarded, IsQuiet, KeepsWatch}
 use Rattle.watch_propagate.proofs.KeptLists.{from_front, get_push, get_take, same_get}
 use Rattle.watch_propagate.proofs.KeptLits.{lits_consistent}
 use Rattle.watch_propagate.proofs.ReasonFacts.{lits_rebased}
-use Rattle.watch_propagate.proofs.KeptWatchers.{WasWatched, added_lits, dropped_before, two_at, watched_before}
+use Rattle.watch_propagate.proofs.KeptWatchers.{WasWatched, added_lits, two_at, watched_before}
 
 -- ---- two watched literals
 
@@ -222,13 +223,13 @@ guarded_before : (old : Arena) (t : Trail) (clause : ℕ) (lits : List Lit) (fir
 guarded_before old t clause lits first second k was =
     guarded_named t first second was.watched.first was.watched.second was.is_first was.is_second (k.guarded clause was.watched)
 
-pub keeps_dropped : (old new : Arena) (truths : List Bool) (t : Trail) → new.clauses ≡ old.clauses
-    → new.watchers ≡ map (filter (is_left truths old.clauses)) old.watchers → KeepsWatch old t → KeepsWatch new t
-keeps_dropped old new truths t clauses watchers k =
+-- a clause has left the watch lists
+pub keeps_dropped : (old new : Arena) (clause : ℕ) (t : Trail) → new.clauses ≡ old.clauses
+    → new.watchers ≡ map (filter (is_other clause)) old.watchers → KeepsWatch old t → KeepsWatch new t
+keeps_dropped old new clause t clauses watchers k =
     record {
       passed = k.passed;
-      guarded = λ clause w. guarded_before old t clause w.lits w.first w.second k
-          (dropped_before old new truths clauses watchers clause w);
+      guarded = λ number w. k.guarded number (was_watched old new clause clauses watchers number w);
     }
 
 -- the added clause is guarded, if it is watched, and the others were

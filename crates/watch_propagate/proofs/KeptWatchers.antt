@@ -1,13 +1,12 @@
--- The watched clauses of an arena that gets one more clause, or whose lists lose satisfied ones.
-use Rattle.std.proofs.Common.{◌≡◌, ◌⊎◌, ◌<◌, ◌≤◌, ◌∙◌, ℕ, zero, suc, Bool, true, false, not, List, [], ◌∷◌, ◌++◌, Some, cond, length, map, slice_get, refl, sym, ap, subst, inl, inr, arith}
-use Rattle.std.specs.List.{filter}
+-- The watched clauses of an arena that gets one more clause.
+use Rattle.std.proofs.Common.{◌≡◌, ◌⊎◌, ◌<◌, ◌≤◌, ◌∙◌, ℕ, List, [], ◌∷◌, ◌++◌, Some, length, slice_get, refl, sym, ap, subst, inl, inr, arith}
 use Rattle.std.proofs.lemmas.Bool.{cases_lt}
 use Rattle.std.proofs.lemmas.List.{length-set, set_past, length_push}
-use Rattle.std.proofs.lemmas.Option.{get_or_from_slice_get, same_Some, slice_get_within}
+use Rattle.std.proofs.lemmas.Option.{same_Some, slice_get_within}
 use Rattle.currency_base.specs.declared.lit.Lit.{Lit}
 use Rattle.watch_links.specs.Links.{IsIn, list_of, lists_with}
 use Rattle.watch_links.proofs.ListsChanged.{in_lists_with, lists_with_has, lists_with_keeps}
-use Rattle.clause_arena.specs.Arenas.{Arena, AreWithin, IsWatched, is_left, is_satisfied, place_of, watchers_of, watching}
+use Rattle.clause_arena.specs.Arenas.{Arena, AreWithin, IsWatched, place_of, watchers_of, watching}
 use Rattle.watch_propagate.specs.WatchRule.{HasAdded}
 use Rattle.watch_propagate.proofs.KeptLists.{get_end, get_front, get_left, same_get}
 
@@ -187,91 +186,3 @@ added_is_watched old new lits first second rest added is within =
     let here : HasAdded old new (first ∷ second ∷ rest) = subst (HasAdded old new) is added in
     let there : AreWithin old (first ∷ second ∷ rest) = subst (AreWithin old) is within in
     watched_last old new first second rest here (there 0 first (omega arith)) (there 1 first (omega arith))
-
--- ---- satisfied clauses off the lists
-
-list_map : (g : List ℕ → List ℕ) → g [] ≡ [] → (lists : List (List ℕ)) (owner : ℕ) → list_of (map g lists) owner ≡ g
-    (list_of lists owner)
-list_map g empty [] owner = sym empty
-list_map g empty (xs ∷ lists) zero = refl
-list_map g empty (xs ∷ lists) (suc owner) = list_map g empty lists owner
-
-in_filter : (p : ℕ → Bool) (y : ℕ) (xs : List ℕ) → IsIn y (filter p xs) → IsIn y xs
-in_filter p y [] i = i
-in_filter p y (x ∷ xs) i = go (p x) (in_filter p y xs) i
-  where
-    go : (b : Bool) → (IsIn y (filter p xs) → IsIn y xs) → IsIn y (cond b (x ∷ filter p xs) (filter p xs)) → IsIn y (x ∷ xs)
-    go true more (inl e) = inl e
-    go true more (inr j) = inr (more j)
-    go false more j = inr (more j)
-
-stays_in_filter : (p : ℕ → Bool) (y : ℕ) (xs : List ℕ) → IsIn y xs → p y ≡ true → IsIn y (filter p xs)
-stays_in_filter p y [] i passes = i
-stays_in_filter p y (x ∷ xs) i passes = go (p x) refl (λ j. stays_in_filter p y xs j passes) i
-  where
-    go : (b : Bool) → p x ≡ b → (IsIn y xs → IsIn y (filter p xs)) → IsIn y (x ∷ xs)
-        → IsIn y (cond b (x ∷ filter p xs) (filter p xs))
-    go true is more (inl e) = inl e
-    go true is more (inr j) = inr (more j)
-    go false is more (inl e) = let no : true ≡ false = sym passes ∙ ap p e ∙ is in cc
-    go false is more (inr j) = more j
-
-module _ (old new : Arena) (truths : List Bool) (clauses : new.clauses ≡ old.clauses)
-    (watchers : new.watchers ≡ map (filter (is_left truths old.clauses)) old.watchers) where
-  -- a literal's watchers are those that stay
-  left_of : (lit : Lit) → watchers_of new lit ≡ filter (is_left truths old.clauses) (watchers_of old lit)
-  left_of lit =
-      ap (λ (ls : List (List ℕ)). list_of ls (place_of lit)) watchers
-      ∙ list_map (filter (is_left truths old.clauses)) refl old.watchers (place_of lit)
-
-  -- a clause that is watched was watched before
-  pub dropped_before : (clause : ℕ) (w : IsWatched new clause) → WasWatched old clause w.lits w.first w.second
-  dropped_before clause w =
-      record {
-        watched = record {
-          lits = w.lits;
-          is_clause = ap (λ (cs : List (List Lit)). slice_get cs clause) (sym clauses) ∙ w.is_clause;
-          first = w.first;
-          second = w.second;
-          is_first = w.is_first;
-          is_second = w.is_second;
-          by_first = by w.first w.by_first;
-          by_second = by w.second w.by_second;
-        };
-        is_lits = refl;
-        is_first = refl;
-        is_second = refl;
-      }
-    where
-      by : (lit : Lit) → IsIn clause (watchers_of new lit) → IsIn clause (watchers_of old lit)
-      by lit i = in_filter (is_left truths old.clauses) clause (watchers_of old lit) (subst (IsIn clause) (left_of lit) i)
-
-  pub watched_if_left : (clause : ℕ) (w : IsWatched old clause) → is_satisfied truths w.lits ≡ false → IsWatched new clause
-  watched_if_left clause w unsatisfied =
-      record {
-        lits = w.lits;
-        is_clause = ap (λ (cs : List (List Lit)). slice_get cs clause) clauses ∙ w.is_clause;
-        first = w.first;
-        second = w.second;
-        is_first = w.is_first;
-        is_second = w.is_second;
-        by_first = by w.first w.by_first;
-        by_second = by w.second w.by_second;
-      }
-    where
-      passes : is_left truths old.clauses clause ≡ true
-      passes =
-          ap (λ (ls : List Lit). not (is_satisfied truths ls)) (get_or_from_slice_get old.clauses clause w.lits []
-          w.is_clause) ∙ ap not unsatisfied
-
-      by : (lit : Lit) → IsIn clause (watchers_of old lit) → IsIn clause (watchers_of new lit)
-      by lit i = subst (IsIn clause) (sym (left_of lit)) (stays_in_filter (is_left truths old.clauses) clause
-          (watchers_of old lit) i passes)
-
-  -- a watched clause is watched still, or has a literal whose truth is set
-  pub watched_or_satisfied : (clause : ℕ) (w : IsWatched old clause) → IsWatched new clause ⊎ (is_satisfied truths w.lits ≡ true)
-  watched_or_satisfied clause w = go (is_satisfied truths w.lits) refl
-    where
-      go : (b : Bool) → is_satisfied truths w.lits ≡ b → IsWatched new clause ⊎ (is_satisfied truths w.lits ≡ true)
-      go true is = inr is
-      go false is = inl (watched_if_left clause w is)

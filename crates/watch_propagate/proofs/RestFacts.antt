@@ -1,18 +1,17 @@
 -- Under the watch rule unit propagation is at rest on each watched clause.
-use Rattle.std.proofs.Common.{◌≡◌, ◌≢◌, ◌⊎◌, ◌∙◌, ℕ, Bool, true, false, List, [], ◌∷◌, Some, Contains, length, map, take, slice_get, slice_index_or, refl, ap, subst, inl, inr, arith}
-use Rattle.std.specs.List.{filter}
-use Rattle.std.proofs.lemmas.Bool.{cases_eq, or_cases}
+use Rattle.std.proofs.Common.{◌≡◌, ◌≢◌, ◌⊎◌, ◌∙◌, ℕ, List, Some, Contains, length, take, slice_get, ap, subst, inl, inr, arith}
+use Rattle.std.proofs.lemmas.Bool.{cases_eq}
 use Rattle.std.proofs.lemmas.List.{length-map, take_all}
-use Rattle.std.proofs.lemmas.List.Elements.{All-contains, Contains-append_right}
+use Rattle.std.proofs.lemmas.List.Elements.{All-contains}
 use Rattle.currency_base.specs.Lists.{OnlyOnce}
 use Rattle.currency_base.specs.declared.lit.Lit.{Lit}
-use Rattle.clause_arena.specs.Arenas.{Arena, AreWatchers, IsWatched, is_left, is_satisfied, place_of}
+use Rattle.clause_arena.specs.Arenas.{Arena, AreWatchers, IsWatched}
 use Rattle.search_trail.specs.Trails.{AreEntries, Entry, Trail, lits_of}
-use Rattle.refutation_log.specs.Counted.{HasTrue, IsAtRest}
+use Rattle.refutation_log.specs.Counted.{IsAtRest}
 use Rattle.watch_propagate.specs.WatchRule.{AreAtRest, HasAdded, IsGuarded, IsRewatched, KeepsWatch}
 use Rattle.watch_propagate.proofs.KeptLists.{contains_at, same_get}
 use Rattle.watch_propagate.proofs.KeptLits.{among}
-use Rattle.watch_propagate.proofs.KeptWatchers.{added_lits, watched_before, watched_or_satisfied}
+use Rattle.watch_propagate.proofs.KeptWatchers.{added_lits, watched_before}
 use Rattle.watch_propagate.proofs.SameFacts.{at_rest_same}
 
 -- the two watched literals of a clause differ
@@ -91,35 +90,3 @@ rest_added old new lits truths added last rest clause w = go (cases_eq clause (l
     go (inr differs) =
         let was = watched_before old new lits clause added differs w in
         subst (IsAtRest truths) was.is_lits (rest clause was.watched)
-
--- a satisfied clause has a true literal, where each truth that is set is of one
-pub true_of_satisfied : (truths : List Bool) (holding lits : List Lit)
-    → ((lit : Lit) → slice_index_or truths (place_of lit) false ≡ true → Contains holding lit) → is_satisfied truths
-    lits ≡ true → HasTrue holding lits
-true_of_satisfied truths holding [] each satisfied = let no : ⊥ = cc in absurd no
-true_of_satisfied truths holding (x ∷ lits) each satisfied =
-    go (λ h. true_of_satisfied truths holding lits each h) (or_cases (slice_index_or truths (place_of x) false)
-    (is_satisfied truths lits) satisfied)
-  where
-    go : (is_satisfied truths lits ≡ true → HasTrue holding lits) → (slice_index_or truths (place_of x) false ≡ true)
-        ⊎ (is_satisfied truths lits ≡ true)
-        → HasTrue holding (x ∷ lits)
-    go more (inl h) = record { lit = x; is_in = (0, omega arith, refl); is_true = each x h }
-    go more (inr h) =
-        let r = more h in
-        record { lit = r.lit; is_in = Contains-append_right (x ∷ []) lits r.lit r.is_in; is_true = r.is_true }
-
--- where satisfied clauses are off the lists, and unit propagation is at rest on what is left, it is so on all that was watched
-pub rest_dropped : (old new : Arena) (truths : List Bool) (holding : List Lit) → new.clauses ≡ old.clauses
-    → new.watchers ≡ map (filter (is_left truths old.clauses)) old.watchers
-    → ((lit : Lit) → slice_index_or truths (place_of lit) false ≡ true → Contains holding lit)
-    → AreAtRest new holding → AreAtRest old holding
-rest_dropped old new truths holding clauses watchers each rest clause w =
-    go (watched_or_satisfied old new truths clauses watchers clause w)
-  where
-    go : IsWatched new clause ⊎ (is_satisfied truths w.lits ≡ true) → IsAtRest holding w.lits
-    go (inl v) =
-        let there : slice_get new.clauses clause ≡ Some w.lits = ap (λ (cs : List (List Lit)). slice_get cs clause)
-        clauses ∙ w.is_clause in
-        subst (IsAtRest holding) (same_get new.clauses clause v.lits w.lits v.is_clause there) (rest clause v)
-    go (inr satisfied) = inl (true_of_satisfied truths holding w.lits each satisfied)

@@ -1,13 +1,13 @@
-ghost use Rattle.std.specs.Prelude.{◌≡◌, ◌∷◌, ℕ, List, Bool, [], Contains, length, map, take, slice_get, Some};
+ghost use Rattle.std.specs.Prelude.{◌≡◌, ◌∷◌, ℕ, List, [], Contains, length, map, take, slice_get, Some};
 ghost use Rattle.std.specs.List.{filter};
 ghost use Rattle.currency_base.specs.Literals.{var_of};
 ghost use Rattle.currency_base.specs.declared.lit.Lit.{Lit};
-ghost use Rattle.clause_arena.specs.Arenas.{Arena, AreWatchers, is_left};
+ghost use Rattle.clause_arena.specs.Arenas.{Arena, AreWatchers, is_other};
 ghost use Rattle.search_trail.specs.Trails.{AreEntries, Entry, Trail, assumed, implied, lits_of, rebased, undone};
 ghost use Rattle.watch_propagate.specs.WatchRule.{AreAtRest, AreReasons, HasAdded, HasReason, Implies, IsDueTo, IsQuiet, IsRewatched, KeepsWatch};
 
 /// Laws: what keeps the watch rule. A trail with no entry has it; an implied literal keeps it, and so do an
-/// assumed one where all entries have been gone through, going back, and taking clauses off the watch lists. A clause is
+/// assumed one where all entries have been gone through, going back, and taking a clause off the watch lists. A clause is
 /// added where nothing is assumed and its first literal is true or its first two are open, or it is added and its first
 /// literal implied, where that one is open and the second is not false by what came before the current level.
 pub fn watch_rule_is_kept()
@@ -18,8 +18,8 @@ pub fn watch_rule_is_kept()
         → KeepsWatch a (implied t lit clause) }
     ensures undone { (a : Arena) → (t : Trail) → (level : ℕ) → AreEntries t → KeepsWatch a t → KeepsWatch a (undone t level) }
     ensures rebased { (a : Arena) → (t : Trail) → (var clause : ℕ) → KeepsWatch a t → KeepsWatch a (rebased t var clause) }
-    ensures dropped { (old new : Arena) → (truths : List Bool) → (t : Trail) → new.clauses ≡ old.clauses
-        → new.watchers ≡ map (filter (is_left truths old.clauses)) old.watchers → KeepsWatch old t → KeepsWatch new t }
+    ensures dropped { (old new : Arena) → (clause : ℕ) → (t : Trail) → new.clauses ≡ old.clauses
+        → new.watchers ≡ map (filter (is_other clause)) old.watchers → KeepsWatch old t → KeepsWatch new t }
     ensures learned { (old new : Arena) → (lits : List Lit) → (t : Trail) → (lit : Lit) → (clause : ℕ) → AreEntries t
         → slice_get lits 0 ≡ Some lit → HasAdded old new lits → IsDueTo t lits → KeepsWatch old t → KeepsWatch new
         (implied t lit clause) }

@@ -1,11 +1,11 @@
 use Rattle.std.proofs.Common.{◌∙◌, true, false, refl, sym}
 use Rattle.clause_arena.proofs.Dropped.{drop_begins, drop_comes, drop_stands, drop_goes_on, drop_falls, drop_ends}
-use Rattle.clause_arena.proofs.satisfied.drop_from.Goals as goal
+use Rattle.clause_arena.proofs.leaving.drop_from.Goals as goal
 
 pub loop-at-init : goal.loop-at-init
 loop-at-init c =
     record {
-      dropping = drop_begins _ _ _ _ c.requires.owner c.first-at.ensures;
+      dropping = drop_begins _ _ _ _ c.requires c.first-at.ensures;
       slots = refl;
       room = refl;
     }
@@ -14,8 +14,8 @@ pub next-at-requires : goal.next-at-requires
 next-at-requires c =
     c.are_whole.ensures.within c.args.owner c.in-Some.slot (drop_stands _ _ _ _ _ _ _ c.loop-at.invariant.dropping c.in-Some.is)
 
-pub drop_slot-requires-clause-comes : goal.drop_slot-requires-clause-comes
-drop_slot-requires-clause-comes c = drop_comes _ _ _ _ _ _ _ c.loop-at.invariant.dropping c.in-Some.is
+pub drop_slot-requires : goal.drop_slot-requires
+drop_slot-requires c = drop_comes _ _ _ _ _ _ _ c.loop-at.invariant.dropping c.in-Some.is
 
 -- the slot stays
 pub loop-at-smaller-then-drop_slot : goal.loop-at-smaller-then-drop_slot
