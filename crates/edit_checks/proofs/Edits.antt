@@ -16,13 +16,13 @@ use Rattle.denial_rules.specs.declared.rule.Rule.{Rule}
 use Rattle.partial_orders.specs.Pairs.{has_pair, pair_cmp}
 use Rattle.spec_edits.proofs.GivenEdits.{given_pair}
 use Rattle.spec_edits.proofs.Kept.{edit_kept, passed}
-use Rattle.spec_edits.specs.Edits.{IsPairAt, IsWithdrawal, edited, first_of_limits, giving, is_mapped_to, is_of_one_entity, limited, taking, unless_above, unmapping, with_copy_at, with_relation_at, with_rule, without_rule}
+use Rattle.spec_edits.specs.Edits.{IsPairAt, IsWithdrawal, edited, first_of_limits, giving, is_mapped_to, limited, taking, unless_above, unmapping, with_copy_at, with_relation_at, with_rule, without_rule}
 use Rattle.spec_edits.specs.Kept.{AreSameButGiven}
 use Rattle.spec_edits.specs.declared.edit.Edit.{Edit}
 use Rattle.spec_edits.specs.declared.edit.Edit.TheVariants.{AddGiven, AddRule, MapCopied, UnmapCopied, WithdrawGiven, WithdrawRule}
 use Rattle.spec_edits.specs.declared.fault.EditFault.{EditFault}
 use Rattle.spec_edits.specs.declared.fault.EditFault.TheVariants.{NotOneEntity, NotThere}
-use Rattle.spec_limits.specs.Instances.{too_many_instances}
+use Rattle.spec_limits.specs.Instances.{are_of_one_entity, too_many_instances}
 use Rattle.spec_limits.specs.Limits.{exceeded}
 use Rattle.spec_model.specs.Completion.{Rankings}
 use Rattle.spec_model.specs.Consistent.{IsCompatibleWith, IsConsistent, KeepsGiven, SatisfiesRules}
@@ -54,7 +54,7 @@ giving_stays : (s t : Spec) (rel : ℕ) (p : Pair) (c : Rankings) (o : Option Re
     → IsConsistent t c
 giving_stays s t rel p c None at same is stands done = itself s t c done is
 giving_stays s t rel p c (Some r) at same is stands done =
-    let new = passed (is_of_one_entity r.rows p) (with_relation_at s rel (with_given r p)) t NotOneEntity done in
+    let new = passed (are_of_one_entity r.rows p.earlier p.later) (with_relation_at s rel (with_given r p)) t NotOneEntity done in
     with_pairs s t rel r (with_given r p).given c same is new
     (All-insert_key pair_cmp p (Stands c rel) r.given (stand s.relations c rel r is.given at) stands)
 
@@ -66,10 +66,10 @@ added_pair s rel p c is stands t done =
 
 -- a pair of two rows of one entity can be asked about
 pub asked_pair : (s : Spec) (rel : RelId) (p : Pair) (told : Bool) → IsPairAt s.relations rel.0 p
-    → IfSome (slice_get s.relations rel.0) (λ r. told ≡ is_of_one_entity r.rows p) → told ≡ true
+    → IfSome (slice_get s.relations rel.0) (λ r. told ≡ are_of_one_entity r.rows p.earlier p.later) → told ≡ true
     → IsAskedPair s.relations (record { rel = rel; pair = p })
 asked_pair s rel p told at is one =
-    let here : told ≡ is_of_one_entity at.relation.rows p = rw at.is_relation at is in
+    let here : told ≡ are_of_one_entity at.relation.rows p.earlier p.later = rw at.is_relation at is in
     record {
       relation = at.relation;
       is_relation = at.is_relation;

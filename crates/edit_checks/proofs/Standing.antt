@@ -6,8 +6,8 @@ use Rattle.currency_base.specs.declared.ids.RowId.{RowId}
 use Rattle.currency_base.specs.declared.pair.Pair.{Pair}
 use Rattle.currency_base.specs.declared.row.Row.{Row}
 use Rattle.partial_orders.specs.Pairs.{AreOfOneEntity, entity_of}
-use Rattle.spec_edits.specs.Edits.{IsPairAt, is_of_one_entity}
-use Rattle.spec_limits.specs.Instances.{is_one_entity}
+use Rattle.spec_edits.specs.Edits.{IsPairAt}
+use Rattle.spec_limits.specs.Instances.{are_of_one_entity, is_one_entity}
 use Rattle.spec_model.specs.Completion.{Before, IsCompletion, IsRanking, Rankings, lists_of, ranking_of}
 use Rattle.spec_model.specs.Questions.{IsAskedPair}
 use Rattle.spec_model.specs.declared.question.Asked.{Asked}
@@ -75,7 +75,7 @@ entity_there (r ∷ rows) (suc row) below = entity_there rows row (omega arith)
 one_from : (ent : ℕ) → is_one_entity (Some ent) (Some ent) ≡ true
 one_from ent = eq-eqb ent ent refl
 
-are_of_one : (rows : List Row) (p : Pair) → p.earlier.0 < length rows → AreOfOneEntity rows p → is_of_one_entity rows p ≡ true
+are_of_one : (rows : List Row) (p : Pair) → p.earlier.0 < length rows → AreOfOneEntity rows p → are_of_one_entity rows p.earlier p.later ≡ true
 are_of_one rows p below one =
     let there = entity_there rows p.earlier.0 below in
     and_from _ _
@@ -86,8 +86,8 @@ are_of_one rows p below one =
 
 -- a pair whose rows are told not to be so cannot be asked about
 pub not_asked : (relations : List Relation) (rel : RelId) (p : Pair) (told : Bool)
-    → IfSome (slice_get relations rel.0) (λ r. told ≡ is_of_one_entity r.rows p) → told ≡ false
+    → IfSome (slice_get relations rel.0) (λ r. told ≡ are_of_one_entity r.rows p.earlier p.later) → told ≡ false
     → IsAskedPair relations (record { rel = rel; pair = p }) → ⊥
 not_asked relations rel p told is none asked =
-    let here : told ≡ is_of_one_entity asked.relation.rows p = rw asked.is_relation at is in
+    let here : told ≡ are_of_one_entity asked.relation.rows p.earlier p.later = rw asked.is_relation at is in
     false≢true (sym none ∙ (here ∙ are_of_one asked.relation.rows p asked.pair.earlier asked.pair.one_entity))

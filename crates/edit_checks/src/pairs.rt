@@ -1,7 +1,8 @@
 // Looks at two rows.
 
 ghost use Rattle.std.specs.Prelude.{◌≡◌, true, false, IfSome, slice_get};
-ghost use Rattle.spec_edits.specs.Edits.{IsPairAt, is_of_one_entity};
+ghost use Rattle.spec_edits.specs.Edits.{IsPairAt};
+ghost use Rattle.spec_limits.specs.Instances.{are_of_one_entity};
 ghost use Rattle.spec_model.specs.Completion.{Before, IsCompletion, lists_of};
 ghost use Rattle.spec_model.specs.Questions.{IsAskedPair};
 
@@ -38,7 +39,7 @@ pub(crate) fn can_be_asked(spec: &Specification, rel: RelId, pair: Pair) -> bool
 /// Are the rows of a pair two different rows of one entity of this relation?
 fn is_of_one_entity(spec: &Specification, rel: RelId, pair: Pair) -> bool
     requires { IsPairAt spec.now.relations rel.0 pair }
-    ensures { IfSome (slice_get spec.now.relations rel.0) (λ r. result ≡ is_of_one_entity r.rows pair) }
+    ensures { IfSome (slice_get spec.now.relations rel.0) (λ r. result ≡ are_of_one_entity r.rows pair.earlier pair.later) }
 {
     let rows = spec.relations()[rel.0 as usize].rows.as_slice();
     are_of_one_entity(rows, pair.earlier, pair.later)

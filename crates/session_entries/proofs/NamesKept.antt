@@ -14,7 +14,7 @@ use Rattle.spec_model.specs.Facts.{copied_due, with_given, without_given}
 use Rattle.spec_model.specs.Spec.{Spec}
 use Rattle.spec_model.specs.declared.relation.Relation.{Relation}
 use Rattle.spec_names.specs.Names.{all_names_of, names_of}
-use Rattle.spec_edits.specs.Edits.{IsEditOf, edited, giving, is_mapped_to, is_of_one_entity, limited, mapping, taking, unless_above, unless_due, unmapping, with_copy_at, with_relation_at, with_rule, without_rule}
+use Rattle.spec_edits.specs.Edits.{IsEditOf, edited, giving, is_mapped_to, limited, mapping, taking, unless_above, unless_due, unmapping, with_copy_at, with_relation_at, with_rule, without_rule}
 use Rattle.spec_edits.specs.declared.edit.Edit.{Edit}
 use Rattle.spec_edits.specs.declared.edit.Edit.TheVariants.{AddGiven, AddRule, MapCopied, UnmapCopied, WithdrawGiven, WithdrawRule}
 use Rattle.spec_edits.specs.declared.fault.EditFault.{EditFault}
@@ -56,7 +56,7 @@ giving_keeps : (s new : Spec) (rel : ℕ) (pair : Pair) (o : Option Relation) �
     → Keeps s new (giving s rel pair o)
 giving_keeps s new rel pair None here is = ap all_names_of (let it : s ≡ new = cc in it)
 giving_keeps s new rel pair (Some r) here is =
-    kept_if s new (with_relation_at s rel (with_given r pair)) (is_of_one_entity r.rows pair) _
+    kept_if s new (with_relation_at s rel (with_given r pair)) _ _
     (relation_kept s rel r (with_given r pair) here refl refl) is
 
 taking_keeps : (s new : Spec) (rel : ℕ) (pair : Pair) (o : Option Relation) → slice_get s.relations rel ≡ o
