@@ -1,7 +1,9 @@
 //! Rows over whole documents: what the program says of specifications, questions and reports, and what it refuses.
 //!
-//! Most are transcripts; what needs more than text is a function. They are one crate, since a crate of tests begins
-//! with a hundred processor seconds of reading what it stands on.
+//! Most are transcripts; what needs more than text is a function. Beside them, what no contract and no text says of parts: which
+//! lists are linked, which variables stand with which part, first guesses at models, how a specification is written, and which kept
+//! report is a session's reply. They are one crate, since a crate of tests begins with a hundred processor seconds of reading what
+//! it stands on.
 #![tactic(auto)]
 
 #[cfg(test)]
@@ -15,6 +17,8 @@ mod budgets;
 #[cfg(test)]
 mod bytes;
 #[cfg(test)]
+mod calls;
+#[cfg(test)]
 mod cases;
 #[cfg(test)]
 mod claims;
@@ -22,6 +26,8 @@ mod claims;
 mod conflicts;
 #[cfg(test)]
 mod copies;
+#[cfg(test)]
+mod divided;
 #[cfg(test)]
 mod documents;
 #[cfg(test)]
@@ -36,6 +42,8 @@ mod forced;
 mod forged;
 #[cfg(test)]
 mod golden;
+#[cfg(test)]
+mod guessed;
 #[cfg(test)]
 mod guide_kinds;
 #[cfg(test)]
@@ -52,6 +60,8 @@ mod labels;
 mod lasts;
 #[cfg(test)]
 mod limits;
+#[cfg(test)]
+mod linked;
 #[cfg(test)]
 mod logs;
 #[cfg(test)]
@@ -75,6 +85,8 @@ mod runs;
 #[cfg(test)]
 mod sessions;
 #[cfg(test)]
+mod sources;
+#[cfg(test)]
 mod spelling;
 #[cfg(test)]
 mod steered;
@@ -94,6 +106,8 @@ mod values;
 mod verdicts;
 #[cfg(test)]
 mod verify;
+#[cfg(test)]
+mod written;
 #[cfg(test)]
 mod wrong_ends;
 #[cfg(test)]

@@ -1,7 +1,7 @@
 use Rattle.std.proofs.Common.{◌≡◌, ◌∙◌, Option, Bool, false, Some, None, is_some, refl, slice_get, ap, sym, subst, arith}
 use Rattle.search_trail.specs.Trails.{IsFree, ScopedValues, values_of}
 use Rattle.search_trail.proofs.KnownValues.{is_free, is_variable}
-use Rattle.worked_parts.proofs.guessed.give.Goals as goal
+use Rattle.worked_rows.proofs.guessed.give.Goals as goal
 
 is_nothing : (o : Option Bool) → is_some o ≡ false → o ≡ None
 is_nothing None none = refl

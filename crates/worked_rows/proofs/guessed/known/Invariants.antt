@@ -1,5 +1,5 @@
 use Rattle.std.proofs.Common.{◌≡◌}
-use Rattle.worked_parts.proofs.guessed.known.Given as goal
+use Rattle.worked_rows.proofs.guessed.known.Given as goal
 
 -- the variables stay as many
 abbrev pub invariant-loop-var : goal.invariant-loop-var
