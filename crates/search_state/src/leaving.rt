@@ -1,4 +1,5 @@
-//! Clauses that no longer help leave the watch lists: those of which a learned clause is a part. They stay in the arena and the log.
+//! Clauses that no longer help leave the watch lists: those of which a learned clause is a part. They stay in the arena and the
+//! log.
 
 ghost use Rattle.std.specs.Prelude.{◌≡◌, ◌<◌, ◌-◌, ◌∷◌, ℕ, List, All, Contains, Option, Some, true, length, slice_get};
 ghost use Rattle.currency_base.specs.declared.lit.Lit.{Lit};
@@ -9,8 +10,8 @@ ghost use Rattle.search_state.specs.Held.{AreHeld};
 use clause_arena::{Arena, ClauseNo};
 use currency_base::Lit;
 
-/// Takes those of the hints off the watch lists of which the last clause is a part, if it has two literals: what is at rest on it is
-/// at rest on them.
+/// Takes those of the hints off the watch lists of which the last clause is a part, if it has two literals: what is at rest on
+/// it is at rest on them.
 pub(crate) fn drop_supersets(arena: &mut Arena, hints: &[u32])
     requires { (lits : List Lit) (first second : Lit) (rest : List Lit)
         → slice_get arena.old.clauses (length arena.old.clauses - 1) ≡ Some lits → lits ≡ first ∷ second ∷ rest

@@ -136,8 +136,8 @@ impl Search {
         self.trail.rebase(&self.arena, self.lits[0], number);
     }
 
-    /// Puts a clause in whose first literal is open and whose others are false, and makes that literal true. Those of the hints of
-    /// which it is a part leave the watch lists.
+    /// Puts a clause in whose first literal is open and whose others are false, and makes that literal true. Those of the hints
+    /// of which it is a part leave the watch lists.
     pub(crate) fn put_unit(&mut self, lits: &[Lit], hints: &[u32])
         requires vars { length self.old.arena.watchers ≡ 2 * self.old.trail.vars }
         requires fit { IsFit self.old.trail.vars lits.now }

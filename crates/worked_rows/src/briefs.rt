@@ -1,4 +1,5 @@
-//! Brief texts of questions, verdicts alone, and the status of an answer of no. With no guide the first free pair is turned round, again and again.
+//! Brief texts of questions, verdicts alone, and the status of an answer of no. With no guide the first free pair is turned
+//! round, again and again.
 
 use crate::documents::expect_played;
 use std::test::Fail;

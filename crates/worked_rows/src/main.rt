@@ -1,9 +1,9 @@
 //! Rows over whole documents: what the program says of specifications, questions and reports, and what it refuses.
 //!
 //! Most are transcripts; what needs more than text is a function. Beside them, what no contract and no text says of parts: which
-//! lists are linked, which variables stand with which part, first guesses at models, how a specification is written, and which kept
-//! report is a session's reply. They are one crate, since a crate of tests begins with a hundred processor seconds of reading what
-//! it stands on.
+//! lists are linked, which variables stand with which part, first guesses at models, how a specification is written, and which
+//! kept report is a session's reply. They are one crate, since a crate of tests begins with a hundred processor seconds of
+//! reading what it stands on.
 #![tactic(auto)]
 
 #[cfg(test)]
