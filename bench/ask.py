@@ -6,7 +6,8 @@ The first family has rows in entities of 8: given chains (some of them broken), 
 are `consistent`, `certain` of one pair of each entity of one relation, which follows from two known pairs and a rule, and `answers` of a query with one
 answer for each entity of it, of which half are certain. In the second family
 each value is determined, and `same` is asked of all relations. The third is near the limits on pairs of rows and on instances: entities of 4 and of 64. In the fourth all that is
-asked is certain by cases alone, and so it is in the fifth, where each row of an entity may be the last. Then comes a query with more answers than are gone through. At last
+asked is certain by cases alone, and so it is in the fifth, where each row of an entity may be the last. Then come families of many small entities, and entities of 48 rows under random rules
+whose order is hard to find, beside Debian's `minisat` where it is installed, and a query with more answers than are gone through. At last
 as many pairs are asked about as may be, and one more. Runs the program as
 built, and prints per command and N the time per row, its ratio to the smallest N, and the peak memory; and where the
 program `bench_ask` is built (`rt run` in its folder), what the log of the search came to, with how many axioms on three rows
@@ -373,6 +374,28 @@ FAMILIES = {
 LIMIT = 120
 
 
+def random_rules(count, seed):
+    """A call that writes these random rules, and one that makes their clauses."""
+    return lambda folder: families.write_random_rules(folder, count, seed), lambda: families.clauses_of_random_rules(count, seed)
+
+
+# what is compared with an outside solver: what writes it, what makes its clauses, its verdict, and how many times the solver's time it may take
+COMPARED = [
+    (
+        "3,200 rows under rules on three rows",
+        lambda folder: families.write_three(folder, 3_200),
+        lambda: families.clauses_of_three(3_200),
+        b"consistent",
+        0.5,
+    ),
+    ("48 rows under 16 random rules", *random_rules(16, 17), b"consistent", 1.2),
+    ("48 rows under 17 random rules", *random_rules(17, 17), b"consistent", 1.2),
+    ("48 rows under 15 random rules that contradict", *random_rules(15, 14), b"inconsistent", 1.2),
+    ("48 rows under 16 random rules that contradict", *random_rules(16, 2), b"inconsistent", 1.2),
+    ("48 rows under 17 random rules that contradict", *random_rules(17, 2), b"inconsistent", 1.2),
+]
+
+
 def measure_family(name, rows, first, above):
     """One family at one size, unless a smaller size took too long."""
     write, verdict, most_ratio, most_seconds, most_bytes = FAMILIES[name]
@@ -405,27 +428,36 @@ def measure_family(name, rows, first, above):
             above.append(f"{name} at {rows} rows: {len(said)} bytes")
 
 
-def compare_three(above):
-    """The first of these families beside an outside solver, whose clauses have the axioms on three rows of the attribute that rules name."""
-    solver, rows = shutil.which("minisat"), 3_200
-    if not solver:
+def outside_of(folder, made):
+    """The time of an outside solver over clauses that a call makes, and that of making and writing them."""
+    begin = time.perf_counter()
+    write_clauses(folder / "cnf", *made())
+    translated = time.perf_counter() - begin
+    begin = time.perf_counter()
+    subprocess.run(["minisat", "-verb=0", folder / "cnf"], capture_output=True, check=False)
+    return time.perf_counter() - begin, translated
+
+
+def compare_with_minisat(above):
+    """Families beside an outside solver, whose clauses have the axioms on three rows of the attributes that rules name."""
+    if not shutil.which("minisat"):
         print("minisat is not installed: nothing is compared")
         return
-    with tempfile.TemporaryDirectory() as made:
-        folder = pathlib.Path(made)
-        families.write_three(folder, rows)
-        spent, _, _ = timed(folder, ["ask", "s", "q", "--brief"])
-        begin = time.perf_counter()
-        count, clauses = families.clauses_of_three(rows)
-        write_clauses(folder / "cnf", count, clauses)
-        translated = time.perf_counter() - begin
-        begin = time.perf_counter()
-        subprocess.run([solver, "-verb=0", folder / "cnf"], capture_output=True, check=False)
-        outside = time.perf_counter() - begin
-        ratio = spent / (outside + translated)
-        print(f"minisat, {rows} rows: {outside:.2f} s and {translated:.2f} s for its clauses; ask --brief takes {ratio:.2f} times that")
-        if ratio > 0.5:
-            above.append(f"ask --brief takes {ratio:.2f} times what minisat and its clauses take")
+    for name, write, made, verdict, most in COMPARED:
+        with tempfile.TemporaryDirectory() as folder:
+            folder = pathlib.Path(folder)
+            write(folder)
+            spent, _, said = timed(folder, ["ask", "s", "q", "--brief"], (0, 3, 6, -9), LIMIT)
+            outside, translated = outside_of(folder, made)
+            ratio = spent / (outside + translated)
+            print(
+                f"{name}: {spent:.2f} s; minisat {outside:.2f} s and {translated:.2f} s for its clauses; "
+                f"ask --brief takes {ratio:.2f} times that"
+            )
+            if said.split(b"\n", 2)[1:2] != [b"verdict " + verdict + b";"]:
+                above.append(f"{name}: {said[:60]!r}")
+            if ratio > most:
+                above.append(f"{name}: ask --brief takes {ratio:.2f} times what minisat and its clauses take")
 
 
 def measure_families(above):
@@ -434,7 +466,7 @@ def measure_families(above):
     for rows in SIZES:
         for name in FAMILIES:
             measure_family(name, rows, first, above)
-    compare_three(above)
+    compare_with_minisat(above)
 
 
 def measure_limits():

@@ -76,6 +76,68 @@ def clauses_of_three(rows):
     return len(numbers), clauses
 
 
+# ---- one entity whose order is hard to find
+
+LARGE = 48
+ATTRIBUTES = 5
+
+
+def random_rules(count, seed):
+    """The values of an entity's rows, 0 to 7 in each attribute, and so many rules on two of its rows: which of their values are equal,
+    and in which three attributes the rows do not all stand in these orders."""
+    chance = random.Random(seed)
+    values = [[chance.randrange(8) for _ in range(ATTRIBUTES)] for _ in range(LARGE)]
+    rules = []
+    for _ in range(count):
+        attributes = chance.sample(range(ATTRIBUTES), 3)
+        forwards = [chance.random() < 0.5 for _ in attributes]
+        equal = chance.randrange(ATTRIBUTES), chance.randrange(ATTRIBUTES)
+        rules.append((equal, list(zip(attributes, forwards))))
+    return values, rules
+
+
+def write_random_rules(folder, count, seed):
+    """An entity of 48 rows under so many random rules."""
+    values, rules = random_rules(count, seed)
+    heads = ", ".join(f"a{number}: int" for number in range(ATTRIBUTES))
+    (folder / "s").write_text(
+        f'relation R from "r.csv" row id entity eid ({heads});\n'
+        + "".join(
+            f"rule r{number} on R (s, t): if s.a{first} = t.a{second}"
+            + "".join(f" and {'s before t' if forward else 't before s'} in a{attribute}" for attribute, forward in orders)
+            + " then false;\n"
+            for number, ((first, second), orders) in enumerate(rules)
+        )
+    )
+    (folder / "q").write_text("consistent;\n")
+    table(
+        folder / "r.csv",
+        ",".join(["id", "eid", *(f"a{number}" for number in range(ATTRIBUTES))]),
+        (",".join([f"r{row}", "x", *map(str, cells)]) for row, cells in enumerate(values)),
+    )
+
+
+def clauses_of_random_rules(count, seed):
+    """The same for an outside solver: how many variables, and the clauses, with the axioms on three rows of each attribute."""
+    values, rules = random_rules(count, seed)
+    numbers, clauses = {}, []
+
+    def lit(attribute, first, second):
+        low, high = min(first, second), max(first, second)
+        number = numbers.setdefault((attribute, low, high), len(numbers) + 1)
+        return number if first < second else -number
+
+    for (first, second), orders in rules:
+        for s, t in itertools.permutations(range(LARGE), 2):
+            if values[s][first] == values[t][second]:
+                clauses.append([-lit(attribute, *((s, t) if forward else (t, s))) for attribute, forward in orders])
+    for attribute in range(ATTRIBUTES):
+        for x, y, z in itertools.combinations(range(LARGE), 3):
+            for first, second, third in ((x, y, z), (z, y, x)):
+                clauses.append([-lit(attribute, first, second), -lit(attribute, second, third), lit(attribute, first, third)])
+    return len(numbers), clauses
+
+
 # ---- many attributes, each determined
 
 
