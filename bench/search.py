@@ -32,9 +32,17 @@ MARKED = 400_000
 MOST_RATIO = 4
 MOST_BYTES = 48
 SECONDS = 10
-FAMILIES = {"threshold": [150, 200, 250, 2_350], "pigeons": [7, 8], "ordering": [10, 22, 47]}
+FAMILIES = {"threshold": [150, 200, 250, 2_350], "pigeons": [6, 7, 8, 9], "ordering": [10, 22, 47]}
 LEAST_CONFLICTS = 10_000
 MARKED_CLAUSES = range(9_000, 11_000)
+# how many times as much minisat may do in a second
+MOST_BESIDE = {
+    ("implied", 10_000): 1.2,
+    ("implied", 400_000): 2.0,
+    ("threshold", 2_350): 1.5,
+    ("ordering", 47): 1.5,
+    **{("pigeons", holes): 3.0 for holes in (6, 7, 8, 9)},
+}
 
 
 def minisat(variables, clauses):
@@ -49,6 +57,15 @@ def minisat(variables, clauses):
         said = subprocess.run(["minisat", f"-cpu-lim={SECONDS}", text.name], capture_output=True, text=True, check=False)
     lines = re.findall(r"(conflicts|propagations)\s*:\s*(\d+).*\((\d+) /sec\)", said.stdout)
     return {name: (int(count), int(rate)) for name, count, rate in lines}
+
+
+def beside(what, size, rate, outside, beyond):
+    """What minisat does in a second, as words, and whether that is beyond a mark."""
+    ratio = outside / rate
+    most = MOST_BESIDE.get((what, size))
+    if most and ratio > most:
+        beyond.append(f"{what} {size}: minisat does {ratio:.2f} times as much a second, which is above {most}")
+    return f"{outside:,} a second, {ratio:.2f} times as many"
 
 
 def random_clauses(clauses):
@@ -108,11 +125,11 @@ def propagation(beyond):
         per = max(spent - making, 0.0005) / implied
         smallest = smallest or per
         ratio = per / smallest
-        beside = minisat(*random_clauses(clauses))
+        outside = minisat(*random_clauses(clauses))
         print(
             f"{clauses:>8} clauses: {1 / per:>10,.0f} implied a second, ratio {ratio:5.2f}, {conflicts} conflicts; "
             f"peak {peak / made:4.0f} bytes a clause"
-            + (f"; minisat {beside['propagations'][1]:,} a second" if beside else "")
+            + (f"; minisat {beside('implied', clauses, 1 / per, outside['propagations'][1], beyond)}" if outside else "")
         )
         if clauses == MARKED and 1 / per < LEAST_PER_SECOND:
             beyond.append(f"{clauses} clauses: {1 / per:,.0f} implied a second are below {LEAST_PER_SECOND:,}")
@@ -130,11 +147,11 @@ def searches(family, beyond):
         spent, _, decisions, conflicts = best(family, size)
         per = max(spent - making, 0.0005) / max(conflicts, 1)
         smallest = smallest or per
-        beside = minisat(*globals()[family](size))
+        outside = minisat(*globals()[family](size))
         print(
             f"{family:>9} {size:>5}: {made:>7} clauses, {decisions:>7} decisions, {conflicts:>6} conflicts, "
             f"{1 / per:>8,.0f} a second, ratio {per / smallest:5.2f}"
-            + (f"; minisat {beside['conflicts'][0]} conflicts, {beside['conflicts'][1]:,} a second" if beside else "")
+            + (f"; minisat {outside['conflicts'][0]} conflicts, {beside(family, size, 1 / per, outside['conflicts'][1], beyond)}" if outside else "")
         )
         if made in MARKED_CLAUSES and 1 / per < LEAST_CONFLICTS:
             beyond.append(f"{family} {size}: {1 / per:,.0f} conflicts a second are below {LEAST_CONFLICTS:,}")
