@@ -3,5 +3,6 @@ mod Putting
 mod Places
 mod Finding
 mod Replacing
+mod Beside
 mod Counting
 mod Meeting

@@ -44,20 +44,23 @@ true_by vars given old new lits takes within is = record {
       (All-contains (λ lit. Contains vars (var_of lit)) lits is.lit within is.is_in) is.is_true;
 }
 
-module _ (p : PartedSpec) (parted : IsParted (numbers_in p) p) (part other : ℕ) (differ : other ≡ part → ⊥)
-    (given : List (Option Bool)) (old new : List Bool) (takes : Takes (vars_in p part) given old new) where
-  -- a variable of another part has the truth that it had
-  kept_there : (var : ℕ) → Contains (vars_in p other) var → slice_get new var ≡ slice_get old var
-  kept_there var has =
-      takes.kept var (λ here.
-      differ (disjoint p.spec (variables_in p) p.ties p.parts other part var parted.parts has here))
+-- a variable of another part has the truth that it had
+kept_there : (p : PartedSpec) → IsParted (numbers_in p) p → (part other : ℕ) → (other ≡ part → ⊥) → (given : List (Option Bool))
+    → (old new : List Bool) → Takes (vars_in p part) given old new → (var : ℕ) → Contains (vars_in p other) var
+    → slice_get new var ≡ slice_get old var
+kept_there p parted part other differ given old new takes var has =
+    takes.kept var (λ here.
+    differ (disjoint p.spec (variables_in p) p.ties p.parts other part var parted.parts has here))
 
-  still_true : (lits : List Lit) → All (λ lit. Contains (vars_in p other) (var_of lit)) lits → IsClauseTrue old lits
+-- where no truth of a part changes, what was right on it is
+module _ (p : PartedSpec) (parted : IsParted (numbers_in p) p) (other : ℕ) (old new : List Bool)
+    (same : (var : ℕ) → Contains (vars_in p other) var → slice_get new var ≡ slice_get old var) where
+  pub still_true : (lits : List Lit) → All (λ lit. Contains (vars_in p other) (var_of lit)) lits → IsClauseTrue old lits
       → IsClauseTrue new lits
   still_true lits within is = record {
     lit = is.lit;
     is_in = is.is_in;
-    is_true = kept_there (var_of is.lit) (All-contains (λ lit. Contains (vars_in p other) (var_of lit)) lits
+    is_true = same (var_of is.lit) (All-contains (λ lit. Contains (vars_in p other) (var_of lit)) lits
         is.lit within is.is_in)
         ∙ is.is_true;
   }
@@ -71,9 +74,9 @@ module _ (p : PartedSpec) (parted : IsParted (numbers_in p) p) (part other : ℕ
       ap (label_at p.ties) (cell_at p.spec.relations rel.0 t.0 r ent is.is_relation of) ∙ is.of_part in
       let var = said_part p.spec p.wanted p.ties put.lit (before rel attr t u) other put.says about in
       let has = in_list p.spec (variables_in p) p.ties p.parts parted.parts parted.ties other (var_of put.lit) var in
-      record { lit = put.lit; says = put.says; is_true = kept_there (var_of put.lit) has ∙ put.is_true }
+      record { lit = put.lit; says = put.says; is_true = same (var_of put.lit) has ∙ put.is_true }
 
-  still_ordered : (rel : RelId) (attr : AttrId) (ent : ℕ) (r : Relation) (list : List RowId) → IsListIn p other rel attr ent r
+  pub still_ordered : (rel : RelId) (attr : AttrId) (ent : ℕ) (r : Relation) (list : List RowId) → IsListIn p other rel attr ent r
       → IsOrdered (contest_of (numbers_in p) old rel attr r ent) list
       → IsOrdered (contest_of (numbers_in p) new rel attr r ent) list
   still_ordered rel attr ent r list is ordered = record {
@@ -191,12 +194,14 @@ module _ (p : PartedSpec) (parted : IsParted (numbers_in p) p) (k : KnownModel) 
     right_there : (other : ℕ) → (other ≡ part → ⊥) → IsRightOn p k.truths k.completion other → IsRightOn p truths c other
     right_there other differ right = record {
       axioms = λ lits is.
-          still_true p parted part other differ given k.truths truths takes lits is.within (right.axioms lits is);
+          still_true p parted other k.truths truths (kept_there p parted part other differ given k.truths truths takes) lits
+          is.within (right.axioms lits is);
       lists = λ rel attr ent r is.
           subst (IsOrdered (contest_of (numbers_in p) truths rel attr r ent))
           (sym (list_kept p part truths d finds k.completion c put rel.0 attr.0 ent
           (λ of. differ (same_Some other part (sym is.of_part ∙ of)))))
-          (still_ordered p parted part other differ given k.truths truths takes rel attr ent r
+          (still_ordered p parted other k.truths truths (kept_there p parted part other differ given k.truths truths takes) rel
+          attr ent r
           (ranking_of k.completion rel.0 attr.0 ent) is (right.lists rel attr ent r is));
     }
 

@@ -37,6 +37,11 @@ pub record Takes (vars : List ℕ) (given : List (Option Bool)) (old new : List 
       → slice_get new var ≡ Some value
   pub kept : (var : ℕ) → (Contains vars var → ⊥) → slice_get new var ≡ slice_get old var
 
+-- a variable that is of no part has a value
+pub record IsBeside (p : PartedSpec) (given : List (Option Bool)) (var : ℕ) : Type 0 where
+  pub has_value : HasValue given var
+  pub of_none : (part : ℕ) → Contains (vars_in p part) var → ⊥
+
 -- ---- what becomes of the model
 
 -- the part has these values and lists that follow from them, and is done; the others are as they were

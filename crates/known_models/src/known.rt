@@ -1,7 +1,7 @@
-ghost use Rattle.std.specs.Prelude.{◌≡◌, ◌<◌, ◌↔◌, true, false, length, replicate, slice_set, IfOk, IfNone, IfSome, OnErr};
+ghost use Rattle.std.specs.Prelude.{◌≡◌, ◌<◌, ◌↔◌, ℕ, All, Contains, true, false, length, replicate, slice_get, slice_set, IfOk, IfNone, IfSome, OnErr, Some};
 ghost use Rattle.spec_model.specs.Blank.{blank_of};
 ghost use Rattle.known_models.specs.Known.{IsKnown, IsWhole, variables_in, vars_in};
-ghost use Rattle.known_models.specs.Changes.{AreBelied, AreModelOf, IsReplaced, Takes, left_in};
+ghost use Rattle.known_models.specs.Changes.{AreBelied, AreModelOf, IsBeside, IsReplaced, Takes, left_in};
 ghost use Rattle.known_models.specs.Ranked.{FindsPart};
 
 use crate::draft::Draft;
@@ -86,6 +86,44 @@ impl KnownModel {
         ensures { (result ≡ true) ↔ IsWhole self.now }
     {
         self.left == 0
+    }
+
+    /// Is a part done? Takes constant time.
+    pub fn is_done(&self, part: u32) -> bool
+        requires { part < length self.now.done }
+        ensures { slice_get self.now.done part ≡ Some result }
+    {
+        self.done[part as usize]
+    }
+
+    /// Makes the truths of variables that are of no part what their values are. No part is made anew by that.
+    pub fn take_beside(&mut self, parted: &PartedSpec<'_>, vars: &[u32], values: &Values)
+        requires known { IsKnown parted.now self.old }
+        requires many { length values.now.given ≡ length (variables_in parted.now) }
+        requires beside { All (IsBeside parted.now values.now.given) vars.now }
+        ensures known { IsKnown parted.now self.new }
+        ensures truths { Takes vars.now values.now.given self.old.truths self.new.truths }
+        ensures completion { self.new.completion ≡ self.old.completion }
+        ensures done { self.new.done ≡ self.old.done }
+    {
+        parted.facts();
+        put_values(&mut self.truths, vars, values);
+        make_same(&mut self.trial, vars, &self.truths);
+    }
+
+    /// Gives a variable that is of no part a truth.
+    pub fn set_beside(&mut self, parted: &PartedSpec<'_>, var: u32, truth: bool)
+        requires known { IsKnown parted.now self.old }
+        requires within { var < length (variables_in parted.now) }
+        requires beside { (part : ℕ) → Contains (vars_in parted.now part) var → ⊥ }
+        ensures known { IsKnown parted.now self.new }
+        ensures truths { self.new.truths ≡ slice_set self.old.truths var truth }
+        ensures completion { self.new.completion ≡ self.old.completion }
+        ensures done { self.new.done ≡ self.old.done }
+    {
+        parted.facts();
+        self.truths.set(var, truth);
+        self.trial.set(var, truth);
     }
 
     /// Makes a part anew, by values that are a model of it. Where the lists of the part have an order, it is done: its

@@ -24,6 +24,8 @@ use Rattle.watch_solver.specs.Decided.{HasGrown, IsLearnedAfter, Solver}
 use Rattle.search_logs.specs.SearchLogs.{IsPosed, IsSearchStep}
 use Rattle.order_search.specs.Kept.{AreBrought, ArePlain, HasAdded, HasAxioms, HaveThrees, IsAxiomOf, IsFitAxiom, IsHeld, IsPlain, posed_of, vars_of}
 use Rattle.order_search.specs.Searches.{Subject}
+use Rattle.order_search.specs.Tied.{AreTied, IsTied, IsTiedStep, KeepsTied}
+use Rattle.order_search.specs.declared.parting.Parting.{Parting}
 
 -- ---- lists
 
@@ -329,25 +331,34 @@ plain_axiom s (Learn lits hints counted) is = record {}
 pub all_plain : (s : Subject) (axioms : List Step) → All (IsAxiomOf s) axioms → ArePlain s axioms
 all_plain s axioms all = λ k d h. plain_axiom s (get_or axioms k d) (all k d h)
 
-pub plain_axioms : (s : Subject) (old new : List Step) → HasAxioms s old new → ArePlain s old → ArePlain s new
-plain_axioms s old new has plain =
-    subst (ArePlain s) (sym has.steps) (All-append (IsPlain s) old has.axioms plain (all_plain s has.axioms has.are_axioms))
+tied_plain : (s : Subject) (g : Parting) (taken : Step) → IsPlain s taken → IsTiedStep s g taken
+tied_plain s g (Axiom l lits) is = inl is
+tied_plain s g (OnDemand l lits) is = absurd is
+tied_plain s g (Learn lits hints counted) is = record {}
 
-plain_learned : (s : Subject) (vars : ℕ) (earlier : List (List Lit)) (taken : Step) → IsLearnedAfter vars earlier taken
-    → IsPlain s taken
-plain_learned s vars earlier (Axiom l lits) learned = absurd learned
-plain_learned s vars earlier (OnDemand l lits) learned = absurd learned
-plain_learned s vars earlier (Learn lits hints counted) learned = record {}
+pub plain_tied : (s : Subject) (g : Parting) (steps : List Step) → ArePlain s steps → AreTied s g steps
+plain_tied s g steps plain = λ k d h. tied_plain s g (get_or steps k d) (plain k d h)
 
-pub plain_grown : (s : Subject) (vars : ℕ) (old new : List Step) → HasGrown vars old new → ArePlain s old → ArePlain s new
-plain_grown s vars old new grown plain = λ k d h. go k d h (cases_lt k (length old))
+pub tied_axioms : (s : Subject) (old new : List Step) → HasAxioms s old new → KeepsTied s old new
+tied_axioms s old new has g tied =
+    subst (AreTied s g) (sym has.steps)
+    (All-append (IsTiedStep s g) old has.axioms tied (plain_tied s g has.axioms (all_plain s has.axioms has.are_axioms)))
+
+tied_learned : (s : Subject) (g : Parting) (vars : ℕ) (earlier : List (List Lit)) (taken : Step)
+    → IsLearnedAfter vars earlier taken → IsTiedStep s g taken
+tied_learned s g vars earlier (Axiom l lits) learned = absurd learned
+tied_learned s g vars earlier (OnDemand l lits) learned = absurd learned
+tied_learned s g vars earlier (Learn lits hints counted) learned = record {}
+
+pub tied_grown : (s : Subject) (vars : ℕ) (old new : List Step) → HasGrown vars old new → KeepsTied s old new
+tied_grown s vars old new grown g tied = λ k d h. go k d h (cases_lt k (length old))
   where
-    go : (k : ℕ) (d : Step) → k < length new → (k < length old) ⊎ (length old ≤ k) → IsPlain s (get_or new k d)
+    go : (k : ℕ) (d : Step) → k < length new → (k < length old) ⊎ (length old ≤ k) → IsTiedStep s g (get_or new k d)
     go k d h (inl below) =
         let at = stood old grown.added new k (get_or new k d) grown.steps below (slice_get-get_or new k d h) in
-        subst (IsPlain s) (get_or_from_slice_get old k (get_or new k d) d at) (plain k d below)
+        subst (IsTiedStep s g) (get_or_from_slice_get old k (get_or new k d) d at) (tied k d below)
     go k d h (inr above) =
-        plain_learned s vars (clauses_of (take k new)) (get_or new k d)
+        tied_learned s g vars (clauses_of (take k new)) (get_or new k d)
         (grown.learned k (get_or new k d) above (slice_get-get_or new k d h))
 
 -- ---- nothing that is added
@@ -360,8 +371,12 @@ pub held_same : (s : Subject) (solver new : Solver) (brought : List Bool) → Is
 held_same s solver new brought held frame steps =
     held_axioms s solver new brought held frame (has_none s solver.steps new.steps steps)
 
-pub plain_same : (s : Subject) (old new : List Step) → new ≡ old → ArePlain s old → ArePlain s new
-plain_same s old new same plain = subst (ArePlain s) (sym same) plain
+pub tied_same : (s : Subject) (old new : List Step) → new ≡ old → KeepsTied s old new
+tied_same s old new same g tied = subst (AreTied s g) (sym same) tied
+
+-- what is kept of parts and answers
+pub tied_with : (s : Subject) (g : Parting) (old new : List Step) → IsTied s g old → KeepsTied s old new → IsTied s g new
+tied_with s g old new tied keeps = record { parting = tied.parting; members = tied.members; are_tied = keeps g tied.are_tied }
 
 -- ---- what a solver learns is added
 

@@ -1,12 +1,11 @@
 -- The literals of a list's rows, and steps that are derived of them.
 use Rattle.std.proofs.Common.{◌≡◌, ◌≢◌, ◌<◌, ◌∙◌, ◌+◌, ℕ, Bool, true, false, cond, List, [], ◌∷◌, ◌++◌, All, Ok, Err, OnOk, Result, Some, get_or, length, take, slice_get, refl, sym, ap, subst, inl, inr, ⊎_elim, arith}
 use Rattle.std.proofs.lemmas.Bool.{cases_eq, false≢true}
-use Rattle.std.proofs.lemmas.List.{get_or_append_left, length-append, length-map, map-append}
+use Rattle.std.proofs.lemmas.List.{get_or_append_left, length-append, map-append}
 use Rattle.std.proofs.Math.Seq.{get_or-append_seam}
 use Rattle.std.proofs.lemmas.List.Elements.{All-append, All-cons, All-contains, All-head, All-nil, Contains-get_or}
 use Rattle.std.proofs.lemmas.List.Sums.{sum_by-append}
 use Rattle.std.proofs.lemmas.Option.{get_or_from_slice_get, slice_get-get_or, slice_get_within}
-use Rattle.currency_base.specs.Lists.{OnlyOnce}
 use Rattle.currency_base.specs.Literals.{negation, var_of}
 use Rattle.currency_base.specs.declared.ids.AttrId.{AttrId}
 use Rattle.currency_base.specs.declared.ids.RelId.{RelId}
@@ -33,8 +32,9 @@ use Rattle.watch_solver.specs.Decided.{Solver}
 use Rattle.last_rows.specs.Rows.{AreApart, AreDerived, AreWithin, IsOfRows, IsRowClause, IsSomeCurrent, Literals, lit_of, literals_of}
 use Rattle.last_rows.specs.declared.rows.RowList.{RowList}
 use Rattle.last_rows.proofs.Below.{IsPairOf, IsTopOf, lit_how}
-use Rattle.order_search.specs.Kept.{ArePlain, IsPlain, posed_of, vars_of}
-use Rattle.order_search.specs.Lasting.{AreAllRowsOf, AreFree, AreSaid, EachIs, IsDerivation, IsNextStep, KeepsHeldBy, KeepsPlain, SaysBefore}
+use Rattle.order_search.specs.Kept.{posed_of, vars_of}
+use Rattle.order_search.specs.Tied.{AreTied, IsTiedStep}
+use Rattle.order_search.specs.Lasting.{AreAllRowsOf, AreFree, AreSaid, EachIs, IsDerivation, IsNextStep, KeepsHeldBy, KeepsAllTied, SaysBefore}
 use Rattle.order_search.specs.Searches.{Subject}
 use Rattle.order_search.proofs.Growing.{has_none, held_axioms, held_next, one_next}
 
@@ -367,16 +367,16 @@ pub same_keeps : (old new : Solver) (steps : List Step) → new.frame ≡ old.fr
 same_keeps old new steps frame same s free brought held =
     held_axioms s old new brought held frame (has_none s old.steps new.steps same)
 
-pub plain_then : (a b c : Solver) → KeepsPlain a b → KeepsPlain b c → KeepsPlain a c
-plain_then a b c one other s plain = other s (one s plain)
+pub tied_then : (a b c : Solver) → KeepsAllTied a b → KeepsAllTied b c → KeepsAllTied a c
+tied_then a b c one other s g tied = other s g (one s g tied)
 
-pub put_plain : (old new : Solver) (lits : List Lit) (hints : List ℕ) → new.steps ≡ old.steps ++ Learn lits hints false ∷ []
-    → KeepsPlain old new
-put_plain old new lits hints is s plain =
+pub put_tied : (old new : Solver) (lits : List Lit) (hints : List ℕ) → new.steps ≡ old.steps ++ Learn lits hints false ∷ []
+    → KeepsAllTied old new
+put_tied old new lits hints is s g tied =
     let taken = Learn lits hints false in
-    let one : IsPlain s taken = record {} in
-    subst (ArePlain s) (sym is) (All-append (IsPlain s) old.steps (taken ∷ []) plain
-    (All-cons (IsPlain s) taken [] one (All-nil (IsPlain s))))
+    let one : IsTiedStep s g taken = record {} in
+    subst (AreTied s g) (sym is) (All-append (IsTiedStep s g) old.steps (taken ∷ []) tied
+    (All-cons (IsTiedStep s g) taken [] one (All-nil (IsTiedStep s g))))
 
 -- a step that is not counted counts for nothing
 pub counted_same : (old new : List Step) (lits : List Lit) (hints : List ℕ) → new ≡ old ++ Learn lits hints false ∷ []

@@ -13,3 +13,6 @@ mod PartTold
 mod PartNumbers
 mod AnyOrder
 mod Lasts
+mod TiedSteps
+mod Moves
+mod Members

@@ -1,5 +1,5 @@
 -- The axiom of a match is put after the steps: what a search keeps stays so, and where the search demands it, it is new.
-use Rattle.std.proofs.Common.{◌≡◌, ◌∙◌, ◌<◌, ◌+◌, ℕ, Bool, true, false, not, cond, if◌then◌else◌, List, [], ◌∷◌, ◌++◌, Contains, Some, get_or, length, slice_get, inr, ⊎_elim, refl, sym, ap, subst, arith}
+use Rattle.std.proofs.Common.{◌≡◌, ◌∙◌, ◌<◌, ◌+◌, ℕ, Bool, true, false, not, cond, if◌then◌else◌, List, [], ◌∷◌, ◌++◌, Contains, Option, Some, IfSome, get_or, length, slice_get, inr, ⊎_elim, refl, sym, ap, subst, arith}
 use Rattle.std.specs.Cmp.{IsTotalOrder}
 use Rattle.std.specs.Cmp.Lexicographic.{slice_cmp}
 use Rattle.std.specs.Ordering.{ordering_reverse}
@@ -35,6 +35,8 @@ use Rattle.search_state.specs.States.{IsFit}
 use Rattle.watch_solver.specs.Decided.{Solver, axiom_step, truth_in}
 use Rattle.order_search.specs.Kept.{AreLitsFor, HasMatched, IsHeld, IsMatchFor, posed_of, search_of, vars_of}
 use Rattle.order_search.specs.Searches.{IsAnswerCounter, IsMatchOf, Subject}
+use Rattle.order_search.specs.Tied.{HasMatchedIn, IsAnswerVar, LieIn}
+use Rattle.variable_parts.specs.Parts.{Parted}
 use Rattle.order_search.proofs.Falsified.{new_demand}
 use Rattle.order_search.proofs.Growing.{held_axioms, held_next, has_none, one_next}
 
@@ -202,15 +204,29 @@ match_fit s c m answer asked statements same lits lent are e =
     subst (λ (xs : List Statement). IsFit (length xs) lent) (sym same)
     (subst (IsFit (length (vars_of s))) (sym e) (record { within = its.within; once = its.once }))
 
-pub match_put : (s : Subject) (c : Rankings) (m : Match) (answer : ℕ) (counted : Bool) (lits lent : List Lit)
-    (entities : List EntId) (values : List Value)
+put_steps : (m : Match) (counted : Bool) (lits lent : List Lit) (entities : List EntId) (values : List Value) (old new : List Step)
+    → lent ≡ lits → entities ≡ m.entities → values ≡ m.values
+    → new ≡ old ++ axiom_step (label.Match m.disjunct entities values) lent counted ∷ []
+    → new ≡ old ++ axiom_step (label.Match m.disjunct m.entities m.values) lits counted ∷ []
+put_steps m counted lits lent entities values old new same of_entities of_values e =
+    e ∙ ap (λ (xs : List Lit). old ++ axiom_step (label.Match m.disjunct entities values) xs counted ∷ []) same
+    ∙ ap (λ (xs : List EntId). old ++ axiom_step (label.Match m.disjunct xs values) lits counted ∷ []) of_entities
+    ∙ ap (λ (xs : List Value). old ++ axiom_step (label.Match m.disjunct m.entities xs) lits counted ∷ []) of_values
+
+-- its literals lie in a part beside the answer's, if one is told
+pub match_put : (s : Subject) (p : Parted) (home : Option ℕ) (var : ℕ) (c : Rankings) (m : Match) (answer : ℕ) (counted : Bool)
+    (lits lent seen : List Lit) (entities : List EntId) (values : List Value)
     (old new : List Step) → AreLitsFor s c m answer lits → lent ≡ lits → entities ≡ m.entities → values ≡ m.values
-    → new ≡ old ++ axiom_step (label.Match m.disjunct entities values) lent counted ∷ [] → HasMatched s c m answer counted old new
-match_put s c m answer counted lits lent entities values old new are same of_entities of_values e = record {
-  lits = lits;
-  are_lits = are;
-  steps =
-      e ∙ ap (λ (xs : List Lit). old ++ axiom_step (label.Match m.disjunct entities values) xs counted ∷ []) same
-      ∙ ap (λ (xs : List EntId). old ++ axiom_step (label.Match m.disjunct xs values) lits counted ∷ []) of_entities
-      ∙ ap (λ (xs : List Value). old ++ axiom_step (label.Match m.disjunct m.entities xs) lits counted ∷ []) of_values;
-}
+    → new ≡ old ++ axiom_step (label.Match m.disjunct entities values) lent counted ∷ [] → IsAnswerVar s answer var → seen ≡ lits
+    → IfSome home (λ part. LieIn p part var seen) → HasMatchedIn s p home c m answer counted old new
+match_put s p home var c m answer counted lits lent seen entities values old new are same of_entities of_values e says of_seen lie =
+    record {
+      matched = record {
+        lits = lits;
+        are_lits = are;
+        steps = put_steps m counted lits lent entities values old new same of_entities of_values e;
+      };
+      var = var;
+      says = says;
+      home_is = subst (λ (xs : List Lit). IfSome home (λ part. LieIn p part var xs)) of_seen lie;
+    }

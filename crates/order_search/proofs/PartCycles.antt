@@ -15,12 +15,14 @@ use Rattle.variable_parts.proofs.Staying.{in_list}
 use Rattle.search_trail.specs.Trails.{ScopedValues, Trail, values_of}
 use Rattle.watch_solver.specs.Decided.{Solver}
 use Rattle.known_models.specs.Changes.{AreBelied}
-use Rattle.known_models.specs.Known.{KnownModel, PartedSpec}
+use Rattle.known_models.specs.Known.{KnownModel}
 use Rattle.order_search.specs.Kept.{AreTrueOn, IsOfList, IsOnList, vars_of}
 use Rattle.order_search.specs.Parts.{AreParts, parted_of}
 use Rattle.order_search.specs.Searches.{Subject}
+use Rattle.order_search.specs.Tied.{AreMembers, scope_in}
+use Rattle.order_search.specs.declared.parting.Parting.{Parting}
 use Rattle.order_search.proofs.Cycles.{of_lists}
-use Rattle.order_search.proofs.PartValues.{IsOnPart, takes_true}
+use Rattle.order_search.proofs.PartValues.{IsOnPart, of_scope, takes_true}
 
 -- what a literal on a list says
 abbrev said_on : (s : Subject) (c : Cycle) (lit : Lit) → IsOnList s c lit → Said
@@ -49,31 +51,33 @@ module _ (s : Subject) (p : Parted) (part : ℕ) (c : Cycle) (label : label_of p
   list_lit are = in_list s.spec (vars_of s) p.ties p.parts are.parts are.ties part (var_of lit) (var_here on.says)
 
 -- so the clauses on it are true under truths that take the part's values
-pub part_on : (s : Subject) (p : Parted) (solver : Solver) (goal : Option Lit) (part : ℕ) (are : AreParts s p)
-    → IsOnPart s p solver goal part → (old : KnownModel) (cycles : List Cycle)
-    → (belied : AreBelied (parted_of s p) (values_of solver.trail).given part old cycles)
+pub part_on : (s : Subject) (g : Parting) (solver : Solver) (goal : Option Lit) (part : ℕ) (are : AreParts s g.parts)
+    → AreMembers s g → IsOnPart s g solver goal part → (cycles : List Cycle)
+    → (belied : AreBelied (parted_of s g.parts) (values_of solver.trail).given part g.known cycles)
     → All (AreTrueOn s belied.truths solver.steps) cycles
-part_on s p solver goal part are is old cycles belied =
-    All-weaker (λ c. label_of p.ties (cell c.rel.0 c.ent.0) ≡ Some part) (AreTrueOn s belied.truths solver.steps) each cycles
-    belied.round.of_part
+part_on s g solver goal part are members is cycles belied =
+    All-weaker (λ c. label_of g.parts.ties (cell c.rel.0 c.ent.0) ≡ Some part) (AreTrueOn s belied.truths solver.steps) each
+    cycles belied.round.of_part
   where
-    each : (c : Cycle) → label_of p.ties (cell c.rel.0 c.ent.0) ≡ Some part → AreTrueOn s belied.truths solver.steps c
+    each : (c : Cycle) → label_of g.parts.ties (cell c.rel.0 c.ent.0) ≡ Some part → AreTrueOn s belied.truths solver.steps c
     each c label lits is_in on =
-        takes_true s p solver goal part are is old.truths belied.truths belied.takes lits is_in
-        (All-weaker (IsOnList s c) (λ lit. Contains (list_at p.parts part) (var_of lit))
-        (λ lit here. list_lit s p part c label lit here are) lits on)
+        takes_true s g solver goal part are members is (list_at g.parts.parts part) g.known.truths belied.truths belied.takes lits
+        is_in
+        (All-weaker (IsOnList s c) (λ lit. Contains (scope_in g part) (var_of lit))
+        (λ lit here. of_scope s g solver goal part are members is (var_of lit) (list_lit s g.parts part c label lit here are)) lits on)
+        (All-weaker (IsOnList s c) (λ lit. Contains (list_at g.parts.parts part) (var_of lit))
+        (λ lit here. list_lit s g.parts part c label lit here are) lits on)
 
 -- as it is told
-pub belied_as : (s : Subject) (p : Parted) (solver : Solver) (part : ℕ) (old : KnownModel) (cycles : List Cycle) (q : PartedSpec)
-    (v : ScopedValues) (t : Trail) → q ≡ parted_of s p → v ≡ values_of t → t ≡ solver.trail → AreBelied q v.given part old cycles
-    → AreBelied (parted_of s p) (values_of solver.trail).given part old cycles
-belied_as s p solver part old cycles q v t same_parted same_values same_trail belied =
-    subst (λ (x : ScopedValues). AreBelied (parted_of s p) x.given part old cycles) (same_values ∙ ap values_of same_trail)
-    (subst (λ (x : PartedSpec). AreBelied x v.given part old cycles) same_parted belied)
+pub belied_as : (s : Subject) (g : Parting) (solver : Solver) (part : ℕ) (cycles : List Cycle)
+    (v : ScopedValues) (t : Trail) → v ≡ values_of t → t ≡ solver.trail
+    → AreBelied (parted_of s g.parts) v.given part g.known cycles
+    → AreBelied (parted_of s g.parts) (values_of solver.trail).given part g.known cycles
+belied_as s g solver part cycles v t same_values same_trail belied =
+    subst (λ (x : ScopedValues). AreBelied (parted_of s g.parts) x.given part g.known cycles)
+    (same_values ∙ ap values_of same_trail) belied
 
 -- the cycles are of lists
 pub belied_lists : (s : Subject) (p : Parted) (given : List (Option Bool)) (part : ℕ) (old : KnownModel) (cycles : List Cycle)
-    (q : PartedSpec) → q ≡ parted_of s p → AreBelied q given part old cycles → All (IsOfList s) cycles
-belied_lists s p given part old cycles q same belied =
-    let here = subst (λ (x : PartedSpec). AreBelied x given part old cycles) same belied in
-    of_lists s here.truths cycles here.round.each
+    → AreBelied (parted_of s p) given part old cycles → All (IsOfList s) cycles
+belied_lists s p given part old cycles here = of_lists s here.truths cycles here.round.each

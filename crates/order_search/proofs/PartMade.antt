@@ -6,19 +6,19 @@ use Rattle.std.proofs.lemmas.Option.{IfSome_then, get_or_from_slice_get, none-so
 use Rattle.currency_base.specs.Literals.{is_negative, negation, var_of}
 use Rattle.currency_base.specs.declared.lit.Lit.{Lit}
 use Rattle.order_literals.proofs.Sayings.{negation_sign, negation_var, not_not}
-use Rattle.entity_ties.specs.Parts.{list_at}
-use Rattle.variable_parts.specs.Laws.{PartsAreDisjoint}
-use Rattle.variable_parts.specs.Parts.{Parted}
+use Rattle.variable_parts.specs.Laws.{AnswersHaveNone, PartsAreDisjoint}
 use Rattle.search_trail.specs.Trails.{ScopedValues, Trail, lits_of, values_of}
 use Rattle.watch_solver.specs.Decided.{Solver}
-use Rattle.known_models.specs.Changes.{IsReplaced}
-use Rattle.known_models.specs.Known.{IsWhole, KnownModel, PartedSpec}
-use Rattle.order_search.specs.Kept.{vars_of}
-use Rattle.order_search.specs.Parts.{Ends, IsFalseIn, IsMade, IsParting, parted_of}
+use Rattle.known_models.specs.Known.{IsWhole}
+use Rattle.order_search.specs.Made.{HasSame, HasTakenIn, IsFalseIn, IsMade}
+use Rattle.order_search.specs.Parts.{AreParts, Ends, IsParting}
 use Rattle.order_search.specs.Searches.{Search, Subject, Tells}
+use Rattle.order_search.specs.Tied.{AreMembers, scope_in}
+use Rattle.order_search.specs.declared.parting.Parting.{Parting}
 use Rattle.order_search.specs.declared.outcome.Outcome.{Outcome}
 use Rattle.order_search.specs.declared.outcome.Outcome.TheVariants.{Model, Proved, Empty, Spent}
 use Rattle.order_search.proofs.PartValues.{IsOnPart, true_value}
+use Rattle.order_search.proofs.TiedSteps.{same_scope, scopes_apart}
 
 -- ---- which parts are done
 
@@ -44,22 +44,21 @@ done_other done part other is = by (cases_eq other part)
 
 -- ---- a part is made anew
 
-pub made_of : (s : Subject) (p : Parted) (solver : Solver) (goal : Option Lit) (part : ℕ) → IsOnPart s p solver goal part
-    → part < length p.parts → IfSome goal (λ lit. Contains (list_at p.parts part) (var_of lit)) → (old new : KnownModel)
-    → IsParting s p old → IsReplaced (parted_of s p) (values_of solver.trail).given part old new
-    → IsMade (parted_of s p) part goal old new
-made_of s p solver goal part is within of_goal old new parting replaced = record {
-  known = replaced.known;
-  done = replaced.done;
-  others = replaced.truths.kept;
+pub made_of : (s : Subject) (g : Parting) (solver : Solver) (goal : Option Lit) (part : ℕ) → IsOnPart s g solver goal part
+    → IfSome goal (λ lit. Contains (scope_in g part) (var_of lit)) → (new : Parting)
+    → HasTakenIn s part (values_of solver.trail).given g new → IsMade part goal g new
+made_of s g solver goal part is of_goal new taken = record {
+  same = taken.same;
+  done = taken.done;
+  others = taken.truths.kept;
   goal_false = λ lit e. false_lit lit e;
 }
   where
-    false_lit : (lit : Lit) → goal ≡ Some lit → IsFalseIn (parted_of s p) new (Some part) lit
+    false_lit : (lit : Lit) → goal ≡ Some lit → IsFalseIn new (Some part) lit
     false_lit lit e =
-        let in_part : Contains (list_at p.parts part) (var_of lit) =
-        (subst (λ (g : Option Lit). IfSome g (λ l. Contains (list_at p.parts part) (var_of l))) e of_goal) in
-        let told = subst (λ (g : Option Lit). IfSome g (λ l. Contains (lits_of solver.trail) (negation l))) e is.on.goal_false in
+        let in_part : Contains (scope_in g part) (var_of lit) =
+        (subst (λ (x : Option Lit). IfSome x (λ l. Contains (scope_in g part) (var_of l))) e of_goal) in
+        let told = subst (λ (x : Option Lit). IfSome x (λ l. Contains (lits_of solver.trail) (negation l))) e is.on.goal_false in
         let value = true_value solver.trail is.entries (negation lit) told in
         let same : slice_get (values_of solver.trail).given (var_of lit) ≡ Some (Some (is_negative lit)) =
         ap (slice_get (values_of solver.trail).given) (sym (negation_var lit)) ∙ value
@@ -67,56 +66,39 @@ made_of s p solver goal part is within of_goal old new parting replaced = record
         record {
           part = part;
           is_own = refl;
-          of_part = in_part;
-          is_false = replaced.truths.taken (var_of lit) (is_negative lit) in_part same;
+          of_part = subst (λ (vars : List ℕ). Contains vars (var_of lit)) (sym (same_scope g new taken.same part)) in_part;
+          is_false = taken.truths.taken (var_of lit) (is_negative lit) in_part same;
         }
 
 -- as it is told
-pub made_as : (s : Subject) (p : Parted) (solver : Solver) (goal : Option Lit) (part : ℕ) → IsOnPart s p solver goal part
-    → part < length p.parts → IfSome goal (λ lit. Contains (list_at p.parts part) (var_of lit)) → (old new : KnownModel)
-    → IsParting s p old → (q : PartedSpec) (v : ScopedValues) (t : Trail) → q ≡ parted_of s p → v ≡ values_of t
-    → t ≡ solver.trail → IsReplaced q v.given part old new → IsMade (parted_of s p) part goal old new
-made_as s p solver goal part is within of_goal old new parting q v t same_parted same_values same_trail replaced =
-    made_of s p solver goal part is within of_goal old new parting
-    (subst (λ (x : ScopedValues). IsReplaced (parted_of s p) x.given part old new) (same_values ∙ ap values_of same_trail)
-    (subst (λ (x : PartedSpec). IsReplaced x v.given part old new) same_parted replaced))
+pub taken_as : (s : Subject) (g new : Parting) (solver : Solver) (part : ℕ) (v : ScopedValues) (t : Trail) → v ≡ values_of t
+    → t ≡ solver.trail → HasTakenIn s part v.given g new → HasTakenIn s part (values_of solver.trail).given g new
+taken_as s g new solver part v t same_values same_trail taken =
+    subst (λ (x : ScopedValues). HasTakenIn s part x.given g new) (same_values ∙ ap values_of same_trail) taken
 
-pub made_parting : (s : Subject) (p : Parted) (part : ℕ) (goal : Option Lit) (old new : KnownModel) → IsParting s p old
-    → IsMade (parted_of s p) part goal old new → IsParting s p new
-made_parting s p part goal old new parting made = record { parts = parting.parts; few = parting.few; known = made.known }
+pub made_done : (part : ℕ) (goal : Option Lit) (old new : Parting) → part < length old.known.done
+    → IsMade part goal old new → slice_get new.known.done part ≡ Some true
+made_done part goal old new within made =
+    ap (λ (ds : List Bool). slice_get ds part) made.done ∙ done_here old.known.done part within
 
-pub made_done : (s : Subject) (p : Parted) (part : ℕ) (goal : Option Lit) (old new : KnownModel) → IsParting s p old
-    → part < length p.parts → IsMade (parted_of s p) part goal old new → slice_get new.done part ≡ Some true
-made_done s p part goal old new parting within made =
-    ap (λ (ds : List Bool). slice_get ds part) made.done
-    ∙ done_here old.done part (omega (arith, within, parting.known.per_part))
-
-pub made_kept : (p : PartedSpec) (part : ℕ) (goal : Option Lit) (old new : KnownModel) → IsMade p part goal old new
-    → (other : ℕ) → slice_get old.done other ≡ Some true → slice_get new.done other ≡ Some true
-made_kept p part goal old new made other is =
-    ap (λ (ds : List Bool). slice_get ds other) made.done ∙ done_other old.done part other is
+pub made_kept : (part : ℕ) (goal : Option Lit) (old new : Parting) → IsMade part goal old new
+    → (other : ℕ) → slice_get old.known.done other ≡ Some true → slice_get new.known.done other ≡ Some true
+made_kept part goal old new made other is =
+    ap (λ (ds : List Bool). slice_get ds other) made.done ∙ done_other old.known.done part other is
 
 -- a goal that is false in its part stays so where another part is made anew
-false_kept : PartsAreDisjoint → (s : Subject) (p : Parted) (part : ℕ) (own : Option ℕ) (old new : KnownModel)
-    → IsParting s p old → IsMade (parted_of s p) part None old new → (own ≡ Some part → ⊥) → (lit : Lit)
-    → IsFalseIn (parted_of s p) old own lit → IsFalseIn (parted_of s p) new own lit
-false_kept law s p part own old new parting made differ lit f = record {
-  part = f.part;
-  is_own = f.is_own;
-  of_part = f.of_part;
-  is_false = made.others (var_of lit) apart ∙ f.is_false;
-}
-  where
-    apart : Contains (list_at p.parts part) (var_of lit) → ⊥
-    apart here =
-        differ (f.is_own ∙ ap Some (law s.spec (vars_of s) p.ties p.parts f.part part (var_of lit) parting.parts.parts
-        f.of_part here))
-
-pub goal_kept : PartsAreDisjoint → (s : Subject) (p : Parted) (part : ℕ) (own : Option ℕ) (goal : Option Lit)
-    → (old new : KnownModel) → IsParting s p old → IsMade (parted_of s p) part None old new → (own ≡ Some part → ⊥)
-    → IfSome goal (IsFalseIn (parted_of s p) old own) → IfSome goal (IsFalseIn (parted_of s p) new own)
-goal_kept law s p part own goal old new parting made differ false_before =
-    IfSome_then goal false_before (λ lit f. false_kept law s p part own old new parting made differ lit f)
+pub goal_kept : PartsAreDisjoint → AnswersHaveNone → (s : Subject) (part : ℕ) (own : Option ℕ) (goal : Option Lit)
+    → (old new : Parting) → AreParts s old.parts → AreMembers s old → IsMade part None old new → (own ≡ Some part → ⊥)
+    → IfSome goal (IsFalseIn old own) → IfSome goal (IsFalseIn new own)
+goal_kept law none s part own goal old new are members made differ false_before =
+    IfSome_then goal false_before (λ lit f. record {
+      part = f.part;
+      is_own = f.is_own;
+      of_part = subst (λ (vars : List ℕ). Contains vars (var_of lit)) (sym (same_scope old new made.same f.part)) f.of_part;
+      is_false = made.others (var_of lit) (λ here.
+          differ (f.is_own ∙ ap Some (scopes_apart law none s old are members f.part part (var_of lit) f.of_part here)))
+          ∙ f.is_false;
+    })
 
 -- a part was made anew, or nothing was changed: what is so in both cases
 
@@ -137,33 +119,45 @@ ended_then P Q (Ok None) f p = p
 ended_then P Q (Ok (Some o)) f p = f o p
 ended_then P Q (Err x) f p = p
 
-pub kept_after : (p : PartedSpec) (part : ℕ) (goal : Option Lit) (old new : KnownModel)
-    → (IsMade p part goal old new) ⊎ (new ≡ old) → (other : ℕ) → slice_get old.done other ≡ Some true
-    → slice_get new.done other ≡ Some true
-kept_after p part goal old new (inl made) other is = made_kept p part goal old new made other is
-kept_after p part goal old new (inr same) other is = ap (λ (k : KnownModel). slice_get k.done other) same ∙ is
+pub kept_after : (part : ℕ) (goal : Option Lit) (old new : Parting) → (IsMade part goal old new) ⊎ (new ≡ old) → (other : ℕ)
+    → slice_get old.known.done other ≡ Some true → slice_get new.known.done other ≡ Some true
+kept_after part goal old new (inl made) other is = made_kept part goal old new made other is
+kept_after part goal old new (inr same) other is = ap (λ (g : Parting). slice_get g.known.done other) same ∙ is
 
-pub goal_after : PartsAreDisjoint → (s : Subject) (p now : Parted) (part : ℕ) (own : Option ℕ) (goal : Option Lit)
-    → (old new : KnownModel) → now ≡ p → IsParting s p old → (IsMade (parted_of s p) part None old new) ⊎ (new ≡ old)
-    → (own ≡ Some part → ⊥) → IfSome goal (IsFalseIn (parted_of s p) old own) → IfSome goal (IsFalseIn (parted_of s now) new own)
-goal_after law s p now part own goal old new same parting after differ false_before =
-    subst (λ (q : Parted). IfSome goal (IsFalseIn (parted_of s q) new own)) (sym same) (by after)
-  where
-    by : (IsMade (parted_of s p) part None old new) ⊎ (new ≡ old) → IfSome goal (IsFalseIn (parted_of s p) new own)
-    by (inl made) = goal_kept law s p part own goal old new parting made differ false_before
-    by (inr e) = subst (λ (k : KnownModel). IfSome goal (IsFalseIn (parted_of s p) k own)) (sym e) false_before
+pub goal_after : PartsAreDisjoint → AnswersHaveNone → (s : Subject) (part : ℕ) (own : Option ℕ) (goal : Option Lit)
+    → (old new : Parting) → AreParts s old.parts → AreMembers s old → (IsMade part None old new) ⊎ (new ≡ old)
+    → (own ≡ Some part → ⊥) → IfSome goal (IsFalseIn old own) → IfSome goal (IsFalseIn new own)
+goal_after law none s part own goal old new are members (inl made) differ false_before =
+    goal_kept law none s part own goal old new are members made differ false_before
+goal_after law none s part own goal old new are members (inr e) differ false_before =
+    subst (λ (g : Parting). IfSome goal (IsFalseIn g own)) (sym e) false_before
+
+-- what is the same where nothing but the model changed
+pub same_itself : (g : Parting) → HasSame g g
+same_itself g = record { parts = refl; members = refl; ties = refl }
+
+pub same_then : (a b c : Parting) → HasSame a b → HasSame b c → HasSame a c
+same_then a b c one other = record {
+  parts = other.parts ∙ one.parts;
+  members = other.members ∙ one.members;
+  ties = other.ties ∙ one.ties;
+}
+
+pub same_after : (part : ℕ) (goal : Option Lit) (old new : Parting) → (IsMade part goal old new) ⊎ (new ≡ old) → HasSame old new
+same_after part goal old new (inl made) = made.same
+same_after part goal old new (inr e) = subst (λ (g : Parting). HasSame old g) (sym e) (same_itself old)
 
 -- ---- all parts
 
 pub done_none : (done : List Bool) (other : ℕ) → other < 0 → slice_get done other ≡ Some true
 done_none done other below = absurd (omega (arith, below))
 
-pub all_done : (s : Subject) (p : Parted) (k : KnownModel) (count : ℕ) → IsParting s p k → length p.parts ≤ count
-    → ((other : ℕ) → other < count → slice_get k.done other ≡ Some true) → IsWhole k
-all_done s p k count parting past each =
+pub all_done : (s : Subject) (g : Parting) (count : ℕ) → IsParting s g.parts g.known → length g.parts.parts ≤ count
+    → ((other : ℕ) → other < count → slice_get g.known.done other ≡ Some true) → IsWhole g.known
+all_done s g count parting past each =
     λ at d within.
     let h = each at (omega (arith, within, past, parting.known.per_part)) in
-    get_or_from_slice_get k.done at true d h
+    get_or_from_slice_get g.known.done at true d h
 
 pub done_more : (done : List Bool) (count : ℕ) → ((other : ℕ) → other < count → slice_get done other ≡ Some true)
     → slice_get done count ≡ Some true → (other : ℕ) → other < count + 1 → slice_get done other ≡ Some true

@@ -1,7 +1,8 @@
 -- The variables of a part as a scope, all variables as one, and the part of a variable.
-use Rattle.std.proofs.Common.{◌≡◌, ◌<◌, ◌≤◌, ◌+◌, ◌-◌, ◌∙◌, ℕ, zero, suc, List, [], Contains, Option, Some, IfSome, get_or, length, slice_get, sym, ap, subst, arith}
+use Rattle.std.proofs.Common.{◌≡◌, ◌⊎◌, ◌<◌, ◌≤◌, ◌+◌, ◌-◌, ◌∙◌, ℕ, zero, suc, List, [], Contains, Option, Some, IfSome, get_or, length, slice_get, sym, ap, subst, inl, inr, arith}
 use Rattle.std.specs.List.Sorted.{IsStrictlyIncreasing}
 use Rattle.std.proofs.lemmas.List.{same_lists}
+use Rattle.std.proofs.lemmas.List.Elements.{Contains-append_cases}
 use Rattle.std.proofs.lemmas.List.FromFn.{get_or-range_with_len, length-range_with_len}
 use Rattle.std.proofs.lemmas.Option.{IfSome_then, get_or_from_slice_get, same_Some, slice_get-get_or, slice_get_within}
 use Rattle.currency_base.specs.Literals.{var_of}
@@ -36,6 +37,8 @@ use Rattle.watch_propagate.proofs.KeptLists.{contains_at}
 use Rattle.order_search.specs.Kept.{vars_of}
 use Rattle.order_search.specs.Parts.{AreParts, IsRowIn, parted_of}
 use Rattle.order_search.specs.Searches.{Subject}
+use Rattle.order_search.specs.Tied.{AreMembers, scope_in}
+use Rattle.order_search.specs.declared.parting.Parting.{Parting}
 
 -- ---- the scope of a part
 
@@ -80,17 +83,24 @@ pub scope_of_part : (s : Subject) (p : Parted) (part : ℕ) (vars : List ℕ) (s
 scope_of_part s p part vars statements are same at =
     subst (λ (ss : List Statement). IsScope (length ss) vars) (sym same) (part_scope s p part vars are at)
 
--- a goal that is on a part is of the variables
-pub goal_within : (s : Subject) (p : Parted) (part : ℕ) (goal : Option Lit) (statements : List Statement) → AreParts s p
-    → statements ≡ vars_of s → IfSome goal (λ lit. Contains (list_at p.parts part) (var_of lit))
-    → IfSome goal (λ lit. var_of lit < length statements)
-goal_within s p part goal statements are same of = IfSome_then goal of within
+-- a variable that is given a value with a part is there
+pub scope_below : (s : Subject) (g : Parting) (part : ℕ) → AreParts s g.parts → AreMembers s g → (var : ℕ)
+    → Contains (scope_in g part) var → var < length (vars_of s)
+scope_below s g part are members var is_in = by (Contains-append_cases (list_at g.parts.parts part) (list_at g.members part) var is_in)
   where
-    within : (lit : Lit) → Contains (list_at p.parts part) (var_of lit) → var_of lit < length statements
-    within lit is_in =
-        let v = var_of_part s.spec (vars_of s) p.ties p.parts are.parts part (var_of lit) is_in in
-        let below = slice_get_within (vars_of s) (var_of lit) v.statement v.is_statement in
-        omega (arith, below, ap (λ (ss : List Statement). length ss) same)
+    by : Contains (list_at g.parts.parts part) var ⊎ Contains (list_at g.members part) var → var < length (vars_of s)
+    by (inl here) =
+        let v = var_of_part s.spec (vars_of s) g.parts.ties g.parts.parts are.parts part var here in
+        slice_get_within (vars_of s) var v.statement v.is_statement
+    by (inr member) = let m = members.each part var member in slice_get_within (vars_of s) var _ m.says
+
+-- and with it a goal
+pub goal_within : (s : Subject) (g : Parting) (part : ℕ) (goal : Option Lit) (statements : List Statement) → AreParts s g.parts
+    → AreMembers s g → statements ≡ vars_of s → IfSome goal (λ lit. Contains (scope_in g part) (var_of lit))
+    → IfSome goal (λ lit. var_of lit < length statements)
+goal_within s g part goal statements are members same of =
+    IfSome_then goal of (λ lit is_in.
+    subst (λ (ss : List Statement). var_of lit < length ss) (sym same) (scope_below s g part are members (var_of lit) is_in))
 
 -- the list of a part is read at its place
 pub list_is : (parts : List (List ℕ)) (part : ℕ) (vars : List ℕ) → slice_get parts part ≡ Some vars → vars ≡ list_at parts part

@@ -19,8 +19,9 @@ use Rattle.watch_solver.specs.Decided.{Solver}
 use Rattle.search_logs.specs.Free.{IsFreeClause}
 use Rattle.last_rows.specs.Rows.{AreDerived, AreWithin, EndsCurrent, Literals, no_lit}
 use Rattle.last_rows.specs.declared.rows.RowList.{RowList}
-use Rattle.order_search.specs.Kept.{ArePlain, IsHeld, vars_of}
+use Rattle.order_search.specs.Kept.{IsHeld, vars_of}
 use Rattle.order_search.specs.Searches.{Subject}
+use Rattle.order_search.specs.Tied.{KeepsTied}
 
 -- the rows of a list of the specification, each once, in any order
 pub record AreAllRowsOf (s : Subject) (list : ListId) (rows : List RowId) : Type 0 where
@@ -87,5 +88,5 @@ abbrev pub KeepsHeldBy : List Step → Solver → Solver → Type 0
 KeepsHeldBy steps old new = (s : Subject) → AreFree s steps → KeepsHeld s old new
 
 -- where no step of the one solver was brought in by a match, none of the other was
-abbrev pub KeepsPlain : Solver → Solver → Type 0
-KeepsPlain old new = (s : Subject) → ArePlain s old.steps → ArePlain s new.steps
+abbrev pub KeepsAllTied : Solver → Solver → Type 0
+KeepsAllTied old new = (s : Subject) → KeepsTied s old.steps new.steps

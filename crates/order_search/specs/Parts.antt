@@ -1,6 +1,5 @@
 -- A search part by part: what is kept of the parts, and what a decision over one of them comes to.
-use Rattle.std.specs.Prelude.{◌≡◌, ◌<◌, ◌≤◌, ℕ, true, [], ◌∷◌, Contains, Option, Some, length, slice_get, slice_set}
-use Rattle.currency_base.specs.Literals.{is_negative, var_of}
+use Rattle.std.specs.Prelude.{◌≡◌, ◌<◌, ◌≤◌, ℕ, [], ◌∷◌, Option, Some, length, slice_get}
 use Rattle.currency_base.specs.declared.ids.RelId.{RelId}
 use Rattle.currency_base.specs.declared.ids.RowId.{RowId}
 use Rattle.currency_base.specs.declared.lit.Lit.{Lit}
@@ -10,13 +9,11 @@ use Rattle.refutation_log.specs.Counted.{IsOpenLog}
 use Rattle.refutation_log.specs.Steps.{clauses_of}
 use Rattle.entity_ties.specs.Labels.{AreTies}
 use Rattle.variable_parts.specs.Parts.{AreVariableParts, Parted}
-use Rattle.known_models.specs.Known.{IsKnown, KnownModel, PartedSpec, vars_in}
+use Rattle.known_models.specs.Known.{IsKnown, KnownModel, PartedSpec}
 use Rattle.order_search.specs.Kept.{vars_of}
 use Rattle.order_search.specs.Searches.{Search, Subject}
 use Rattle.order_search.specs.declared.outcome.Outcome.{Outcome}
 use Rattle.order_search.specs.declared.outcome.Outcome.TheVariants.{Model, Proved, Empty, Spent}
-use Rattle.order_search.specs.declared.partwise.Round.{Round}
-use Rattle.order_search.specs.declared.partwise.Round.TheVariants.{Done, Again, Ended}
 
 -- a specification, what is numbered of it, and its parts
 abbrev pub parted_of : Subject → Parted → PartedSpec
@@ -39,30 +36,9 @@ pub record IsParting (s : Subject) (p : Parted) (k : KnownModel) : Type 0 where
   pub few : length p.parts ≤ 4294967295
   pub known : IsKnown (parted_of s p) k
 
--- a literal is false by the known truths, and its variable is of this part
-pub record IsFalseIn (p : PartedSpec) (k : KnownModel) (own : Option ℕ) (lit : Lit) : Type 0 where
-  pub part : ℕ
-  pub is_own : own ≡ Some part
-  pub of_part : Contains (vars_in p part) (var_of lit)
-  pub is_false : slice_get k.truths (var_of lit) ≡ Some (is_negative lit)
-
--- a part was made anew, with the goal false: no truth of another part changed
-pub record IsMade (p : PartedSpec) (part : ℕ) (goal : Option Lit) (old new : KnownModel) : Type 0 where
-  pub known : IsKnown p new
-  pub done : new.done ≡ slice_set old.done part true
-  pub others : (var : ℕ) → (Contains (vars_in p part) var → ⊥) → slice_get new.truths var ≡ slice_get old.truths var
-  pub goal_false : (lit : Lit) → goal ≡ Some lit → IsFalseIn p new (Some part) lit
-
 -- a decision ended with no model: what it tells
 abbrev pub Ends : Search → Option Lit → ℕ → Outcome → Type 0
 Ends s goal left (Model truths c) = ⊥
 Ends s goal left (Proved place) = (lit : Lit) × (goal ≡ Some lit) × (slice_get (clauses_of s.log.steps) place ≡ Some (lit ∷ []))
 Ends s goal left (Empty place) = slice_get (clauses_of s.log.steps) place ≡ Some []
 Ends s goal left Spent = (left ≡ 0) × IsOpenLog s.log.steps
-
--- what a round over a part comes to: the part is done; or lists were brought in, so that fewer variables have no mark; or the
--- decision ended with no model
-abbrev pub ComesTo : PartedSpec → ℕ → Option Lit → KnownModel → KnownModel → ℕ → ℕ → Search → ℕ → Round → Type 0
-ComesTo p part goal old new unmarked_old unmarked_new s left Done = IsMade p part goal old new
-ComesTo p part goal old new unmarked_old unmarked_new s left Again = (new ≡ old) × (unmarked_new < unmarked_old)
-ComesTo p part goal old new unmarked_old unmarked_new s left (Ended outcome) = (new ≡ old) × Ends s goal left outcome

@@ -2,7 +2,8 @@ ghost use Rattle.std.specs.Prelude.{◌≡◌, ◌≢◌, ◌≤◌, ◌<◌, �
 ghost use Rattle.refutation_log.specs.Counted.{counted_steps};
 ghost use Rattle.refutation_log.specs.Steps.{step_of};
 ghost use Rattle.completion_build.specs.Ranked.{IsCycle};
-ghost use Rattle.order_search.specs.Kept.{ArePlain, AreTrueOn, Brings, HasAdded, HasAxioms, HaveThrees, IsFitAxiom, IsHeld, IsMarked, IsOfList, unmarked, vars_of};
+ghost use Rattle.order_search.specs.Kept.{AreTrueOn, Brings, HasAdded, HasAxioms, HaveThrees, IsFitAxiom, IsHeld, IsMarked, IsOfList, unmarked, vars_of};
+ghost use Rattle.order_search.specs.Tied.{KeepsTied};
 
 use crate::lasting::add_lasts;
 use crate::progress::Progress;
@@ -28,7 +29,7 @@ pub(crate) fn bring_all(
     ensures held { IsHeld subject.now progress.new.solver progress.new.brought.items }
     ensures added { HasAdded progress.old.solver progress.new.solver }
     ensures scope { progress.new.solver.trail.scope ≡ progress.old.solver.trail.scope }
-    ensures plain { ArePlain subject.now progress.old.solver.steps → ArePlain subject.now progress.new.solver.steps }
+    ensures tied { KeepsTied subject.now progress.old.solver.steps progress.new.solver.steps }
     ensures units { counted_steps progress.new.solver.steps ≡ counted_steps progress.old.solver.steps }
     ensures fewer { OnOk result ((truths : List Bool) → All (AreTrueOn subject.now truths progress.old.solver.steps) cycles.now
         → All (IsCycle subject.now.spec.relations (vars_of subject.now) truths) cycles.now → cycles.now ≢ []
@@ -58,7 +59,7 @@ pub(crate) fn bring_in(
     ensures held { IsHeld subject.now progress.new.solver progress.new.brought.items }
     ensures added { HasAdded progress.old.solver progress.new.solver }
     ensures scope { progress.new.solver.trail.scope ≡ progress.old.solver.trail.scope }
-    ensures plain { ArePlain subject.now progress.old.solver.steps → ArePlain subject.now progress.new.solver.steps }
+    ensures tied { KeepsTied subject.now progress.old.solver.steps progress.new.solver.steps }
     ensures units { counted_steps progress.new.solver.steps ≡ counted_steps progress.old.solver.steps }
     ensures later { unmarked progress.new.brought.items ≤ unmarked progress.old.brought.items }
     ensures brings { OnOk result (Brings subject.now cycle progress.old.solver.steps progress.old.brought.items
@@ -84,7 +85,7 @@ fn bring_axioms(
     ensures held { IsHeld subject.now progress.new.solver progress.new.brought.items }
     ensures added { HasAdded progress.old.solver progress.new.solver }
     ensures scope { progress.new.solver.trail.scope ≡ progress.old.solver.trail.scope }
-    ensures plain { ArePlain subject.now progress.old.solver.steps → ArePlain subject.now progress.new.solver.steps }
+    ensures tied { KeepsTied subject.now progress.old.solver.steps progress.new.solver.steps }
     ensures units { counted_steps progress.new.solver.steps ≡ counted_steps progress.old.solver.steps }
     ensures later { unmarked progress.new.brought.items ≤ unmarked progress.old.brought.items }
     ensures brings { OnOk result (Brings subject.now cycle progress.old.solver.steps progress.old.brought.items

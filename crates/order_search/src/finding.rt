@@ -1,12 +1,13 @@
-ghost use Rattle.std.specs.Prelude.{◌≡◌, ◌+◌, ◌<◌, Some, false, length, IfOk, IfSome};
+ghost use Rattle.std.specs.Prelude.{◌≡◌, ◌+◌, ◌<◌, Contains, Some, length, IfOk, IfSome};
 ghost use Rattle.currency_base.specs.Literals.{var_of};
 ghost use Rattle.refutation_log.specs.Counted.{counted_steps};
-ghost use Rattle.order_search.specs.Kept.{ArePlain, HasAdded, IsHeld, search_of, vars_of};
+ghost use Rattle.order_search.specs.Kept.{HasAdded, IsHeld, search_of, vars_of};
 ghost use Rattle.order_search.specs.Parts.{IsParting};
 ghost use Rattle.order_search.specs.Searches.{Tells};
+ghost use Rattle.order_search.specs.Tied.{AreMembers, IsAnswerVar, IsTied, KeepsTied, scope_in};
 
 use crate::Outcome;
-use crate::parting::Parting;
+use crate::parting::{Parting, Tie};
 use crate::partwise::{decided_in_parts, decided_with};
 use crate::progress::{Progress, root_value};
 use crate::rounds::decided;
@@ -16,32 +17,26 @@ use solver_guides::Guides;
 use std::alloc::Global;
 use watch_solver::{Budget, Found, counted_stay_new};
 
-/// Decides part by part, unless the axiom of a match is among the steps or the goal is on an answer: then over all variables.
+/// Decides part by part, unless the goal is on an answer whose matches do not lie in one part: then over all variables.
 pub(crate) fn found(
     subject: &Subject<'_>,
     progress: &mut Progress,
     parting: &mut Parting,
-    is_matched: bool,
     alloc: Global,
     goal: Option<Lit>,
     budget: &mut Budget,
     guides: &mut Guides,
 ) -> Result<Outcome, NoMemory>
     requires held { IsHeld subject.now progress.old.solver progress.old.brought.items }
-    requires parting { IsParting subject.now parting.old.parts parting.old.known }
-    requires plain { is_matched ≡ false → ArePlain subject.now progress.old.solver.steps }
+    requires tied { IsTied subject.now parting.old progress.old.solver.steps }
     requires goal { IfSome goal (λ lit. var_of lit < length (vars_of subject.now)) }
     ensures held { IsHeld subject.now progress.new.solver progress.new.brought.items }
     ensures added { HasAdded progress.old.solver progress.new.solver }
-    ensures plain { is_matched ≡ false → ArePlain subject.now progress.new.solver.steps }
-    ensures parting { IsParting subject.now parting.new.parts parting.new.known }
+    ensures tied { IsTied subject.now parting.new progress.new.solver.steps }
     ensures units { counted_steps progress.new.solver.steps + budget.new ≡ counted_steps progress.old.solver.steps + budget.old }
     ensures found { IfOk result (Tells (search_of subject.now progress.new.solver) goal budget.new) }
 {
     laws_of_literals();
-    if is_matched {
-        return decided(subject, progress, alloc, goal, budget, guides);
-    }
     match goal {
         Some(lit) => found_goal(subject, progress, parting, alloc, lit, budget, guides),
         None => decided_in_parts(
@@ -61,13 +56,11 @@ fn found_goal(
     guides: &mut Guides,
 ) -> Result<Outcome, NoMemory>
     requires held { IsHeld subject.now progress.old.solver progress.old.brought.items }
-    requires parting { IsParting subject.now parting.old.parts parting.old.known }
-    requires plain { ArePlain subject.now progress.old.solver.steps }
+    requires tied { IsTied subject.now parting.old progress.old.solver.steps }
     requires goal { var_of goal < length (vars_of subject.now) }
     ensures held { IsHeld subject.now progress.new.solver progress.new.brought.items }
     ensures added { HasAdded progress.old.solver progress.new.solver }
-    ensures plain { ArePlain subject.now progress.new.solver.steps }
-    ensures parting { IsParting subject.now parting.new.parts parting.new.known }
+    ensures tied { IsTied subject.now parting.new progress.new.solver.steps }
     ensures units { counted_steps progress.new.solver.steps + budget.new ≡ counted_steps progress.old.solver.steps + budget.old }
     ensures found { IfOk result (Tells (search_of subject.now progress.new.solver) (Some goal) budget.new) }
 {
@@ -93,7 +86,7 @@ fn told_known(
     requires goal { var_of goal < length (vars_of subject.now) }
     ensures held { IsHeld subject.now progress.new.solver progress.new.brought.items }
     ensures added { HasAdded progress.old.solver progress.new.solver }
-    ensures plain { ArePlain subject.now progress.old.solver.steps → ArePlain subject.now progress.new.solver.steps }
+    ensures tied { KeepsTied subject.now progress.old.solver.steps progress.new.solver.steps }
     ensures units { counted_steps progress.new.solver.steps + budget.new ≡ counted_steps progress.old.solver.steps + budget.old }
     ensures some { IfOk result (λ outcome. IfSome outcome (Tells (search_of subject.now progress.new.solver) (Some goal)
         budget.new)) }
@@ -111,7 +104,7 @@ fn told_known(
     }
 }
 
-// Decides a goal in its part; one on an answer over all variables.
+// Decides a goal in its part, if it has one, and else over all variables.
 fn found_in_part(
     subject: &Subject<'_>,
     progress: &mut Progress,
@@ -122,20 +115,46 @@ fn found_in_part(
     guides: &mut Guides,
 ) -> Result<Outcome, NoMemory>
     requires held { IsHeld subject.now progress.old.solver progress.old.brought.items }
-    requires parting { IsParting subject.now parting.old.parts parting.old.known }
-    requires plain { ArePlain subject.now progress.old.solver.steps }
+    requires tied { IsTied subject.now parting.old progress.old.solver.steps }
     requires goal { var_of goal < length (vars_of subject.now) }
     ensures held { IsHeld subject.now progress.new.solver progress.new.brought.items }
     ensures added { HasAdded progress.old.solver progress.new.solver }
-    ensures plain { ArePlain subject.now progress.new.solver.steps }
-    ensures parting { IsParting subject.now parting.new.parts parting.new.known }
+    ensures tied { IsTied subject.now parting.new progress.new.solver.steps }
     ensures units { counted_steps progress.new.solver.steps + budget.new ≡ counted_steps progress.old.solver.steps + budget.old }
     ensures found { IfOk result (Tells (search_of subject.now progress.new.solver) (Some goal) budget.new) }
 {
-    match subject.part_of(&parting.parts, goal.var()) {
+    match part_with(subject, parting, goal.var()) {
         Some(part) => decided_with(
             subject, progress, parting, alloc, part, goal, budget, guides,
         ),
         None => decided(subject, progress, alloc, Some(goal), budget, guides),
+    }
+}
+
+// The part of a variable: where its statement is on an answer, the one in which its matches lie, if they lie in one.
+fn part_with(subject: &Subject<'_>, parting: &Parting, var: u32) -> Option<u32>
+    requires parting { IsParting subject.now parting.now.parts parting.now.known }
+    requires members { AreMembers subject.now parting.now }
+    requires var { var < length (vars_of subject.now) }
+    ensures { IfSome result (λ part. Contains (scope_in parting.now part) var) }
+{
+    match subject.answer_of(var) {
+        Some(answer) => tied_to(subject, parting, answer, var),
+        None => subject.part_of(&parting.parts, var),
+    }
+}
+
+// The part in which the matches of an answer lie, if they lie in one.
+fn tied_to(subject: &Subject<'_>, parting: &Parting, answer: u32, var: u32) -> Option<u32>
+    requires members { AreMembers subject.now parting.now }
+    requires says { IsAnswerVar subject.now answer var }
+    ensures { IfSome result (λ part. Contains (scope_in parting.now part) var) }
+{
+    if answer as usize >= parting.ties.len() {
+        return None;
+    }
+    match *parting.ties.get(answer as usize) {
+        Tie::In(part) => Some(part),
+        Tie::Loose | Tie::Across => None,
     }
 }

@@ -7,7 +7,7 @@ ghost use Rattle.last_rows.specs.Rows.{no_lit};
 ghost use Rattle.refutation_log.specs.Counted.{counted_steps};
 ghost use Rattle.refutation_log.specs.Steps.{clauses_of, step_of};
 ghost use Rattle.order_search.specs.Kept.{AreRowsOf, HasAdded, IsOfList, vars_of};
-ghost use Rattle.order_search.specs.Lasting.{AreAllRowsOf, AreFree, AreSaid, EachIs, IsDerivation, IsNextStep, KeepsHeld, KeepsHeldBy, KeepsPlain, SaysBefore, SaysName, SaysTop, next_place};
+ghost use Rattle.order_search.specs.Lasting.{AreAllRowsOf, AreFree, AreSaid, EachIs, IsDerivation, IsNextStep, KeepsHeld, KeepsHeldBy, KeepsAllTied, SaysBefore, SaysName, SaysTop, next_place};
 
 use crate::linked::pair_at;
 use crate::ordering::{Known, Ordered, order_rows};
@@ -40,7 +40,7 @@ pub(crate) fn add_lasts(
     requires cycle { IsOfList subject.now cycle }
     requires statements { progress.old.solver.frame.statements ≡ vars_of subject.now }
     ensures keeps { KeepsHeld subject.now progress.old.solver progress.new.solver }
-    ensures plain { KeepsPlain progress.old.solver progress.new.solver }
+    ensures tied { KeepsAllTied progress.old.solver progress.new.solver }
     ensures scope { progress.new.solver.trail.scope ≡ progress.old.solver.trail.scope }
     ensures added { HasAdded progress.old.solver progress.new.solver }
     ensures units { counted_steps progress.new.solver.steps ≡ counted_steps progress.old.solver.steps }
@@ -418,7 +418,7 @@ impl Places {
 fn put_all(solver: &mut Solver, steps: &Steps, guides: &mut Guides) -> Result<(), NoMemory>
     requires { IsDerivation (length solver.old.frame.statements) (clauses_of solver.old.steps) steps.now }
     ensures keeps { KeepsHeldBy steps.now solver.old solver.new }
-    ensures plain { KeepsPlain solver.old solver.new }
+    ensures tied { KeepsAllTied solver.old solver.new }
     ensures scope { solver.new.trail.scope ≡ solver.old.trail.scope }
     ensures added { HasAdded solver.old solver.new }
     ensures units { counted_steps solver.new.steps ≡ counted_steps solver.old.steps }
@@ -436,7 +436,7 @@ fn put_all(solver: &mut Solver, steps: &Steps, guides: &mut Guides) -> Result<()
 fn put(solver: &mut Solver, step: StepRef<'_>, guides: &mut Guides) -> Result<(), NoMemory>
     requires { IsNextStep (length solver.old.frame.statements) (clauses_of solver.old.steps) (step_of step) }
     ensures keeps { KeepsHeldBy (step_of step.entry ∷ []) solver.old solver.new }
-    ensures plain { KeepsPlain solver.old solver.new }
+    ensures tied { KeepsAllTied solver.old solver.new }
     ensures scope { solver.new.trail.scope ≡ solver.old.trail.scope }
     ensures added { HasAdded solver.old solver.new }
     ensures units { counted_steps solver.new.steps ≡ counted_steps solver.old.steps }

@@ -17,6 +17,7 @@ mod rounds;
 mod search;
 mod subject;
 mod telling;
+mod tying;
 mod when;
 
 pub use outcome::Outcome;

@@ -2,7 +2,8 @@ ghost use Rattle.std.specs.Prelude.{◌≡◌, ◌≢◌, ◌<◌, All, length, 
 ghost use Rattle.currency_base.specs.Literals.{var_of};
 ghost use Rattle.refutation_log.specs.Counted.{counted_steps};
 ghost use Rattle.order_links.specs.Lists.{IsListOf};
-ghost use Rattle.order_search.specs.Kept.{ArePlain, AreRowsOf, HasAdded, IsHeld, IsOfList, vars_of};
+ghost use Rattle.order_search.specs.Kept.{AreRowsOf, HasAdded, IsHeld, IsOfList, vars_of};
+ghost use Rattle.order_search.specs.Tied.{KeepsTied};
 
 use crate::When;
 use crate::bringing::bring_in;
@@ -44,7 +45,7 @@ pub(crate) fn bring_linked(
     requires links { links.now ≡ subject.now.spec.relations }
     ensures held { IsHeld subject.now progress.new.solver progress.new.brought.items }
     ensures added { HasAdded progress.old.solver progress.new.solver }
-    ensures plain { ArePlain subject.now progress.old.solver.steps → ArePlain subject.now progress.new.solver.steps }
+    ensures tied { KeepsTied subject.now progress.old.solver.steps progress.new.solver.steps }
     ensures units { counted_steps progress.new.solver.steps ≡ counted_steps progress.old.solver.steps }
 {
     if is_settled(subject, progress.solver.trail(), list, subject.rows(list)) {
@@ -76,7 +77,7 @@ fn bring_lists(
     requires lists { All (IsListOf subject.now.spec.relations) lists.now }
     ensures held { IsHeld subject.now progress.new.solver progress.new.brought.items }
     ensures added { HasAdded progress.old.solver progress.new.solver }
-    ensures plain { ArePlain subject.now progress.old.solver.steps → ArePlain subject.now progress.new.solver.steps }
+    ensures tied { KeepsTied subject.now progress.old.solver.steps progress.new.solver.steps }
     ensures units { counted_steps progress.new.solver.steps ≡ counted_steps progress.old.solver.steps }
 {
     for place in 0..lists.len() {
@@ -101,7 +102,7 @@ fn bring_list(
     requires list { IsListOf subject.now.spec.relations list }
     ensures held { IsHeld subject.now progress.new.solver progress.new.brought.items }
     ensures added { HasAdded progress.old.solver progress.new.solver }
-    ensures plain { ArePlain subject.now progress.old.solver.steps → ArePlain subject.now progress.new.solver.steps }
+    ensures tied { KeepsTied subject.now progress.old.solver.steps progress.new.solver.steps }
     ensures units { counted_steps progress.new.solver.steps ≡ counted_steps progress.old.solver.steps }
 {
     let rows = subject.rows(list);

@@ -1,10 +1,13 @@
-ghost use Rattle.std.specs.Prelude.{◌≡◌, ◌≢◌, ◌+◌, ◌<◌, Contains, ℕ, false, length, slice_get, IfOk, IfSome, IfNone, OnErr, Some, true};
+ghost use Rattle.std.specs.Prelude.{◌≡◌, ◌≢◌, ◌+◌, ◌<◌, All, Contains, ℕ, false, length, slice_get, IfOk, IfSome, IfNone, OnErr, OnOk, Some, true};
 ghost use Rattle.currency_base.specs.Literals.{var_of};
 ghost use Rattle.entity_ties.specs.Parts.{list_at};
+ghost use Rattle.known_models.specs.Changes.{AreBelied, AreModelOf, HasValue};
 ghost use Rattle.refutation_log.specs.Counted.{counted_steps};
-ghost use Rattle.order_search.specs.Kept.{ArePlain, HasAdded, IsHeld, search_of, unmarked};
-ghost use Rattle.order_search.specs.Parts.{ComesTo, Ends, IsFalseIn, IsMade, IsParting, parted_of};
+ghost use Rattle.order_search.specs.Kept.{HasAdded, IsHeld, search_of, unmarked};
+ghost use Rattle.order_search.specs.Made.{ComesTo, HasSame, HasTakenIn, IsFalseIn, IsMade};
+ghost use Rattle.order_search.specs.Parts.{Ends, IsParting, parted_of};
 ghost use Rattle.order_search.specs.Searches.{Tells};
+ghost use Rattle.order_search.specs.Tied.{AreMembers, IsTied, scope_in};
 ghost use Rattle.watch_solver.specs.Decided.{IsModelOn};
 
 use crate::Outcome;
@@ -13,11 +16,14 @@ use crate::parting::Parting;
 use crate::progress::Progress;
 use crate::subject::Subject;
 use crate::telling::told;
+use crate::tying::scope_of;
+use completion_build::CycleList;
 use currency_base::{Lit, NoMemory};
-use known_models::{KnownModel, values_are_models};
+use known_models::values_are_models;
+use search_trail::Values;
 use solver_guides::Guides;
 use std::alloc::Global;
-use variable_parts::{VariableParts, variables_have_parts};
+use variable_parts::variables_have_parts;
 use watch_solver::{Budget, Found, counted_stay_new};
 
 /// What one round over a part came to.
@@ -43,13 +49,11 @@ pub(crate) fn decided_with(
     guides: &mut Guides,
 ) -> Result<Outcome, NoMemory>
     requires held { IsHeld subject.now progress.old.solver progress.old.brought.items }
-    requires parting { IsParting subject.now parting.old.parts parting.old.known }
-    requires plain { ArePlain subject.now progress.old.solver.steps }
-    requires part { Contains (list_at parting.old.parts.parts part) (var_of goal) }
+    requires tied { IsTied subject.now parting.old progress.old.solver.steps }
+    requires part { Contains (scope_in parting.old part) (var_of goal) }
     ensures held { IsHeld subject.now progress.new.solver progress.new.brought.items }
     ensures added { HasAdded progress.old.solver progress.new.solver }
-    ensures plain { ArePlain subject.now progress.new.solver.steps }
-    ensures parting { IsParting subject.now parting.new.parts parting.new.known }
+    ensures tied { IsTied subject.now parting.new progress.new.solver.steps }
     ensures units { counted_steps progress.new.solver.steps + budget.new ≡ counted_steps progress.old.solver.steps + budget.old }
     ensures found { IfOk result (Tells (search_of subject.now progress.new.solver) (Some goal) budget.new) }
 {
@@ -83,27 +87,17 @@ fn decided_beside(
     guides: &mut Guides,
 ) -> Result<Outcome, NoMemory>
     requires held { IsHeld subject.now progress.old.solver progress.old.brought.items }
-    requires parting { IsParting subject.now parting.old.parts parting.old.known }
-    requires plain { ArePlain subject.now progress.old.solver.steps }
+    requires tied { IsTied subject.now parting.old progress.old.solver.steps }
     requires done { slice_get parting.old.known.done part ≡ Some true }
-    requires goal { IsFalseIn (parted_of subject.now parting.old.parts) parting.old.known (Some part) goal }
+    requires goal { IsFalseIn parting.old (Some part) goal }
     ensures held { IsHeld subject.now progress.new.solver progress.new.brought.items }
     ensures added { HasAdded progress.old.solver progress.new.solver }
-    ensures plain { ArePlain subject.now progress.new.solver.steps }
-    ensures parting { IsParting subject.now parting.new.parts parting.new.known }
+    ensures tied { IsTied subject.now parting.new progress.new.solver.steps }
     ensures units { counted_steps progress.new.solver.steps + budget.new ≡ counted_steps progress.old.solver.steps + budget.old }
     ensures found { IfOk result (Tells (search_of subject.now progress.new.solver) (Some goal) budget.new) }
 {
-    if parting.known.is_whole() {
-        return told(
-            subject,
-            progress,
-            &parting.parts,
-            &parting.known,
-            alloc,
-            Some(goal),
-            Some(part),
-        );
+    if parting.known.is_whole() && subject.answer_of(goal.var()).is_none() {
+        return told(subject, progress, parting, alloc, Some(goal), Some(part));
     }
     decided_in_parts(
         subject,
@@ -129,14 +123,12 @@ pub(crate) fn decided_in_parts(
     guides: &mut Guides,
 ) -> Result<Outcome, NoMemory>
     requires held { IsHeld subject.now progress.old.solver progress.old.brought.items }
-    requires parting { IsParting subject.now parting.old.parts parting.old.known }
-    requires plain { ArePlain subject.now progress.old.solver.steps }
+    requires tied { IsTied subject.now parting.old progress.old.solver.steps }
     requires own { IfSome own (λ part. slice_get parting.old.known.done part ≡ Some true) }
-    requires goal { IfSome goal (IsFalseIn (parted_of subject.now parting.old.parts) parting.old.known own) }
+    requires goal { IfSome goal (IsFalseIn parting.old own) }
     ensures held { IsHeld subject.now progress.new.solver progress.new.brought.items }
     ensures added { HasAdded progress.old.solver progress.new.solver }
-    ensures plain { ArePlain subject.now progress.new.solver.steps }
-    ensures parting { IsParting subject.now parting.new.parts parting.new.known }
+    ensures tied { IsTied subject.now parting.new progress.new.solver.steps }
     ensures units { counted_steps progress.new.solver.steps + budget.new ≡ counted_steps progress.old.solver.steps + budget.old }
     ensures found { IfOk result (Tells (search_of subject.now progress.new.solver) goal budget.new) }
 {
@@ -158,15 +150,7 @@ pub(crate) fn decided_in_parts(
             Err(error) => return Err(error),
         }
     }
-    told(
-        subject,
-        progress,
-        &parting.parts,
-        &parting.known,
-        alloc,
-        goal,
-        own,
-    )
+    told(subject, progress, parting, alloc, goal, own)
 }
 
 // Decides a part, unless it is the goal's.
@@ -182,30 +166,37 @@ fn decide_left(
     guides: &mut Guides,
 ) -> Result<Option<Outcome>, NoMemory>
     requires held { IsHeld subject.now progress.old.solver progress.old.brought.items }
-    requires parting { IsParting subject.now parting.old.parts parting.old.known }
-    requires plain { ArePlain subject.now progress.old.solver.steps }
+    requires tied { IsTied subject.now parting.old progress.old.solver.steps }
     requires part { part < length parting.old.parts.parts }
     requires own { IfSome own (λ part. slice_get parting.old.known.done part ≡ Some true) }
-    requires goal { IfSome goal (IsFalseIn (parted_of subject.now parting.old.parts) parting.old.known own) }
+    requires goal { IfSome goal (IsFalseIn parting.old own) }
     ensures held { IsHeld subject.now progress.new.solver progress.new.brought.items }
     ensures added { HasAdded progress.old.solver progress.new.solver }
-    ensures plain { ArePlain subject.now progress.new.solver.steps }
-    ensures parting { IsParting subject.now parting.new.parts parting.new.known }
-    ensures parts { parting.new.parts ≡ parting.old.parts }
+    ensures tied { IsTied subject.now parting.new progress.new.solver.steps }
+    ensures same { HasSame parting.old parting.new }
     ensures units { counted_steps progress.new.solver.steps + budget.new ≡ counted_steps progress.old.solver.steps + budget.old }
-    ensures goal { IfSome goal (IsFalseIn (parted_of subject.now parting.new.parts) parting.new.known own) }
+    ensures goal { IfSome goal (IsFalseIn parting.new own) }
     ensures done { IfOk result (λ ended. IfNone ended (slice_get parting.new.known.done part ≡ Some true)) }
     ensures kept { (other : ℕ) → slice_get parting.old.known.done other ≡ Some true
         → slice_get parting.new.known.done other ≡ Some true }
     ensures ended { IfOk result (λ ended. IfSome ended (Ends (search_of subject.now progress.new.solver) goal budget.new)) }
 {
     variables_have_parts();
-    if is_own(own, part) {
+    if is_own(own, part) || stays(parting, goal, part) {
         return Ok(None);
     }
     decide_part(
         subject, progress, parting, alloc, part, None, budget, guides,
     )
+}
+
+// Does a part stay as it is? It is done, it has nothing to do with the goal, and no answer lies in it.
+fn stays(parting: &Parting, goal: Option<Lit>, part: u32) -> bool
+    requires part { part < length parting.now.known.done }
+    requires members { part < length parting.now.members }
+    ensures { result ≡ true → slice_get parting.now.known.done part ≡ Some true }
+{
+    goal.is_some() && parting.members.get(part as usize).len() == 0 && parting.known.is_done(part)
 }
 
 // Is a part that of the goal?
@@ -231,48 +222,57 @@ fn decide_part(
     guides: &mut Guides,
 ) -> Result<Option<Outcome>, NoMemory>
     requires held { IsHeld subject.now progress.old.solver progress.old.brought.items }
-    requires parting { IsParting subject.now parting.old.parts parting.old.known }
-    requires plain { ArePlain subject.now progress.old.solver.steps }
+    requires tied { IsTied subject.now parting.old progress.old.solver.steps }
     requires part { part < length parting.old.parts.parts }
-    requires goal { IfSome goal (λ lit. Contains (list_at parting.old.parts.parts part) (var_of lit)) }
+    requires goal { IfSome goal (λ lit. Contains (scope_in parting.old part) (var_of lit)) }
     ensures held { IsHeld subject.now progress.new.solver progress.new.brought.items }
     ensures added { HasAdded progress.old.solver progress.new.solver }
-    ensures plain { ArePlain subject.now progress.new.solver.steps }
-    ensures parting { IsParting subject.now parting.new.parts parting.new.known }
-    ensures parts { parting.new.parts ≡ parting.old.parts }
+    ensures tied { IsTied subject.now parting.new progress.new.solver.steps }
+    ensures same { HasSame parting.old parting.new }
     ensures units { counted_steps progress.new.solver.steps + budget.new ≡ counted_steps progress.old.solver.steps + budget.old }
-    ensures made { IfOk result (λ ended. IfNone ended
-        (IsMade (parted_of subject.now parting.old.parts) part goal parting.old.known parting.new.known)) }
+    ensures made { IfOk result (λ ended. IfNone ended (IsMade part goal parting.old parting.new)) }
     ensures ended { IfOk result (λ ended. IfSome ended (Ends (search_of subject.now progress.new.solver) goal budget.new)) }
-    ensures same { IfOk result (λ ended. IfSome ended (λ outcome. parting.new.known ≡ parting.old.known)) }
-    ensures err { OnErr result (parting.new.known ≡ parting.old.known) }
+    ensures stays { IfOk result (λ ended. IfSome ended (λ outcome. parting.new ≡ parting.old)) }
+    ensures err { OnErr result (parting.new ≡ parting.old) }
 {
-    match progress
-        .solver
-        .focus(alloc, parting.parts.vars(part), guides)
-    {
-        Ok(()) => {}
-        Err(error) => return Err(error),
-    }
+    focus(subject, progress, parting, alloc, part, guides)?;
     decide_focused(
-        subject,
-        progress,
-        &parting.parts,
-        &mut parting.known,
-        alloc,
-        part,
-        goal,
-        budget,
-        guides,
+        subject, progress, parting, alloc, part, goal, budget, guides,
     )
+}
+
+// Takes the variables of a part, and those of the answers that lie in it, for the scope. The ring is told of these, so that it is
+// seen first whether they can all be none.
+fn focus(
+    subject: &Subject<'_>,
+    progress: &mut Progress,
+    parting: &Parting,
+    alloc: Global,
+    part: u32,
+    guides: &mut Guides,
+) -> Result<(), NoMemory>
+    requires held { IsHeld subject.now progress.old.solver progress.old.brought.items }
+    requires parting { IsParting subject.now parting.now.parts parting.now.known }
+    requires members { AreMembers subject.now parting.now }
+    requires part { part < length parting.now.parts.parts }
+    ensures held { IsHeld subject.now progress.new.solver progress.new.brought.items }
+    ensures frame { progress.new.solver.frame ≡ progress.old.solver.frame }
+    ensures steps { progress.new.solver.steps ≡ progress.old.solver.steps }
+    ensures scope { OnOk result (progress.new.solver.trail.scope ≡ scope_in parting.now part) }
+{
+    let scope = scope_of(subject, parting, alloc, part)?;
+    progress.solver.focus(alloc, scope.as_slice(), guides)?;
+    for member in parting.members.get(part as usize).as_slice() {
+        guides.saw(*member);
+    }
+    Ok(())
 }
 
 // The same, where the scope is the part's variables.
 fn decide_focused(
     subject: &Subject<'_>,
     progress: &mut Progress,
-    parts: &VariableParts,
-    known: &mut KnownModel,
+    parting: &mut Parting,
     alloc: Global,
     part: u32,
     goal: Option<Lit>,
@@ -280,24 +280,22 @@ fn decide_focused(
     guides: &mut Guides,
 ) -> Result<Option<Outcome>, NoMemory>
     requires held { IsHeld subject.now progress.old.solver progress.old.brought.items }
-    requires parting { IsParting subject.now parts.now known.old }
-    requires scope { progress.old.solver.trail.scope ≡ list_at parts.now.parts part }
-    requires part { part < length parts.now.parts }
-    requires goal { IfSome goal (λ lit. Contains (list_at parts.now.parts part) (var_of lit)) }
+    requires tied { IsTied subject.now parting.old progress.old.solver.steps }
+    requires scope { progress.old.solver.trail.scope ≡ scope_in parting.old part }
+    requires part { part < length parting.old.parts.parts }
+    requires goal { IfSome goal (λ lit. Contains (scope_in parting.old part) (var_of lit)) }
     ensures held { IsHeld subject.now progress.new.solver progress.new.brought.items }
     ensures added { HasAdded progress.old.solver progress.new.solver }
-    ensures plain { ArePlain subject.now progress.old.solver.steps → ArePlain subject.now progress.new.solver.steps }
+    ensures tied { IsTied subject.now parting.new progress.new.solver.steps }
     ensures units { counted_steps progress.new.solver.steps + budget.new ≡ counted_steps progress.old.solver.steps + budget.old }
-    ensures parting { IsParting subject.now parts.now known.new }
-    ensures made { IfOk result (λ ended. IfNone ended
-        (IsMade (parted_of subject.now parts.now) part goal known.old known.new)) }
+    ensures made { IfOk result (λ ended. IfNone ended (IsMade part goal parting.old parting.new)) }
     ensures ended { IfOk result (λ ended. IfSome ended (Ends (search_of subject.now progress.new.solver) goal budget.new)) }
-    ensures same { IfOk result (λ ended. IfSome ended (λ outcome. known.new ≡ known.old)) }
-    ensures err { OnErr result (known.new ≡ known.old) }
+    ensures stays { IfOk result (λ ended. IfSome ended (λ outcome. parting.new ≡ parting.old)) }
+    ensures err { OnErr result (parting.new ≡ parting.old) }
 {
     loop {
         match one_round(
-            subject, progress, parts, known, alloc, part, goal, budget, guides,
+            subject, progress, parting, alloc, part, goal, budget, guides,
         ) {
             Ok(Round::Again) => {}
             Ok(Round::Done) => return Ok(None),
@@ -311,8 +309,7 @@ fn decide_focused(
 fn one_round(
     subject: &Subject<'_>,
     progress: &mut Progress,
-    parts: &VariableParts,
-    known: &mut KnownModel,
+    parting: &mut Parting,
     alloc: Global,
     part: u32,
     goal: Option<Lit>,
@@ -320,23 +317,23 @@ fn one_round(
     guides: &mut Guides,
 ) -> Result<Round, NoMemory>
     requires held { IsHeld subject.now progress.old.solver progress.old.brought.items }
-    requires parting { IsParting subject.now parts.now known.old }
-    requires scope { progress.old.solver.trail.scope ≡ list_at parts.now.parts part }
-    requires part { part < length parts.now.parts }
-    requires goal { IfSome goal (λ lit. Contains (list_at parts.now.parts part) (var_of lit)) }
+    requires tied { IsTied subject.now parting.old progress.old.solver.steps }
+    requires scope { progress.old.solver.trail.scope ≡ scope_in parting.old part }
+    requires part { part < length parting.old.parts.parts }
+    requires goal { IfSome goal (λ lit. Contains (scope_in parting.old part) (var_of lit)) }
     ensures held { IsHeld subject.now progress.new.solver progress.new.brought.items }
     ensures scope { progress.new.solver.trail.scope ≡ progress.old.solver.trail.scope }
     ensures added { HasAdded progress.old.solver progress.new.solver }
-    ensures plain { ArePlain subject.now progress.old.solver.steps → ArePlain subject.now progress.new.solver.steps }
+    ensures tied { IsTied subject.now parting.new progress.new.solver.steps }
     ensures units { counted_steps progress.new.solver.steps + budget.new ≡ counted_steps progress.old.solver.steps + budget.old }
-    ensures comes { IfOk result (ComesTo (parted_of subject.now parts.now) part goal known.old known.new
+    ensures comes { IfOk result (ComesTo part goal parting.old parting.new
         (unmarked progress.old.brought.items) (unmarked progress.new.brought.items)
         (search_of subject.now progress.new.solver) budget.new) }
-    ensures err { OnErr result (known.new ≡ known.old) }
+    ensures err { OnErr result (parting.new ≡ parting.old) }
 {
     counted_stay_new();
     match progress.solver.decide(goal, budget, guides) {
-        Ok(Found::Model) => take_values(subject, progress, parts, known, alloc, part, goal, guides),
+        Ok(Found::Model) => take_values(subject, progress, parting, alloc, part, goal, guides),
         Ok(Found::Proved(place)) => Ok(Round::Ended(Outcome::Proved(place))),
         Ok(Found::Empty(place)) => Ok(Round::Ended(Outcome::Empty(place))),
         Ok(Found::Spent) => {
@@ -351,40 +348,71 @@ fn one_round(
 fn take_values(
     subject: &Subject<'_>,
     progress: &mut Progress,
-    parts: &VariableParts,
-    known: &mut KnownModel,
+    parting: &mut Parting,
     alloc: Global,
     part: u32,
     goal: Option<Lit>,
     guides: &mut Guides,
 ) -> Result<Round, NoMemory>
     requires held { IsHeld subject.now progress.old.solver progress.old.brought.items }
-    requires parting { IsParting subject.now parts.now known.old }
-    requires scope { progress.old.solver.trail.scope ≡ list_at parts.now.parts part }
-    requires part { part < length parts.now.parts }
-    requires goal { IfSome goal (λ lit. Contains (list_at parts.now.parts part) (var_of lit)) }
+    requires tied { IsTied subject.now parting.old progress.old.solver.steps }
+    requires scope { progress.old.solver.trail.scope ≡ scope_in parting.old part }
+    requires part { part < length parting.old.parts.parts }
+    requires goal { IfSome goal (λ lit. Contains (scope_in parting.old part) (var_of lit)) }
     requires model { IsModelOn progress.old.solver.steps goal progress.old.solver.trail }
     ensures held { IsHeld subject.now progress.new.solver progress.new.brought.items }
     ensures scope { progress.new.solver.trail.scope ≡ progress.old.solver.trail.scope }
     ensures added { HasAdded progress.old.solver progress.new.solver }
-    ensures plain { ArePlain subject.now progress.old.solver.steps → ArePlain subject.now progress.new.solver.steps }
+    ensures tied { IsTied subject.now parting.new progress.new.solver.steps }
     ensures units { counted_steps progress.new.solver.steps ≡ counted_steps progress.old.solver.steps }
-    ensures comes { (left : ℕ) → IfOk result (ComesTo (parted_of subject.now parts.now) part goal known.old known.new
+    ensures comes { (left : ℕ) → IfOk result (ComesTo part goal parting.old parting.new
         (unmarked progress.old.brought.items) (unmarked progress.new.brought.items)
         (search_of subject.now progress.new.solver) left) }
-    ensures err { OnErr result (known.new ≡ known.old) }
+    ensures err { OnErr result (parting.new ≡ parting.old) }
 {
     values_are_models();
+    variables_have_parts();
     progress.solver.is_solver();
     progress.solver.trail().are_entries();
-    let parted = subject.parted(parts);
     let values = progress.solver.trail().values();
-    match known.replace(alloc, &parted, part, values) {
+    match replace(subject, parting, alloc, part, values) {
         Ok(None) => Ok(Round::Done),
-        Ok(Some(cycles)) => match bring_all(subject, progress, alloc, &cycles, guides) {
-            Ok(()) => Ok(Round::Again),
-            Err(error) => Err(error),
-        },
+        Ok(Some(cycles)) => {
+            bring_all(subject, progress, alloc, &cycles, guides)?;
+            Ok(Round::Again)
+        }
+        Err(error) => Err(error),
+    }
+}
+
+// The known model takes the values of a part, and of the answers that lie in it, unless a list goes round.
+fn replace(
+    subject: &Subject<'_>,
+    parting: &mut Parting,
+    alloc: Global,
+    part: u32,
+    values: &Values,
+) -> Result<Option<CycleList>, NoMemory>
+    requires parting { IsParting subject.now parting.old.parts parting.old.known }
+    requires members { AreMembers subject.now parting.old }
+    requires part { part < length parting.old.parts.parts }
+    requires values { AreModelOf (parted_of subject.now parting.old.parts) values.now.given part }
+    requires beside { All (HasValue values.now.given) (list_at parting.old.members part) }
+    ensures taken { IfOk result (λ found. IfNone found (HasTakenIn subject.now part values.now.given parting.old parting.new)) }
+    ensures belied { IfOk result (λ found. IfSome found
+        (AreBelied (parted_of subject.now parting.old.parts) values.now.given part parting.old.known)) }
+    ensures cycles { IfOk result (λ found. IfSome found (λ cycles. parting.new ≡ parting.old)) }
+    ensures err { OnErr result (parting.new ≡ parting.old) }
+{
+    variables_have_parts();
+    let parted = subject.parted(&parting.parts);
+    match parting.known.replace(alloc, &parted, part, values) {
+        Ok(None) => {
+            let members = parting.members.get(part as usize).as_slice();
+            parting.known.take_beside(&parted, members, values);
+            Ok(None)
+        }
+        Ok(Some(cycles)) => Ok(Some(cycles)),
         Err(error) => Err(error),
     }
 }

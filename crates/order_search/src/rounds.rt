@@ -2,8 +2,9 @@ ghost use Rattle.std.specs.Prelude.{◌≡◌, ◌+◌, ◌<◌, ℕ, length, If
 ghost use Rattle.currency_base.specs.Literals.{var_of};
 ghost use Rattle.refutation_log.specs.Counted.{counted_steps};
 ghost use Rattle.order_adequacy.specs.Laws.{IsModelOf};
-ghost use Rattle.order_search.specs.Kept.{ArePlain, AreTrue, HasAdded, IsHeld, search_of, unmarked, vars_of};
+ghost use Rattle.order_search.specs.Kept.{AreTrue, HasAdded, IsHeld, search_of, unmarked, vars_of};
 ghost use Rattle.order_search.specs.Searches.{Tells};
+ghost use Rattle.order_search.specs.Tied.{KeepsTied};
 ghost use Rattle.search_trail.specs.Trails.{whole_scope};
 ghost use Rattle.watch_solver.specs.Decided.{IsModelOn};
 
@@ -33,7 +34,7 @@ pub(crate) fn decided(
     requires goal { IfSome goal (λ lit. var_of lit < length (vars_of subject.now)) }
     ensures held { IsHeld subject.now progress.new.solver progress.new.brought.items }
     ensures added { HasAdded progress.old.solver progress.new.solver }
-    ensures plain { ArePlain subject.now progress.old.solver.steps → ArePlain subject.now progress.new.solver.steps }
+    ensures tied { KeepsTied subject.now progress.old.solver.steps progress.new.solver.steps }
     ensures units { counted_steps progress.new.solver.steps + budget.new ≡ counted_steps progress.old.solver.steps + budget.old }
     ensures found { IfOk result (Tells (search_of subject.now progress.new.solver) goal budget.new) }
 {
@@ -57,7 +58,7 @@ fn decided_on_all(
     requires goal { IfSome goal (λ lit. var_of lit < length (vars_of subject.now)) }
     ensures held { IsHeld subject.now progress.new.solver progress.new.brought.items }
     ensures added { HasAdded progress.old.solver progress.new.solver }
-    ensures plain { ArePlain subject.now progress.old.solver.steps → ArePlain subject.now progress.new.solver.steps }
+    ensures tied { KeepsTied subject.now progress.old.solver.steps progress.new.solver.steps }
     ensures units { counted_steps progress.new.solver.steps + budget.new ≡ counted_steps progress.old.solver.steps + budget.old }
     ensures found { IfOk result (Tells (search_of subject.now progress.new.solver) goal budget.new) }
 {
@@ -124,7 +125,7 @@ fn round(
     ensures held { IsHeld subject.now progress.new.solver progress.new.brought.items }
     ensures scope { progress.new.solver.trail.scope ≡ progress.old.solver.trail.scope }
     ensures added { HasAdded progress.old.solver progress.new.solver }
-    ensures plain { ArePlain subject.now progress.old.solver.steps → ArePlain subject.now progress.new.solver.steps }
+    ensures tied { KeepsTied subject.now progress.old.solver.steps progress.new.solver.steps }
     ensures units { counted_steps progress.new.solver.steps + budget.new ≡ counted_steps progress.old.solver.steps + budget.old }
     ensures some { IfOk result (λ outcome. IfSome outcome (Tells (search_of subject.now progress.new.solver) goal budget.new)) }
     ensures none { IfOk result (λ outcome. IfNone outcome
@@ -158,7 +159,7 @@ fn modelled(
     ensures held { IsHeld subject.now progress.new.solver progress.new.brought.items }
     ensures scope { progress.new.solver.trail.scope ≡ progress.old.solver.trail.scope }
     ensures added { HasAdded progress.old.solver progress.new.solver }
-    ensures plain { ArePlain subject.now progress.old.solver.steps → ArePlain subject.now progress.new.solver.steps }
+    ensures tied { KeepsTied subject.now progress.old.solver.steps progress.new.solver.steps }
     ensures units { counted_steps progress.new.solver.steps ≡ counted_steps progress.old.solver.steps }
     ensures some { (left : ℕ) → IfOk result (λ outcome. IfSome outcome (Tells (search_of subject.now
         progress.new.solver) goal left)) }
@@ -193,7 +194,7 @@ fn completed(
     ensures held { IsHeld subject.now progress.new.solver progress.new.brought.items }
     ensures scope { progress.new.solver.trail.scope ≡ progress.old.solver.trail.scope }
     ensures added { HasAdded progress.old.solver progress.new.solver }
-    ensures plain { ArePlain subject.now progress.old.solver.steps → ArePlain subject.now progress.new.solver.steps }
+    ensures tied { KeepsTied subject.now progress.old.solver.steps progress.new.solver.steps }
     ensures units { counted_steps progress.new.solver.steps ≡ counted_steps progress.old.solver.steps }
     ensures some { IfOk result (λ completion. IfSome completion (IsModelOf subject.now.spec subject.now.wanted truths.now)) }
     ensures kept { IfOk result (λ completion. IfSome completion (λ c. progress.new.solver.steps ≡ progress.old.solver.steps)) }

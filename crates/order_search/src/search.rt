@@ -38,17 +38,15 @@ pub struct Search<'a> {
     // which lists were brought in for a goal
     links: Links<'a>,
     parting: Parting,
-    // the axiom of a match was put after the steps, or there was no memory for it
-    is_matched: bool,
     // a call was refused memory
     failed: bool,
 }
 
 impl<'a> Model for Search<'a> {
     ghost use Rattle.std.specs.Prelude.{◌≡◌, false};
-    ghost use Rattle.order_search.specs.Kept.{ArePlain, IsHeld, seen_of};
-    ghost use Rattle.order_search.specs.Parts.{IsParting};
+    ghost use Rattle.order_search.specs.Kept.{IsHeld, seen_of};
     ghost use Rattle.order_search.specs.Searches.{Search as Searches};
+    ghost use Rattle.order_search.specs.Tied.{IsTied};
 
     ghost Value = { Searches };
 
@@ -56,8 +54,7 @@ impl<'a> Model for Search<'a> {
 
     ghost invariant = { λ s. IsHeld s.subject s.progress.solver s.progress.brought.items
         × (s.links ≡ s.subject.spec.relations)
-        × IsParting s.subject s.parting.parts s.parting.known
-        × (s.is_matched ≡ false → ArePlain s.subject s.progress.solver.steps) };
+        × (s.failed ≡ false → IsTied s.subject s.parting s.progress.solver.steps) };
 }
 
 impl<'a> Search<'a> {
@@ -102,7 +99,6 @@ impl<'a> Search<'a> {
                 progress,
                 links,
                 parting,
-                is_matched: false,
                 failed: false,
             }),
             Err(error) => Err(error),
@@ -131,10 +127,11 @@ impl<'a> Search<'a> {
     }
 
     /// Decides whether the goal is true in every consistent completion, or, where there is none, whether there is a
-    /// consistent completion. Where no axiom of a match is among the steps it goes part by part: the part of the goal alone,
-    /// where a model is known of all parts, or else each part anew; so a goal costs what its part costs, and the copy of the
-    /// model. One that is true where nothing is assumed costs neither. Else, and where the goal is on an answer, it goes over all
-    /// variables. Each list that goes round in a model has all its axioms on three rows brought in, and the search goes on; so
+    /// consistent completion. It goes part by part: the part of the goal alone, where a model is known of all parts, or else each
+    /// part anew; so a goal costs what its part costs, and the copy of the model. One that is true where nothing is assumed costs
+    /// neither. An answer is of the part in which all its matches lie whose axioms are among the steps, if they lie in one; where it
+    /// fails there, each other part in which answers lie is made anew, with as many of these none as the guides come to. An answer
+    /// of no part is decided over all variables. Each list that goes round in a model has all its axioms on three rows brought in, and the search goes on; so
     /// a list is brought in at most once. Each clause that is learned takes a unit of the budget; axioms take none. After want
     /// of memory every later call answers it.
     pub fn decide(
@@ -159,7 +156,6 @@ impl<'a> Search<'a> {
             &self.subject,
             &mut self.progress,
             &mut self.parting,
-            self.is_matched,
             alloc,
             goal,
             budget,
@@ -223,10 +219,10 @@ impl<'a> Search<'a> {
         if self.failed {
             return Err(NoMemory);
         }
-        self.is_matched = true;
         let added = add_match(
             &self.subject,
             &mut self.progress,
+            &mut self.parting,
             alloc,
             completion,
             m,
@@ -258,10 +254,10 @@ impl<'a> Search<'a> {
         if self.failed {
             return Err(NoMemory);
         }
-        self.is_matched = true;
         let added = add_settled(
             &self.subject,
             &mut self.progress,
+            &mut self.parting,
             alloc,
             completion,
             m,
@@ -303,10 +299,10 @@ impl<'a> Search<'a> {
         if self.failed {
             return Err(NoMemory);
         }
-        self.is_matched = true;
         let demanded = demand_match(
             &self.subject,
             &mut self.progress,
+            &mut self.parting,
             alloc,
             completion,
             m,

@@ -16,6 +16,7 @@ ghost use Rattle.search_logs.specs.SearchLogs.{IsWithin};
 ghost use Rattle.order_search.specs.Kept.{AreLitsFor, AreRowsOf, IsMatchFor, vars_of};
 ghost use Rattle.order_search.specs.Parts.{AreParts, IsRowIn, parted_of};
 ghost use Rattle.order_search.specs.Searches.{IsWantedRow};
+ghost use Rattle.order_search.specs.Tied.{IsAnswerVar};
 ghost use Rattle.variable_parts.specs.Parts.{label_at, row_cell};
 
 use completion_build::{Built, rank};
@@ -91,6 +92,24 @@ impl<'a> Subject<'a> {
         ensures few { result < 2 ^ 31 }
     {
         self.numbering.vars()
+    }
+
+    /// How many answers are posed.
+    pub(crate) fn answers(&self) -> u32
+        ensures { result ≡ self.now.wanted.answers }
+    {
+        self.wanted.answers
+    }
+
+    /// The answer that the statement of a variable is on, if it is on one. Takes logarithmic time and no memory.
+    pub(crate) fn answer_of(&self, var: u32) -> Option<u32>
+        requires { var < length (vars_of self.now) }
+        ensures { IfSome result (λ answer. IsAnswerVar self.now answer var) }
+    {
+        match self.numbering.meaning_of(var) {
+            Statement::Answer { tuple } => Some(tuple),
+            Statement::Before { .. } | Statement::Top { .. } | Statement::Last { .. } => None,
+        }
     }
 
     /// The smallest closed parts, and the variables of each.

@@ -10,7 +10,7 @@ loop-place-preserved g c = record {
       c.loop-place.invariant.added
       c.bring_in.ensures.added;
   scope = c.bring_in.ensures.scope ∙ c.loop-place.invariant.scope;
-  plain = λ h. c.bring_in.ensures.plain (c.loop-place.invariant.plain h);
+  tied = λ p h. c.bring_in.ensures.tied p (c.loop-place.invariant.tied p h);
   units = c.bring_in.ensures.units ∙ c.loop-place.invariant.units;
   so_far = in_more c.args.subject.now c.args.cycles.now c.loop-place.place c.get-cycle.result.now c.args.progress.now.solver.steps
       c.args.progress.now.brought.items c.loop-place.progress.solver.steps c.loop-place.progress.brought.items
@@ -26,3 +26,6 @@ returns-clause-fewer g c =
     c.loop-place.progress.solver.steps c.loop-place.progress.brought.items
     (omega (arith, c.loop-place-test.false, c.len-place-end.ensures))
     c.loop-place.invariant.so_far
+
+pub returns-in-Err-clause-tied : goal.returns-in-Err-clause-tied
+returns-in-Err-clause-tied g c = λ p h. c.bring_in.ensures.tied p (c.loop-place.invariant.tied p h)

@@ -1,6 +1,7 @@
 use Rattle.std.proofs.Common.{◌≡◌}
 use Rattle.refutation_log.specs.Counted.{counted_steps}
-use Rattle.order_search.specs.Kept.{ArePlain, AreBroughtIn, HasAdded, IsHeld}
+use Rattle.order_search.specs.Kept.{AreBroughtIn, HasAdded, IsHeld}
+use Rattle.order_search.specs.Tied.{KeepsTied}
 use Rattle.order_search.proofs.bringing.bring_all.Given as goal
 
 abbrev pub invariant-loop-place : goal.invariant-loop-place
@@ -8,7 +9,7 @@ invariant-loop-place g l = record {
   held : IsHeld l.subject l.progress.solver l.progress.brought.items;
   added : HasAdded l.initial.progress.solver l.progress.solver;
   scope : l.progress.solver.trail.scope ≡ l.initial.progress.solver.trail.scope;
-  plain : ArePlain l.subject l.initial.progress.solver.steps → ArePlain l.subject l.progress.solver.steps;
+  tied : KeepsTied l.subject l.initial.progress.solver.steps l.progress.solver.steps;
   units : counted_steps l.progress.solver.steps ≡ counted_steps l.initial.progress.solver.steps;
   so_far : AreBroughtIn l.subject l.cycles l.place l.initial.progress.solver.steps l.initial.progress.brought.items
       l.progress.solver.steps l.progress.brought.items;

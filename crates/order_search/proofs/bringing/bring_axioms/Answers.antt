@@ -1,5 +1,5 @@
 use Rattle.order_search.proofs.Cycles.{marked_brings, marked_held, marked_later}
-use Rattle.order_search.proofs.Growing.{held_axioms, plain_axioms, same_units}
+use Rattle.order_search.proofs.Growing.{held_axioms, tied_axioms, same_units}
 use Rattle.order_search.proofs.bringing.bring_axioms.Goals as goal
 
 pub returns-in-Ok-clause-held : goal.returns-in-Ok-clause-held
@@ -36,10 +36,10 @@ pub returns-in-Err-clause-units : goal.returns-in-Err-clause-units
 returns-in-Err-clause-units g c = same_units c.args.subject.now c.args.progress.now.solver.steps
     c.add_list.new.solver.steps c.add_list.ensures.added
 
-pub returns-in-Ok-clause-plain : goal.returns-in-Ok-clause-plain
-returns-in-Ok-clause-plain g c = plain_axioms c.args.subject.now c.args.progress.now.solver.steps
+pub returns-in-Ok-clause-tied : goal.returns-in-Ok-clause-tied
+returns-in-Ok-clause-tied g c = tied_axioms c.args.subject.now c.args.progress.now.solver.steps
     c.add_list.new.solver.steps c.add_list.ensures.added
 
-pub returns-in-Err-clause-plain : goal.returns-in-Err-clause-plain
-returns-in-Err-clause-plain g c = plain_axioms c.args.subject.now c.args.progress.now.solver.steps
+pub returns-in-Err-clause-tied : goal.returns-in-Err-clause-tied
+returns-in-Err-clause-tied g c = tied_axioms c.args.subject.now c.args.progress.now.solver.steps
     c.add_list.new.solver.steps c.add_list.ensures.added

@@ -36,5 +36,5 @@ add_lasts-requires-clause-statements g c = c.bring_axioms.ensures.held.search.lo
 pub returns-in-Ok-clause-scope : goal.returns-in-Ok-clause-scope
 returns-in-Ok-clause-scope g c = c.add_lasts.ensures.scope ∙ c.bring_axioms.ensures.scope
 
-pub returns-in-Ok-clause-plain : goal.returns-in-Ok-clause-plain
-returns-in-Ok-clause-plain g c = λ plain. c.add_lasts.ensures.plain c.args.subject.now (c.bring_axioms.ensures.plain plain)
+pub returns-in-Ok-clause-tied : goal.returns-in-Ok-clause-tied
+returns-in-Ok-clause-tied g c = λ p h. c.add_lasts.ensures.tied c.args.subject.now p (c.bring_axioms.ensures.tied p h)

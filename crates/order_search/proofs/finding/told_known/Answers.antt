@@ -1,5 +1,5 @@
 use Rattle.std.proofs.Common.{Some, length}
-use Rattle.order_search.proofs.Growing.{held_grown, plain_grown}
+use Rattle.order_search.proofs.Growing.{held_grown, tied_grown}
 use Rattle.order_search.proofs.Models.{open_log}
 use Rattle.order_search.proofs.finding.told_known.Goals as goal
 
@@ -39,22 +39,22 @@ returns-in-Err-clause-held g c =
     c.args.progress.now.brought.items c.requires.held
     c.decide.ensures.frame c.decide.ensures.grown
 
-pub returns-in-Ok-Model-clause-plain : goal.returns-in-Ok-Model-clause-plain
-returns-in-Ok-Model-clause-plain g c = plain_grown c.args.subject.now (length c.args.progress.now.solver.frame.statements)
+pub returns-in-Ok-Model-clause-tied : goal.returns-in-Ok-Model-clause-tied
+returns-in-Ok-Model-clause-tied g c = tied_grown c.args.subject.now (length c.args.progress.now.solver.frame.statements)
     c.args.progress.now.solver.steps c.decide.new.self.steps c.decide.ensures.grown
 
-pub returns-in-Ok-Proved-clause-plain : goal.returns-in-Ok-Proved-clause-plain
-returns-in-Ok-Proved-clause-plain g c = plain_grown c.args.subject.now (length c.args.progress.now.solver.frame.statements)
+pub returns-in-Ok-Proved-clause-tied : goal.returns-in-Ok-Proved-clause-tied
+returns-in-Ok-Proved-clause-tied g c = tied_grown c.args.subject.now (length c.args.progress.now.solver.frame.statements)
     c.args.progress.now.solver.steps c.decide.new.self.steps c.decide.ensures.grown
 
-pub returns-in-Ok-Empty-clause-plain : goal.returns-in-Ok-Empty-clause-plain
-returns-in-Ok-Empty-clause-plain g c = plain_grown c.args.subject.now (length c.args.progress.now.solver.frame.statements)
+pub returns-in-Ok-Empty-clause-tied : goal.returns-in-Ok-Empty-clause-tied
+returns-in-Ok-Empty-clause-tied g c = tied_grown c.args.subject.now (length c.args.progress.now.solver.frame.statements)
     c.args.progress.now.solver.steps c.decide.new.self.steps c.decide.ensures.grown
 
-pub returns-in-Ok-Spent-clause-plain : goal.returns-in-Ok-Spent-clause-plain
-returns-in-Ok-Spent-clause-plain g c = plain_grown c.args.subject.now (length c.args.progress.now.solver.frame.statements)
+pub returns-in-Ok-Spent-clause-tied : goal.returns-in-Ok-Spent-clause-tied
+returns-in-Ok-Spent-clause-tied g c = tied_grown c.args.subject.now (length c.args.progress.now.solver.frame.statements)
     c.args.progress.now.solver.steps c.decide.new.self.steps c.decide.ensures.grown
 
-pub returns-in-Err-clause-plain : goal.returns-in-Err-clause-plain
-returns-in-Err-clause-plain g c = plain_grown c.args.subject.now (length c.args.progress.now.solver.frame.statements)
+pub returns-in-Err-clause-tied : goal.returns-in-Err-clause-tied
+returns-in-Err-clause-tied g c = tied_grown c.args.subject.now (length c.args.progress.now.solver.frame.statements)
     c.args.progress.now.solver.steps c.decide.new.self.steps c.decide.ensures.grown

@@ -3,7 +3,7 @@ use Rattle.refutation_log.specs.Steps.{clauses_of, step_of}
 use Rattle.search_state.specs.States.{Frame}
 use Rattle.order_search.specs.Lasting.{IsNextStep}
 use Rattle.order_search.proofs.Growing.{added_then, take_one}
-use Rattle.order_search.proofs.Lasts.{keeps_then, next_step, plain_then}
+use Rattle.order_search.proofs.Lasts.{keeps_then, next_step, tied_then}
 use Rattle.order_search.proofs.lasting.put_all.Goals as goal
 
 pub put-requires : goal.put-requires
@@ -25,7 +25,7 @@ loop-place-preserved g c =
     record {
       keeps = keeps_then old now new c.args.steps.now c.loop-place.place (step_of c.get.result) c.get.ensures were.keeps
           c.put.ensures.keeps;
-      plain = plain_then old now new were.plain c.put.ensures.plain;
+      tied = tied_then old now new were.tied c.put.ensures.tied;
       scope = c.put.ensures.scope ∙ were.scope;
       added = added_then old now new were.added c.put.ensures.added;
       units = c.put.ensures.units ∙ were.units;
@@ -33,9 +33,9 @@ loop-place-preserved g c =
           c.in-Ok.ensures.ok c.get.ensures;
     }
 
-pub returns-in-Err-clause-plain : goal.returns-in-Err-clause-plain
-returns-in-Err-clause-plain g c =
-    plain_then c.args.solver.now c.loop-place.solver c.put.new.solver c.loop-place.invariant.plain c.put.ensures.plain
+pub returns-in-Err-clause-tied : goal.returns-in-Err-clause-tied
+returns-in-Err-clause-tied g c =
+    tied_then c.args.solver.now c.loop-place.solver c.put.new.solver c.loop-place.invariant.tied c.put.ensures.tied
 
 pub returns-in-Err-clause-keeps : goal.returns-in-Err-clause-keeps
 returns-in-Err-clause-keeps g c =

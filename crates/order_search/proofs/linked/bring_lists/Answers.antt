@@ -8,6 +8,9 @@ loop-place-preserved g c = record {
   added = added_then c.args.progress.now.solver c.loop-place.progress.solver c.bring_list.new.progress.solver
       c.loop-place.invariant.added
       c.bring_list.ensures.added;
-  plain = λ h. c.bring_list.ensures.plain (c.loop-place.invariant.plain h);
+  tied = λ p h. c.bring_list.ensures.tied p (c.loop-place.invariant.tied p h);
   units = c.bring_list.ensures.units ∙ c.loop-place.invariant.units;
 }
+
+pub returns-in-Err-clause-tied : goal.returns-in-Err-clause-tied
+returns-in-Err-clause-tied g c = λ p h. c.bring_list.ensures.tied p (c.loop-place.invariant.tied p h)

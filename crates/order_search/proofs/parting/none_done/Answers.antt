@@ -1,10 +1,14 @@
-use Rattle.std.proofs.Common.{arith, subst}
-use Rattle.known_models.specs.Known.{IsKnown, PartedSpec}
+use Rattle.std.proofs.Common.{◌∙◌, ℕ, ap, replicate}
+use Rattle.order_search.specs.declared.parting.Tie.TheVariants as tie
+use Rattle.order_search.proofs.TiedSteps.{none_members}
 use Rattle.order_search.proofs.parting.none_done.Goals as goal
 
-pub returns-in-Ok-new : goal.returns-in-Ok-new
-returns-in-Ok-new c = record {
-  parts = c.in-Ok.ensures;
-  few = omega (arith, c.if-count-gt4294967295.false, c.count.ensures.value);
-  known = subst (λ (p : PartedSpec). IsKnown p c.in-Ok-new.known) c.parted.ensures c.in-Ok-new.ensures.known;
-}
+pub returns-clause-members : goal.returns-clause-members
+returns-clause-members c =
+    none_members c.args.subject.now (record {
+      parts = c.in_ok-parts.parts;
+      known = c.in_ok-known.known;
+      members = c.in_ok-members.members;
+      ties = c.in_ok-ties.ties;
+    }) c.count-2.result c.in_ok-members.ensures c.count-2.ensures.value
+    (c.in_ok-ties.ensures ∙ ap (λ (n : ℕ). replicate n tie.Loose) c.answers.ensures)

@@ -3,16 +3,15 @@ use Rattle.std.proofs.lemmas.Option.{IfSome_then}
 use Rattle.variable_parts.specs.Parts.{Parted}
 use Rattle.order_search.specs.Kept.{search_of}
 use Rattle.order_search.proofs.Growing.{added_then, same_added}
-use Rattle.order_search.proofs.PartMade.{all_done, done_more, done_none, ends_tell}
+use Rattle.order_search.proofs.PartMade.{all_done, done_more, done_none, ends_tell, same_itself, same_then}
 use Rattle.order_search.proofs.partwise.decided_in_parts.Goals as goal
 
 pub loop-part-init : goal.loop-part-init
 loop-part-init g c = record {
   held = c.requires.held;
   added = same_added c.args.progress.now.solver c.args.progress.now.solver refl refl;
-  plain = c.requires.plain;
-  parting = c.requires.parting;
-  parts = refl;
+  tied = c.requires.tied;
+  same = same_itself c.args.parting.now;
   units = refl;
   goal_false = c.requires.goal;
   own_done = c.requires.own;
@@ -25,7 +24,7 @@ decide_left-requires-clause-part g c =
       arith,
       c.loop-part-test.true,
       c.count-count.ensures.value,
-      ap (λ (p : Parted). length p.parts) c.loop-part.invariant.parts,
+      ap (λ (p : Parted). length p.parts) c.loop-part.invariant.same.parts,
     )
 
 pub loop-part-preserved : goal.loop-part-preserved
@@ -33,9 +32,9 @@ loop-part-preserved g c = record {
   held = c.decide_left.ensures.held;
   added = added_then c.args.progress.now.solver c.loop-part.progress.solver c.decide_left.new.progress.solver
       c.loop-part.invariant.added c.decide_left.ensures.added;
-  plain = c.decide_left.ensures.plain;
-  parting = c.decide_left.ensures.parting;
-  parts = c.decide_left.ensures.parts ∙ c.loop-part.invariant.parts;
+  tied = c.decide_left.ensures.tied;
+  same = same_then c.args.parting.now c.loop-part.parting c.decide_left.new.parting c.loop-part.invariant.same
+      c.decide_left.ensures.same;
   units = c.decide_left.ensures.units ∙ c.loop-part.invariant.units;
   goal_false = c.decide_left.ensures.goal;
   own_done = IfSome_then c.args.own c.loop-part.invariant.own_done (λ part is. c.decide_left.ensures.kept part is);
@@ -61,13 +60,12 @@ returns-in-Err-clause-added g c =
 
 pub told-requires-clause-whole : goal.told-requires-clause-whole
 told-requires-clause-whole g c =
-    all_done c.args.subject.now c.loop-part.parting.parts c.loop-part.parting.known c.loop-part.part
-    c.loop-part.invariant.parting
+    all_done c.args.subject.now c.loop-part.parting c.loop-part.part c.loop-part.invariant.tied.parting
     (omega (
       arith,
       c.loop-part-test.false,
       c.count-count.ensures.value,
-      ap (λ (p : Parted). length p.parts) c.loop-part.invariant.parts,
+      ap (λ (p : Parted). length p.parts) c.loop-part.invariant.same.parts,
     ))
     c.loop-part.invariant.done
 

@@ -1,28 +1,26 @@
-use Rattle.std.proofs.Common.{Some, refl, subst, sym}
+use Rattle.std.proofs.Common.{Some, refl, arith}
 use Rattle.currency_base.specs.Literals.{var_of}
-use Rattle.variable_parts.specs.Parts.{Parted}
 use Rattle.order_search.specs.Kept.{search_of}
-use Rattle.order_search.specs.Parts.{IsFalseIn, parted_of}
 use Rattle.order_search.proofs.Growing.{added_then}
 use Rattle.order_search.proofs.PartMade.{ends_tell, made_done}
-use Rattle.order_search.proofs.PartNumbers.{part_there}
+use Rattle.order_search.proofs.TiedSteps.{scope_there}
 use Rattle.order_search.proofs.partwise.decided_with.Goals as goal
 
 pub decide_part-requires-clause-part : goal.decide_part-requires-clause-part
-decide_part-requires-clause-part g c = part_there c.args.parting.now.parts.parts c.args.part (var_of c.args.goal) c.requires.part
+decide_part-requires-clause-part g c =
+    scope_there c.args.subject.now c.args.parting.now c.requires.tied.members c.args.part (var_of c.args.goal) c.requires.part
 
 pub decided_beside-requires-clause-done : goal.decided_beside-requires-clause-done
 decided_beside-requires-clause-done g c =
-    made_done c.args.subject.now c.args.parting.now.parts c.args.part (Some c.args.goal) c.args.parting.now.known
-    c.decide_part.new.parting.known c.requires.parting
-    (part_there c.args.parting.now.parts.parts c.args.part (var_of c.args.goal) c.requires.part)
-    (rw c.in-Ok-None.field-0-is at c.in-Ok-None.ensures.made)
+    let there = scope_there c.args.subject.now c.args.parting.now c.requires.tied.members c.args.part (var_of c.args.goal)
+    c.requires.part in
+    made_done c.args.part (Some c.args.goal) c.args.parting.now c.decide_part.new.parting
+    (omega (arith, there, c.requires.tied.parting.known.per_part)) (rw c.in-Ok-None.field-0-is at c.in-Ok-None.ensures.made)
 
 pub decided_beside-requires-clause-goal : goal.decided_beside-requires-clause-goal
 decided_beside-requires-clause-goal g c =
     let made = rw c.in-Ok-None.field-0-is at c.in-Ok-None.ensures.made in
-    subst (λ (p : Parted). IsFalseIn (parted_of c.args.subject.now p) c.decide_part.new.parting.known (Some c.args.part)
-    c.args.goal) (sym c.decide_part.ensures.parts) (made.goal_false c.args.goal refl)
+    made.goal_false c.args.goal refl
 
 pub returns-in-Ok-None-clause-added : goal.returns-in-Ok-None-clause-added
 returns-in-Ok-None-clause-added g c =

@@ -1,13 +1,13 @@
 use Rattle.std.proofs.Common.{◌∙◌, length, refl}
-use Rattle.order_search.proofs.Growing.{held_grown, plain_grown}
+use Rattle.order_search.proofs.Growing.{held_grown, tied_grown, tied_with}
 use Rattle.order_search.proofs.Models.{open_log}
 use Rattle.order_search.proofs.PartNumbers.{goal_within}
 use Rattle.order_search.proofs.partwise.one_round.Goals as goal
 
 pub decide-requires : goal.decide-requires
 decide-requires g c =
-    goal_within c.args.subject.now c.args.parts.now c.args.part c.args.goal c.args.progress.now.solver.frame.statements
-    c.requires.parting.parts c.requires.held.search.log.statements c.requires.goal
+    goal_within c.args.subject.now c.args.parting.now c.args.part c.args.goal c.args.progress.now.solver.frame.statements
+    c.requires.tied.parting.parts c.requires.tied.members c.requires.held.search.log.statements c.requires.goal
 
 pub take_values-requires-clause-held : goal.take_values-requires-clause-held
 take_values-requires-clause-held g c =
@@ -18,10 +18,11 @@ take_values-requires-clause-held g c =
 pub take_values-requires-clause-scope : goal.take_values-requires-clause-scope
 take_values-requires-clause-scope g c = c.decide.ensures.scope ∙ c.requires.scope
 
-pub returns-in-Ok-Model-clause-plain : goal.returns-in-Ok-Model-clause-plain
-returns-in-Ok-Model-clause-plain g c = λ h.
-    c.take_values.ensures.plain (plain_grown c.args.subject.now (length c.args.progress.now.solver.frame.statements)
-    c.args.progress.now.solver.steps c.decide.new.self.steps c.decide.ensures.grown h)
+pub take_values-requires-clause-tied : goal.take_values-requires-clause-tied
+take_values-requires-clause-tied g c =
+    tied_with c.args.subject.now c.args.parting.now c.args.progress.now.solver.steps c.decide.new.self.steps c.requires.tied
+    (tied_grown c.args.subject.now (length c.args.progress.now.solver.frame.statements)
+    c.args.progress.now.solver.steps c.decide.new.self.steps c.decide.ensures.grown)
 
 pub returns-in-Ok-Model-clause-comes : goal.returns-in-Ok-Model-clause-comes
 returns-in-Ok-Model-clause-comes g c = c.take_values.ensures.comes c.decide.new.budget
@@ -32,9 +33,11 @@ returns-in-Ok-Proved-clause-held g c =
     c.args.progress.now.brought.items c.requires.held
     c.decide.ensures.frame c.decide.ensures.grown
 
-pub returns-in-Ok-Proved-clause-plain : goal.returns-in-Ok-Proved-clause-plain
-returns-in-Ok-Proved-clause-plain g c = plain_grown c.args.subject.now (length c.args.progress.now.solver.frame.statements)
-    c.args.progress.now.solver.steps c.decide.new.self.steps c.decide.ensures.grown
+pub returns-in-Ok-Proved-clause-tied : goal.returns-in-Ok-Proved-clause-tied
+returns-in-Ok-Proved-clause-tied g c =
+    tied_with c.args.subject.now c.args.parting.now c.args.progress.now.solver.steps c.decide.new.self.steps c.requires.tied
+    (tied_grown c.args.subject.now (length c.args.progress.now.solver.frame.statements)
+    c.args.progress.now.solver.steps c.decide.new.self.steps c.decide.ensures.grown)
 
 pub returns-in-Ok-Proved-clause-comes : goal.returns-in-Ok-Proved-clause-comes
 returns-in-Ok-Proved-clause-comes g c = (refl, rw c.in-Ok-Proved.field-0-is at c.in-Ok-Proved.ensures.found)
@@ -45,9 +48,11 @@ returns-in-Ok-Empty-clause-held g c =
     c.args.progress.now.brought.items c.requires.held
     c.decide.ensures.frame c.decide.ensures.grown
 
-pub returns-in-Ok-Empty-clause-plain : goal.returns-in-Ok-Empty-clause-plain
-returns-in-Ok-Empty-clause-plain g c = plain_grown c.args.subject.now (length c.args.progress.now.solver.frame.statements)
-    c.args.progress.now.solver.steps c.decide.new.self.steps c.decide.ensures.grown
+pub returns-in-Ok-Empty-clause-tied : goal.returns-in-Ok-Empty-clause-tied
+returns-in-Ok-Empty-clause-tied g c =
+    tied_with c.args.subject.now c.args.parting.now c.args.progress.now.solver.steps c.decide.new.self.steps c.requires.tied
+    (tied_grown c.args.subject.now (length c.args.progress.now.solver.frame.statements)
+    c.args.progress.now.solver.steps c.decide.new.self.steps c.decide.ensures.grown)
 
 pub returns-in-Ok-Empty-clause-comes : goal.returns-in-Ok-Empty-clause-comes
 returns-in-Ok-Empty-clause-comes g c = (refl, rw c.in-Ok-Empty.field-0-is at c.in-Ok-Empty.ensures.found)
@@ -58,9 +63,11 @@ returns-in-Ok-Spent-clause-held g c =
     c.args.progress.now.brought.items c.requires.held
     c.decide.ensures.frame c.decide.ensures.grown
 
-pub returns-in-Ok-Spent-clause-plain : goal.returns-in-Ok-Spent-clause-plain
-returns-in-Ok-Spent-clause-plain g c = plain_grown c.args.subject.now (length c.args.progress.now.solver.frame.statements)
-    c.args.progress.now.solver.steps c.decide.new.self.steps c.decide.ensures.grown
+pub returns-in-Ok-Spent-clause-tied : goal.returns-in-Ok-Spent-clause-tied
+returns-in-Ok-Spent-clause-tied g c =
+    tied_with c.args.subject.now c.args.parting.now c.args.progress.now.solver.steps c.decide.new.self.steps c.requires.tied
+    (tied_grown c.args.subject.now (length c.args.progress.now.solver.frame.statements)
+    c.args.progress.now.solver.steps c.decide.new.self.steps c.decide.ensures.grown)
 
 pub returns-in-Ok-Spent-clause-comes : goal.returns-in-Ok-Spent-clause-comes
 returns-in-Ok-Spent-clause-comes g c =
@@ -76,6 +83,8 @@ returns-in-Err-clause-held g c =
     c.args.progress.now.brought.items c.requires.held
     c.decide.ensures.frame c.decide.ensures.grown
 
-pub returns-in-Err-clause-plain : goal.returns-in-Err-clause-plain
-returns-in-Err-clause-plain g c = plain_grown c.args.subject.now (length c.args.progress.now.solver.frame.statements)
-    c.args.progress.now.solver.steps c.decide.new.self.steps c.decide.ensures.grown
+pub returns-in-Err-clause-tied : goal.returns-in-Err-clause-tied
+returns-in-Err-clause-tied g c =
+    tied_with c.args.subject.now c.args.parting.now c.args.progress.now.solver.steps c.decide.new.self.steps c.requires.tied
+    (tied_grown c.args.subject.now (length c.args.progress.now.solver.frame.statements)
+    c.args.progress.now.solver.steps c.decide.new.self.steps c.decide.ensures.grown)

@@ -9,6 +9,12 @@ loop-outcome-preserved g c =
       scope = c.round.ensures.scope ∙ c.loop-outcome.invariant.scope;
       added = added_then c.args.progress.now.solver c.loop-outcome.progress.solver c.round.new.progress.solver
           c.loop-outcome.invariant.added c.round.ensures.added;
-      plain = λ plain. c.round.ensures.plain (c.loop-outcome.invariant.plain plain);
+      tied = λ p h. c.round.ensures.tied p (c.loop-outcome.invariant.tied p h);
       units = c.round.ensures.units ∙ c.loop-outcome.invariant.units;
     }
+
+pub returns-in-Ok-Some-clause-tied : goal.returns-in-Ok-Some-clause-tied
+returns-in-Ok-Some-clause-tied g c = λ p h. c.round.ensures.tied p (c.loop-outcome.invariant.tied p h)
+
+pub returns-in-Err-clause-tied : goal.returns-in-Err-clause-tied
+returns-in-Err-clause-tied g c = λ p h. c.round.ensures.tied p (c.loop-outcome.invariant.tied p h)
