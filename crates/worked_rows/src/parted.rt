@@ -98,6 +98,56 @@ completion;
 ...
 >> verify s q p => 0 accepted answers
 
+== answers of one part, and of several
+:: what is current of p follows by cases, and u and w are free
+-- s
+relation R from "r.csv" row id entity eid (x: int, a: int, c: int, b: int);
+rule rises on R (s, t): if s.x < t.x then s before t in x;
+rule r1 on R (s, t): if s.x < t.x and s before t in a and s before t in c then s before t in b;
+rule r2 on R (s, t): if s.x < t.x and s before t in a and t before s in c then s before t in b;
+rule r3 on R (s, t): if s.x < t.x and t before s in a and s before t in c then s before t in b;
+rule r4 on R (s, t): if s.x < t.x and t before s in a and t before s in c then s before t in b;
+-- r.csv
+id,eid,x,a,c,b
+p1,p,1,0,0,1
+p2,p,2,0,0,2
+q1,q,1,0,0,1
+u1,u,1,0,0,5
+u2,u,1,0,0,6
+w1,w,1,0,0,5
+w2,w,1,0,0,6
+-- q: answers (e, v) where R(e, _, _, _, v);
+>> ask s q
+0 currency report 2;
+verdict answers;
+answer ("p", 2);
+answer ("q", 1);
+completion;
+...
+>> verify s q p => 0 accepted answers
+:: the matches of a value lie in several parts
+-- q: answers (v) where R(_, _, _, _, v);
+>> ask s q
+0 currency report 2;
+verdict answers;
+answer (1);
+answer (2);
+completion;
+...
+>> verify s q p => 0 accepted answers
+:: two matches in one part, of which one holds in each completion
+-- q: answers (e, f) where R(e, _, _, _, v) and R(f, _, _, _, v);
+>> ask s q
+0 currency report 2;
+verdict answers;
+answer ("p", "p");
+answer ("q", "q");
+answer ("u", "u");
+answer ("w", "w");
+completion;
+...
+>> verify s q p => 0 accepted answers
+
 == a copy ties all, and a part has one row
 -- s
 relation R from "r.csv" row id entity eid (a: int);
