@@ -362,6 +362,7 @@ def measure_sizes(above):
 # per row of the smallest, seconds, and bytes of text an entity
 FAMILIES = {
     "ask consistent, rules on three rows": (families.write_three, b"consistent", 2, None, None),
+    "ask answers, rules on three rows": (families.write_answers_three, b"answers", 2, None, None),
     "ask consistent, a chain of copies in two ways": (families.write_chain, b"consistent", 4, None, None),
     "ask same, 26 attributes": (families.write_attributes, b"same", None, 60, None),
     "ask same, free rows of one value": (families.write_same_city, b"same", 4, 60, None),

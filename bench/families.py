@@ -59,6 +59,18 @@ def write_three(folder, rows):
     )
 
 
+def write_answers_three(folder, rows):
+    """The same entities, whose rows are numbered: which number is current of each entity."""
+    (folder / "s").write_text(THREE)
+    (folder / "q").write_text("answers (e, v) where R(e, v, _, _);\n")
+    entities = enumerate(entities_of_three(rows // ENTITY))
+    table(
+        folder / "r.csv",
+        "id,eid,a,b,d",
+        (f"r{e}_{r},e{e},{r},{b},{d}" for e, values in entities for r, (b, d) in enumerate(values)),
+    )
+
+
 def clauses_of_three(rows):
     """The same for an outside solver: how many variables, and the clauses, with the axioms on three rows of the attribute that rules name."""
     numbers, clauses = {}, []
