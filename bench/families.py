@@ -47,28 +47,26 @@ def entities_of_three(count):
     return [made[entity % len(made)] for entity in range(count)]
 
 
-def write_three(folder, rows):
-    """Entities of 8 rows under three rules on three rows each."""
+def write_under_three(folder, rows, question, value):
+    """Entities of 8 rows under three rules on three rows each, with a question; `value` says what a row has where the rules order it."""
     (folder / "s").write_text(THREE)
-    (folder / "q").write_text("consistent;\n")
+    (folder / "q").write_text(question)
     entities = enumerate(entities_of_three(rows // ENTITY))
     table(
         folder / "r.csv",
         "id,eid,a,b,d",
-        (f"r{e}_{r},e{e},0,{b},{d}" for e, values in entities for r, (b, d) in enumerate(values)),
+        (f"r{e}_{r},e{e},{value(r)},{b},{d}" for e, values in entities for r, (b, d) in enumerate(values)),
     )
+
+
+def write_three(folder, rows):
+    """Whether they have a consistent completion; all rows have one value where the rules order them."""
+    write_under_three(folder, rows, "consistent;\n", lambda row: 0)
 
 
 def write_answers_three(folder, rows):
-    """The same entities, whose rows are numbered: which number is current of each entity."""
-    (folder / "s").write_text(THREE)
-    (folder / "q").write_text("answers (e, v) where R(e, v, _, _);\n")
-    entities = enumerate(entities_of_three(rows // ENTITY))
-    table(
-        folder / "r.csv",
-        "id,eid,a,b,d",
-        (f"r{e}_{r},e{e},{r},{b},{d}" for e, values in entities for r, (b, d) in enumerate(values)),
-    )
+    """Which row's number is current of each entity."""
+    write_under_three(folder, rows, "answers (e, v) where R(e, v, _, _);\n", lambda row: row)
 
 
 def clauses_of_three(rows):
